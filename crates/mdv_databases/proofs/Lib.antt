@@ -6,3 +6,4 @@ pub mod Lasting
 pub mod Creating
 pub mod Telling
 pub mod Nothing
+pub mod Meeting

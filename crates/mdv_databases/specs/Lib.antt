@@ -6,3 +6,4 @@ pub mod Committing
 pub mod Booting
 pub mod Creating
 pub mod Telling
+pub mod Meeting

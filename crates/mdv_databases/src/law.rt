@@ -2,6 +2,7 @@ ghost use Rattle.mdv_databases.specs.Booting.{BootsGo};
 ghost use Rattle.mdv_databases.specs.Committing.{CommitsGo};
 ghost use Rattle.mdv_databases.specs.Creating.{CreationsGo};
 ghost use Rattle.mdv_databases.specs.Lasting.{DatabasesLast};
+ghost use Rattle.mdv_databases.specs.Meeting.{DatabasesMeet};
 ghost use Rattle.mdv_databases.specs.Telling.{TellsGo};
 
 /// What a crash leaves of drives that stand with all databases does; drives without a replica stand with none; and what is done outside the slices on
@@ -29,4 +30,10 @@ pub fn creations_go()
 /// every change that was told.
 pub fn tells_go()
     ensures { TellsGo }
+{}
+
+/// Once a write of the key's current database was answered, and each table that a boot may find lists these places, a replica that shows a table is found on
+/// any drives with more than half of them.
+pub fn databases_meet()
+    ensures { DatabasesMeet }
 {}

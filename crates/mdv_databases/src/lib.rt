@@ -4,4 +4,4 @@
 
 mod law;
 
-pub use law::{boots_go, commits_go, creations_go, databases_last, tells_go};
+pub use law::{boots_go, commits_go, creations_go, databases_last, databases_meet, tells_go};

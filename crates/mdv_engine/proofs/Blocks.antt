@@ -1,7 +1,7 @@
 -- What a read and a write of a volume's blocks come to.
 use Rattle.mdv_engine_law.specs.Line.{Ask, ToDo}
-use Rattle.std.proofs.Common.{◌≡◌, inl, inr, ◌+◌, ℕ, List, [], ◌∷◌, Option, Some, None, Err, refl, sym, ap, ◌∙◌, subst, arith}
-use Rattle.mdv_engine.specs.Below.{Failures, AreCalm, DriveBlock, FailedOn, Outcomes, VolId, Refusal, IoFault, Moments, Ends, IsSettled, Settling, Tale, Read, Write, Wrote, Host, key_of, IsReady, Memory, AreBlocksAt, CameTo, kept_at, IsPlain, CarriedTo, CarryMoment, Knows}
+use Rattle.std.proofs.Common.{◌≡◌, inl, inr, ◌+◌, ℕ, List, [], ◌∷◌, Option, Some, None, IfSome, Err, refl, sym, ap, ◌∙◌, subst, arith}
+use Rattle.mdv_engine.specs.Below.{AreCalm, IsOfGeometry, Opened, DriveBlock, FailedOn, Outcomes, VolId, Refusal, IoFault, Moments, Ends, IsSettled, Settling, Tale, Read, Write, Wrote, Host, key_of, IsReady, Memory, AreBlocksAt, CameTo, kept_at, IsPlain, CarriedTo, CarryMoment, Knows}
 use Rattle.mdv_engine.proofs.Judged.{blocks_judged, judged_said, read_judged}
 use Rattle.mdv_shelf.proofs.Moments.{moments_end, moments_none, moments_weaker, ends_both}
 use Rattle.mdv_engine_law.specs.Commands as came
@@ -10,8 +10,9 @@ use Rattle.mdv_engine_law.specs.Refusals.{blocks_refusal, held_of_blocks}
 use Rattle.mdv_base.specs.Order.{order}
 use Rattle.mdv_base.proofs.Order.{first_holds}
 use Rattle.mdv_engine_law.specs.Answers.{accepted, refusing}
-use Rattle.mdv_engine_law.specs.Replies.{HasAnswerCause}
+use Rattle.mdv_engine_law.specs.Replies.{Blame, HasAnswerCause}
 use Rattle.mdv_engine_law.proofs.Keeping.{are_put, may_be_put}
+use Rattle.mdv_engine_law.proofs.Knowing.{some_more}
 use Rattle.mdv_engine_law.proofs.Plain.{blocks_plain, fault_plain, memory_plain, refusal_plain}
 use Rattle.mdv_engine_law.proofs.Staying.{stays_in_volume}
 use Rattle.mdv_engine_law.proofs.Transfer.{writing_moment, wrote_blocks, wrote_some}
@@ -20,7 +21,7 @@ use Rattle.mdv_shelf.specs.Shelves.{DriveFailures}
 use Rattle.mdv_shelf.specs.declared.shelf.Shelf.{Ghosts}
 use Rattle.mdv_engine.specs.declared.engine.Engine.{Engine}
 use Rattle.mdv_engine.specs.Ends.{AreTorn, AreWritten}
-use Rattle.mdv_engine.specs.Engine.{FailedBlocks, HasBlocksCause, HasReadCause, IsWell}
+use Rattle.mdv_engine.specs.Engine.{FailedBlocks, HasBlocksCause, HasReadCause, IsHeldBy, IsWell}
 
 -- a line that left all as it was
 module _ (host : Host) (ask : Ask) (memory : Memory) (a b : Option Tale) (same : b ≡ a) where
@@ -51,17 +52,17 @@ module _ (host : Host) (memory : Memory) (volume : VolId) (at count : ℕ) where
   unwritten_plain calls r (inr (of, free, fault)) = subst IsPlain (sym fault) fault_plain
 
   -- a call on the blocks' drive excuses either, and no other
-  abbrev pub of_blocks : Outcomes → Failures
-  of_blocks calls = record { some = FailedBlocks calls host memory volume at count; none = AreCalm calls }
+  abbrev pub of_blocks : Outcomes → Blame
+  of_blocks calls = record { done = AreCalm calls; none = AreCalm calls; some = FailedBlocks calls host memory volume at count; lost = λ active listed. ⊥ }
 
-  pub unwritten_cause : (calls : Outcomes) (lost spends : Type 0) (r : Refusal) → HasBlocksCause calls host memory volume at count r → HasAnswerCause (of_blocks calls) lost spends (refusing r)
-  unwritten_cause calls lost spends r (inl is) = judged_said (of_blocks calls) lost spends r (blocks_judged memory.opened volume (at + count) r is.1) is.0
-  unwritten_cause calls lost spends r (inr (of, free, fault)) = subst (λ (x : Refusal). HasAnswerCause (of_blocks calls) lost spends (refusing x)) (sym fault) of
+  pub unwritten_cause : (calls : Outcomes) (spends : Type 0) (r : Refusal) → HasBlocksCause calls host memory volume at count r → HasAnswerCause (of_blocks calls) spends (refusing r)
+  unwritten_cause calls spends r (inl is) = judged_said (of_blocks calls) spends r (blocks_judged memory.opened volume (at + count) r is.1) is.0
+  unwritten_cause calls spends r (inr (of, free, fault)) = subst (λ (x : Refusal). HasAnswerCause (of_blocks calls) spends (refusing x)) (sym fault) of
 
-  pub unread_cause : (calls : Outcomes) (lost spends : Type 0) (r : Refusal) → HasReadCause calls host memory volume at count r → HasAnswerCause (of_blocks calls) lost spends (refusing r)
-  unread_cause calls lost spends r (inl is) = judged_said (of_blocks calls) lost spends r (read_judged memory.opened volume at count r is.1) is.0
-  unread_cause calls lost spends r (inr (inl (of, free, fault))) = subst (λ (x : Refusal). HasAnswerCause (of_blocks calls) lost spends (refusing x)) (sym fault) of
-  unread_cause calls lost spends r (inr (inr (calm, free, want))) = subst (λ (x : Refusal). HasAnswerCause (of_blocks calls) lost spends (refusing x)) (sym want) calm
+  pub unread_cause : (calls : Outcomes) (spends : Type 0) (r : Refusal) → HasReadCause calls host memory volume at count r → HasAnswerCause (of_blocks calls) spends (refusing r)
+  unread_cause calls spends r (inl is) = judged_said (of_blocks calls) spends r (read_judged memory.opened volume at count r is.1) is.0
+  unread_cause calls spends r (inr (inl (of, free, fault))) = subst (λ (x : Refusal). HasAnswerCause (of_blocks calls) spends (refusing x)) (sym fault) of
+  unread_cause calls spends r (inr (inr (calm, free, want))) = subst (λ (x : Refusal). HasAnswerCause (of_blocks calls) spends (refusing x)) (sym want) calm
 
 -- of one block that was written some
 pub torn_of : {S : Type 0} (shelf : Ghosts S) (old new : S) (engine : Engine) (volume : VolId) (at : ℕ) (value : List ℕ) (r : Refusal) → AreWritten shelf old new engine volume at (value ∷ []) (Err r) → r ≡ IoFault
@@ -75,9 +76,12 @@ module _ (host : Host) (sizes : List ℕ) (ready : IsReady host sizes) (memory :
   abbrev wrote : Ask
   wrote = ToDo (Wrote (key_of host) volume at (value ∷ []))
 
+  listed : IfSome memory.opened (λ o. IsOfGeometry host.drives o.table)
+  listed = some_more memory.opened (IsHeldBy host) (λ (o : Opened). IsOfGeometry host.drives o.table) (λ o held. held.of_geometry) well.database
+
   module _ (place : DriveBlock) (there : AreBlocksAt host memory volume at 1 place) (free : blocks_refusal memory.opened volume (at + 1) ≡ None) (settling : Moments (Settling place.drive place.block (value ∷ [])) a b) where
     pub write_moments : Moments (CarryMoment host wrote memory) a b
-    write_moments = moments_weaker (Settling place.drive place.block (value ∷ [])) (CarryMoment host wrote memory) a b (λ t m s. writing_moment host sizes ready memory volume at place (value ∷ []) (omega arith) there t m s (stays_in_volume host sizes ready memory volume at 1 place (omega arith) there well.table t m s.outside)) settling
+    write_moments = moments_weaker (Settling place.drive place.block (value ∷ [])) (CarryMoment host wrote memory) a b (λ t m s. writing_moment host sizes ready memory volume at place (value ∷ []) (omega arith) there t m s (stays_in_volume host sizes ready memory volume at 1 place (omega arith) there listed t m s.outside)) settling
 
     -- it is on the disk
     module _ (settled : Ends (λ t u. IsSettled place.drive place.block (value ∷ []) u) a b) where
@@ -86,7 +90,7 @@ module _ (host : Host) (sizes : List ℕ) (ready : IsReady host sizes) (memory :
 
       pub written_line : (calls : Outcomes) → AreCalm calls → Ends (λ t u. Knows host memory t → CameTo calls host (kept_at memory t) (Write volume at value) accepted (kept_at memory u)) a b
       written_line calls calm t start =
-          (let end = both t start in (end.0, end.1, λ known. came.done calm free (place, there, refl, refl, are_put t end.0 place (value ∷ []) end.2.0 end.2.1)))
+          (let end = both t start in (end.0, end.1, λ known. came.done free (calm, place, there, refl, refl, are_put t end.0 place (value ∷ []) end.2.0 end.2.1)))
 
       pub written_carried : Ends (CarriedTo host wrote memory accepted memory) a b
       written_carried t start = (let end = both t start in (end.0, end.1, wrote_blocks host sizes ready memory volume at place (value ∷ []) (omega arith) there t end.0 end.2.0 end.2.1))

@@ -1,291 +1,421 @@
 -- What a boot of the host's database comes to and leaves, told of the host.
-use Rattle.std.proofs.Common.{◌≡◌, ◌≢◌, ◌⊎◌, inl, inr, ℕ, Bool, true, false, List, Option, None, Some, IfSome, Contains, refl, sym, ◌∙◌, ap, subst}
+use Rattle.std.proofs.Common.{◌≡◌, ◌≢◌, ◌⊎◌, inl, inr, ◌+◌, ◌*◌, ◌/◌, ◌<◌, ◌≤◌, ◌&&◌, not, ℕ, Bool, true, false, List, [], ◌∷◌, cond, length, Option, None, Some, IsTrue, Contains, refl, sym, ◌∙◌, ap, subst, arith}
+use Rattle.std.specs.List.{find}
 use Rattle.std.specs.Bool.{MatchBool}
-use Rattle.mdv_database.specs.Boot.{BootAnswer, BootEnds, BootMoment as PlaceMoment, BootedBy, HasBootCause, is_answered}
-use Rattle.mdv_database.specs.declared.database.BootEnd.{BootEnd}
-use Rattle.mdv_database.specs.declared.database.BootEnd.TheVariants as found
-use Rattle.mdv_database.specs.declared.database.Booted.{Booted}
-use Rattle.mdv_home.proofs.Viewing.{is_there, there_is}
-use Rattle.mdv_name.specs.SliceIndex.{is_among}
-use Rattle.mdv_shelf.specs.Calls.{OnDrive}
+use Rattle.std.specs.Prelude.{MatchOption, if◌then◌else◌}
+use Rattle.mdv_base.specs.DriveSet.{no_drives}
+use Rattle.std.proofs.lemmas.Bool.{leb-false, ltb-false}
+use Rattle.mdv_base.specs.declared.place.Place.{Place}
+use Rattle.mdv_databases.proofs.Booting as databases
 use Rattle.mdv_shelf.specs.Drives.{KeptAmong}
-use Rattle.mdv_shelf.specs.Made.{Made, and_more}
-use Rattle.mdv_shelf.specs.Shelves.{DriveFailures}
+use Rattle.mdv_shelf.specs.Made.{made_of}
+use Rattle.mdv_shelf.specs.Shelves.{AtEachTale, AtEnd, DriveFailures}
 use Rattle.mdv_shelf.specs.declared.shelf.Shelf.{Ghosts}
-use Rattle.mdv_shelf.proofs.Blocks.{both_ways}
-use Rattle.mdv_database.proofs.Bringing.{is_drive}
-use Rattle.mdv_database.specs.Database.{IfAdopted, IsBooted, IsBootedTo, IsRefusal}
-use Rattle.mdv_engine_law.specs.Efforts.{BootCalls, PlaceCalls}
-use Rattle.mdv_engine_law.specs.Line.{IsRewritten, contents, home_calls}
-use Rattle.mdv_engine.specs.Below.{AreCalm, AreOwnCalls, DriveNo, Failures, Outcomes, has_drive, place_of, other_slot, Answer, Ends, GoesOnTo, Moments, PlaceAt, IsAdopted, IsOpened, IsTableAt, KeptOutside, IsSynced, Memory, Tale, area_of, last, nowhere, with_blocks, Newest, IsQuiet, Host, IsReady, site_of, IsUpBy, adopted, empty, down, lost, spent, wanting, booted_with, unbooted, BootMoment}
+use Rattle.mdv_shelf.proofs.Frame.{kept_outside_wider}
+use Rattle.mdv_shelf.proofs.Moments.{moments_end, moments_weaker, some_is}
+use Rattle.mdv_store.specs.Boot.{IfAdopted, IsAdopted, IsEndBy, IsInHand, IsLost, IsOnce, IsShort, TakesBoth, TakesClaimOrBoth, is_enough, is_memory, seats_of}
+use Rattle.mdv_store.specs.BootCounts.{IsBootCounted, IsEndCounted}
+use Rattle.mdv_store.specs.Booted.{IsBooted, IsReadAt}
+use Rattle.mdv_store.specs.Booting.{BootEnds, IsBootedTo, boot_area, has_written}
+use Rattle.mdv_store.specs.Booting as store
+use Rattle.mdv_replica.specs.Form.{shows}
+use Rattle.mdv_store.specs.Records.{Spells}
+use Rattle.mdv_store.specs.Seats.{drive_of}
+use Rattle.mdv_store.specs.Text.{blocks_for}
+use Rattle.mdv_table.specs.Plan.{places_of}
+use Rattle.mdv_table.specs.Table.{IsListsOf}
+use Rattle.std.proofs.lemmas.List.{length-map}
+use Rattle.mdv_store.specs.Taking.{Rewrites}
+use Rattle.mdv_store.specs.declared.booting.BootEnd.TheVariants as end
+use Rattle.mdv_store.specs.declared.booting.Booted.{Booted}
+use Rattle.mdv_store.proofs.Adoptions.{same_identity_self}
+use Rattle.mdv_store.proofs.Few.{reads_between}
+use Rattle.mdv_store.proofs.Passes.{left_calm, some_lost, unmapped}
+use Rattle.mdv_store.proofs.Quorums.{more_enough}
+use Rattle.mdv_store.proofs.Seating.{seated_at, seats_places}
+use Rattle.mdv_store.proofs.Sitting.{left_count}
+use Rattle.mdv_standing.specs.Laws.{ShowsNoTable}
+use Rattle.mdv_survey.specs.Choice.{AreTwo, IsChoice, IsChoiceAmong, failing, is_of, is_read, readable_of, same_identity, shows_other}
+use Rattle.mdv_survey.specs.Counts.{AreLinesBy}
+use Rattle.mdv_survey.specs.Replica.{IsListed}
+use Rattle.mdv_survey.specs.declared.choosing.Choice.{Choice}
+use Rattle.mdv_survey.specs.declared.choosing.Choice.TheVariants as chosen
+use Rattle.mdv_survey.specs.declared.replica.Newest.{Newest}
+use Rattle.mdv_survey.specs.declared.replica.Survey.{Survey}
+use Rattle.mdv_table.specs.declared.plan.Lists.{Lists}
+use Rattle.mdv_table.specs.declared.plan.Lists.TheVariants.{One}
 use Rattle.mdv_engine_law.specs.Answers.{accepted}
-use Rattle.mdv_engine_law.specs.declared.answer.Answer.TheVariants.{Over}
-use Rattle.mdv_engine_law.specs.declared.answer.Ended.{Ended}
-use Rattle.mdv_engine_law.specs.declared.answer.Ended.TheVariants as ended
-use Rattle.mdv_engine_law.proofs.Booting.{boot_moment, booted_adopted, booted_none, booting_empty, booting_still}
-use Rattle.mdv_engine_law.proofs.Within.{kept_by_both}
-use Rattle.mdv_engine_law.specs.Home.{replica_area}
-use Rattle.mdv_engine_law.proofs.Keeping.{rewritten_newest, same_beside, same_content}
-use Rattle.mdv_engine.specs.Ends.{IsBootEnd}
 use Rattle.mdv_engine_law.specs.Replies.{HasEndCause}
-use Rattle.mdv_engine.specs.Engine.{IsAnsweredBy, IsEndedBy, IsWell}
-use Rattle.mdv_engine.proofs.Sites.{here, told_site}
-use Rattle.mdv_shelf.proofs.Moments.{ends_both, moments_end, moments_weaker}
+use Rattle.mdv_engine_law.specs.declared.answer.Answer.TheVariants.{Over}
+use Rattle.mdv_engine_law.specs.declared.answer.Ended.TheVariants as ended
+use Rattle.mdv_engine_law.proofs.Booting.{BootsOn, boot_moment, booted_adopted, booted_none}
+use Rattle.mdv_engine_law.proofs.Keeping.{same_beside}
+use Rattle.mdv_engine_law.proofs.Rebooting as rebooting
+use Rattle.mdv_engine_law.proofs.Rebooting.{up_by}
+use Rattle.mdv_engine.specs.Below.{Answer, AreLaid, BootEnd, BootMoment, BootedTo, DriveNo, Drives, Ended, Geometry, Host, Identity, IsOfGeometry, IsReady, IsUpBy, Key, KeptOutside, MayLeave, Memory, Opened, Outcomes, Replica, Seat, Site, SliceLine, Tale, answered_by, active_of, booted_with, has_drive, is_half_active, key_of, last, nowhere, opened_by, record_text, replicas_of, site_area, site_of, unbooted}
+use Rattle.mdv_engine.specs.Counts.{IsBootedCounted, IsOpenedCounted}
+use Rattle.mdv_engine.specs.Ends.{IsBootEnd}
+use Rattle.mdv_engine.specs.Engine.{FailedOnSite, IsAnsweredBy, IsEndedBy, IsFitting, IsHeldBy, IsOpenBy, IsWell, LiesOn}
 
--- by each moment
-pub boot_moments : (host : Host) (sizes : List ℕ) → IsReady host sizes → (t m : Tale) → PlaceMoment (site_of host) t m → BootMoment host t m
-boot_moments host sizes ready t m is = boot_moment host sizes ready t m is.quiet.outside is.quiet.quiet is.goes
+-- at each moment, and in the end
+module _ (host : Host) (sizes : List ℕ) (ready : IsReady host sizes) where
+  its_moment : (answer : BootEnd) (t m : Tale) → store.BootMoment host.drives host.site answer t m → store.BootMoment host.drives (site_of host.drives (key_of host)) answer t m
+  its_moment answer t m is = subst (λ (s : Site). store.BootMoment host.drives s answer t m) ready.site is
 
--- how the calls on the place's drive came out, and on one that is up or isn't
-came_out : (failures : Failures) (e : BootEnd) → HasBootCause failures e → failures.none ⊎ failures.some
-came_out failures (found.Adopted newest) cause = inl cause
-came_out failures found.Empty cause = inl cause
-came_out failures found.Down cause = inr cause
-came_out failures found.Lost cause = inr cause
-came_out failures found.Spent cause = inl cause
-came_out failures found.Memory cause = inl cause
+  boots_on : (answer : BootEnd) (t m : Tale) → store.BootMoment host.drives host.site answer t m → BootsOn host t m
+  boots_on answer t m is all stand = databases.boot_moment host.drives all (key_of host) answer t m stand (its_moment answer t m is)
 
-match_out : (b : Bool) (P Q : Type 0) → MatchBool b P Q → P ⊎ Q
-match_out true P Q is = inl is
-match_out false P Q is = inr is
+  on_site : (wrote : Bool) (t m : Tale) → KeptOutside (boot_area host.site wrote) t m → KeptOutside (site_area host.site) t m
+  on_site true t m kept = kept
+  on_site false t m kept = kept_outside_wider nowhere (site_area host.site) t m (λ drive block out. refl) kept
 
-module _ (host : Host) (calls : Outcomes) (still : (drive : DriveNo) → (Contains host.own drive → ⊥) → (calls drive.0).none) where
-  -- no call failed on any drive where none did on the host's own
-  all_calm : ((drive : DriveNo) → Contains host.own drive → (calls drive.0).none) → AreCalm calls
-  all_calm own drive = elim (both_ways (is_among host.own (record { 0 = drive }))) [
-    | inl here ↦ own (record { 0 = drive }) (is_there host.own (record { 0 = drive }) here)
-    | inr away ↦ still (record { 0 = drive }) (λ one_of. cc (there_is host.own (record { 0 = drive }) one_of, away))
-  ]
+  off_site : (wrote : Bool) (drive block : ℕ) → site_area host.site drive block ≡ false → boot_area host.site wrote drive block ≡ false
+  off_site true drive block out = out
+  off_site false drive block out = refl
 
-  clean_all : (answer : Booted) (clean : Bool)
-      → MatchBool clean ((is_answered answer.end ≡ true) × ((drive : DriveNo) → Contains host.own drive → (calls drive.0).none × (has_drive answer.up drive ≡ true))) ((drive : DriveNo) × Contains host.own drive × (calls drive.0).some)
-      → MatchBool clean (AreCalm calls) ((drive : DriveNo) × Contains host.own drive × (calls drive.0).some)
-  clean_all answer true is = all_calm (λ drive one_of. (is.1 drive one_of).0)
-  clean_all answer false is = is
+  pub boot_moments : (answer : BootEnd) (t m : Tale) → store.BootMoment host.drives host.site answer t m → BootMoment host t m
+  boot_moments answer t m is = boot_moment host sizes ready t m (on_site (has_written answer) t m is.quiet.outside) is.quiet.quiet (boots_on answer t m is)
 
-  module _ (sizes : List ℕ) (ready : IsReady host sizes) (answer : Booted) (is : BootAnswer calls host.drives sizes host.own (place_of host.home) answer) where
-    pub up_by : IsUpBy calls host answer.up answer.clean
-    up_by = record {
-      own = is.up;
-      others = λ drive other. (is.others drive other, still drive other);
-      calm = clean_all answer answer.clean is.clean;
+  -- what is known once it is answered
+  module _ (failed : ℕ → Type 0) (answer : Booted) (begun : ℕ) (t u : Tale) (moment : store.BootMoment host.drives host.site answer.end t u) (ends : BootEnds failed host.drives host.site answer t u) where
+    abbrev To : Option Opened → Type 0
+    To opened = BootedTo host (booted_with opened answer.up answer.clean begun) t u
+
+    kept : KeptOutside (site_area host.site) t u
+    kept = on_site (has_written answer.end) t u moment.quiet.outside
+
+    rests : (drive : DriveNo) (block : ℕ) → has_drive answer.up drive ≡ true → site_area host.site drive.0 block ≡ false → (x : List ℕ) → MayLeave u drive.0 block x → x ≡ last u drive.0 block
+    rests drive block on out = ends.still drive block on (off_site (has_written answer.end) drive.0 block out)
+
+    its_booted : (o : Opened) → answer.end ≡ end.Adopted o → IsBootedTo host.drives host.site o t u
+    its_booted o so = subst (λ (e : BootEnd). IfAdopted e (λ x. IsBootedTo host.drives host.site x t u)) so ends.adopted
+
+    adopted_to : (o : Opened) → answer.end ≡ end.Adopted o → o.key ≡ key_of host → To (Some o)
+    adopted_to o so its =
+        let is = its_booted o so in
+        booted_adopted host sizes ready t answer.up u kept moment.quiet.quiet answer.clean begun rests o its is.opened
+        (λ all stand. databases.boot_end host.drives all (key_of host) o t u stand (its_moment (end.Adopted o) t u (subst (λ (e : BootEnd). store.BootMoment host.drives host.site e t u) so moment)) (subst (λ (s : Site). IsBootedTo host.drives s o t u) ready.site is) its)
+
+    empty_to : answer.end ≡ end.Empty → To None
+    empty_to so =
+        booted_none host sizes ready t answer.up u kept moment.quiet.quiet answer.clean begun rests
+        (λ clean identity image left. subst (λ (s : Site). ShowsNoTable (Spells host.drives) s identity image) ready.site (ends.empty so clean image left identity)) (boots_on answer.end t u moment)
+
+-- numbers of a boot that isn't answered: fewer places are readable than are needed
+half_less : (n l : ℕ) → 2 * n ≤ l → n < l / 2 + 1
+half_less n l less = omega (arith, less)
+
+module _ (survey : Survey) where
+  -- what is chosen of the newest table, where there is one
+  chosen_of : (choice : Choice) → (choice ≡ chosen.Empty → ⊥) → IsChoice survey choice → (newest : Newest) × IsChoiceAmong survey.replicas newest choice
+  chosen_of choice not is = by survey.newest is where
+    by : (o : Option Newest) → MatchOption o (choice ≡ chosen.Empty) (λ newest. IsChoiceAmong survey.replicas newest choice) → (newest : Newest) × IsChoiceAmong survey.replicas newest choice
+    by None none = absurd (not none)
+    by (Some newest) among = (newest, among)
+
+  failing_short : (replicas : List Replica) (identity : Identity) (lists : Lists) (list : List Place) → failing replicas identity lists ≡ Some list → 2 * readable_of replicas identity list ≤ length list
+  failing_short replicas identity (One all) list is = by (is_read replicas identity all) refl is where
+    by : (b : Bool) → is_read replicas identity all ≡ b → (if b then None else Some all) ≡ Some list → 2 * readable_of replicas identity list ≤ length list
+    by true so none = absurd (cc (none))
+    by false so some = (let same : all ≡ list = cc (some) in subst (λ (l : List Place). 2 * readable_of replicas identity l ≤ length l) same (ltb-false (length all) (2 * readable_of replicas identity all) so))
+
+  short_less : (readable needed : ℕ) → IsShort survey readable needed → readable < needed
+  short_less readable needed (inl is) =
+      let found = chosen_of (chosen.NoQuorum readable needed) (λ none. absurd (cc (none))) is in
+      let one = found.1 in
+      let less = half_less (readable_of survey.replicas one.replica.head.master.identity one.list) (length one.list) (failing_short survey.replicas one.replica.head.master.identity found.0.table.plan.lists one.list one.fails) in
+      let readable_is = one.readable_is in
+      let needed_is = one.needed_is in
+      omega (arith, less, readable_is, needed_is)
+  short_less readable needed (inr (was, newest, replica, seats, hand, few, readable_is, needed_is)) = (let less = half_less (active_of seats) (length seats) few in omega (arith, less, readable_is, needed_is))
+
+  found_here : (p : Replica → Bool) (rs : List Replica) (x r : Replica) (b : Bool) → p x ≡ b → (find p rs ≡ Some r → p r ≡ true) → cond b (Some x) (find p rs) ≡ Some r → p r ≡ true
+  found_here p rs x r true so later some = (let same : x ≡ r = cc (some) in subst (λ (y : Replica). p y ≡ true) same so)
+  found_here p rs x r false so later rest = later rest
+
+  found_passes : (p : Replica → Bool) (rs : List Replica) (r : Replica) → find p rs ≡ Some r → p r ≡ true
+  found_passes p [] r is = absurd (cc (is))
+  found_passes p (x ∷ rs) r is = found_here p rs x r (p x) refl (found_passes p rs r) is
+
+  -- the databases are two
+  two_differ : (a b : Identity) → IsChoice survey (chosen.TwoDatabases a b) → a ≢ b
+  two_differ a b is same =
+      let two : AreTwo survey.replicas a b = (chosen_of (chosen.TwoDatabases a b) (λ none. absurd (cc (none))) is).1 in
+      let other = found_passes (shows_other two.one.head.master.identity) survey.replicas two.other two.second in
+      let own : two.other.head.master.identity ≡ two.one.head.master.identity = sym two.b_is ∙ sym same ∙ two.a_is in
+      let itself : is_of two.one.head.master.identity two.other ≡ true = subst (λ (i : Identity). same_identity i two.one.head.master.identity ≡ true) (sym own) (same_identity_self two.one.head.master.identity) in
+      not_both (shows_of two.other) (is_of two.one.head.master.identity two.other) itself other
+    where
+      shows_of : Replica → Bool
+      shows_of r = shows r.head
+
+      not_both : (s o : Bool) → o ≡ true → (s && not o) ≡ true → ⊥
+      not_both true true on both = absurd (cc (both))
+      not_both true false on both = absurd (cc (on))
+      not_both false o on both = absurd (cc (both))
+
+-- memory wasn't wanting in one that is answered
+remembered : (e : BootEnd) → answered_by e ≡ accepted → is_memory e ≡ false
+remembered (end.Adopted o) ok = refl
+remembered end.Empty ok = refl
+remembered (end.TwoDatabases a b) ok = refl
+remembered (end.NoQuorum readable needed) ok = refl
+remembered (end.Lost active listed) ok = refl
+remembered end.Spent ok = refl
+remembered end.Memory ok = absurd (cc (ok))
+
+-- the lists of a table of the table of drives
+lists_some : (g : Geometry) (lists : Lists) → IsListsOf g lists → 1 ≤ length (places_of lists)
+lists_some g (One places) are = are.some
+
+lists_few : (g : Geometry) (lists : Lists) → IsListsOf g lists → length (places_of lists) ≤ 50
+lists_few g (One places) are = are.few
+
+-- Whatever the shelf tells: by which calls a boot came to its end, and what it opened.
+module _ {S : Type 0} (shelf : Ghosts S) (old new : S) (host : Host) (ready : IsReady host (shelf.sizes old)) (answer : Booted) (is : IsBooted shelf old new host.drives host.site answer) (kept : KeptAmong shelf old new host.site.drives) (begun : ℕ) where
+  abbrev calls : Outcomes
+  calls = DriveFailures shelf old new
+
+  abbrev memory : Option Opened → Memory
+  memory opened = booted_with opened answer.up answer.clean begun
+
+  abbrev Read : BootEnd → Type 0
+  Read e = (survey : Survey) × (at : IsReadAt shelf old new host.drives host.site answer survey) × IsEndBy calls (Rewrites shelf at.looked new host.site.key) host.site survey e
+
+  read : (e : BootEnd) → answer.end ≡ e → is_memory e ≡ false → Read e
+  read e so remembered = by is.ended where
+    by : (is_memory answer.end ≡ true) ⊎ Read answer.end → Read e
+    by (inl wanting) = absurd (let none = ap is_memory so in cc (wanting, none, remembered))
+    by (inr end_by) = subst Read so end_by
+
+  -- each place in hand has a replica that was read on a drive that answered
+  in_hand : (survey : Survey) (at : IsReadAt shelf old new host.drives host.site answer survey) (newest : Newest) (replica : Replica) (seats : List Seat) → IsInHand survey newest replica seats → (r : Replica) → Contains (replicas_of seats) r → IsListed host.site at.calm r
+  in_hand survey at newest replica seats hand r has =
+      let own = subst (λ (l : List Seat). Contains (replicas_of l) r) hand.seats_are has in at.survey_is.each r (seated_at survey.replicas replica.head.master.identity _ _ r own).1
+
+  -- where it isn't clean a call failed, as on each drive of which the last look doesn't tell
+  unclean : answer.clean ≡ false → (is_memory answer.end ≡ true) ⊎ ((drive : DriveNo) × Contains host.site.drives drive × (calls drive.0).some)
+  unclean off = subst (λ (b : Bool). MatchBool b ((is_memory answer.end ≡ false) × ((drive : DriveNo) → Contains host.site.drives drive → (calls drive.0).none)) ((is_memory answer.end ≡ true) ⊎ ((drive : DriveNo) × Contains host.site.drives drive × (calls drive.0).some))) off is.clean
+
+  away : (survey : Survey) (at : IsReadAt shelf old new host.drives host.site answer survey) (drive : DriveNo) → Contains host.site.drives drive → has_drive at.calm drive ≡ false → (calls drive.0).some
+  away survey at drive one_of out = (at.failed drive one_of out).1
+
+  -- which drives are up, told of an end like its own
+  up_as : (e : BootEnd) → is_memory answer.end ≡ is_memory e → IsUpBy calls host e answer.up answer.clean
+  up_as e same =
+      let by = up_by shelf old new host answer is kept unclean in
+      record {
+        down = λ remembered. by.down (same ∙ remembered);
+        others = by.others;
+        once = subst (λ (b : Bool). (b ≡ true) ⊎ ((drive : DriveNo) → Contains host.site.drives drive → IsOnce (calls drive.0))) same by.once;
+        calm = subst (λ (b : Bool). MatchBool answer.clean ((drive : DriveNo) → (calls drive.0).none) ((b ≡ true) ⊎ ((drive : DriveNo) × Contains host.site.drives drive × (calls drive.0).some))) same by.calm;
+      }
+
+  -- it adopted a database
+  module _ (o : Opened) (so : answer.end ≡ end.Adopted o) where
+    abbrev by_it : Read (end.Adopted o)
+    by_it = read (end.Adopted o) so refl
+
+    abbrev adoption : IsAdopted calls (Rewrites shelf by_it.1.looked new host.site.key) host.site by_it.0 o
+    adoption = by_it.2
+
+    abbrev Took : Replica → Replica → Type 0
+    Took = TakesBoth adoption.number (length (record_text adoption.newest.table))
+
+    each : (n : Replica) → Contains (replicas_of o.seats) n → (r : Replica) × IsListed host.site by_it.1.calm r × (calls (drive_of r)).none × Took r n
+    each n has =
+        let one = left_calm calls Took adoption.seats o.seats adoption.left n has in
+        (one.0, in_hand by_it.0 by_it.1 adoption.newest adoption.replica adoption.seats adoption.drawn.hand one.0 one.1, one.2, one.3)
+
+    -- a seat for each listed place
+    seats_counted : length o.seats ≡ length (places_of o.table.plan.lists)
+    seats_counted =
+        let own = seats_of by_it.0.replicas adoption.replica.head.master.identity (blocks_for (length (record_text adoption.newest.table))) (places_of adoption.newest.table.plan.lists) in
+        left_count calls Took adoption.seats o.seats adoption.left ∙ ap length adoption.drawn.hand.seats_are
+        ∙ sym (length-map own (λ (s : Seat). s.place))
+        ∙ ap length (seats_places by_it.0.replicas adoption.replica.head.master.identity (blocks_for (length (record_text adoption.newest.table))) (places_of adoption.newest.table.plan.lists))
+        ∙ ap (λ (x : Opened). length (places_of x.table.plan.lists)) (sym adoption.is)
+
+    pub its_key : o.key ≡ key_of host
+    its_key = ap (λ (x : Opened). x.key) adoption.is
+
+    half_by : IsTrue (is_half_active o.seats)
+    half_by = subst (λ (k : Key). IsTrue (is_enough k o.seats)) ready.key adoption.enough
+
+    pub held_by : IsOfGeometry host.drives o.table → IsHeldBy host o
+    held_by listed = record {
+      its = its_key;
+      some = (let counted = seats_counted in let least = lists_some host.drives o.table.plan.lists listed.lists in omega (arith, counted, least));
+      few = (let counted = seats_counted in let most = lists_few host.drives o.table.plan.lists listed.lists in omega (arith, counted, most));
+      half = half_by;
+      of_geometry = listed;
+      laid = subst (λ (s : List ℕ). AreLaid s o.seats) (sym ready.on_shelf.sizes_are) (subst (λ (e : BootEnd). IfAdopted e (λ x. AreLaid (shelf.sizes old) x.seats)) so is.laid);
+      seated = λ n has. (let one = each n has in subst (λ (x : Replica). LiesOn host.site x) (sym one.3.2) (record { one_of = one.1.seated.one_of; within = one.1.seated.within }));
     }
 
-    -- on each drive of its own one call failed at most, whatever it came to, and none on another
-    own_calls : AreOwnCalls host calls
-    own_calls drive = (λ one_of. by one_of (is_drive drive host.home.drive), still drive) where
-      by : Contains host.own drive → (drive ≡ host.home.drive) ⊎ (drive ≢ host.home.drive) → (calls drive.0).none ⊎ (calls drive.0).some
-      by one_of (inl same) = subst (λ (d : DriveNo). (calls d.0).none ⊎ (calls d.0).some) (sym same) (came_out (calls host.home.drive.0) answer.end is.place.cause)
-      by one_of (inr apart) = match_out (has_drive answer.up drive) _ _ (is.up drive one_of apart)
+    line_is : (r n : Replica) → Took r n → n.line ≡ r.line
+    line_is r n took = ap (λ (x : Replica). x.line) took.2
 
-    -- the place's drive is up, where it was read what is there
-    up_here : (answer.end ≢ found.Down) → has_drive answer.up host.home.drive ≡ true
-    up_here other = elim (both_ways (has_drive answer.up host.home.drive)) [ inl on ↦ on | inr off ↦ absurd (other (is.here off)) ]
+    pub open_by : IsOpenBy calls answer.up o
+    open_by = record {
+      half = half_by;
+      calm = λ drive has.
+          let m = unmapped (λ (r : Replica). r.line.at.drive) (replicas_of o.seats) drive has in
+          let one = each m.0 m.1 in
+          subst (λ (d : DriveNo). (calls d.0).none) (sym (ap (λ (l : SliceLine). l.at.drive) (line_is one.0 m.0 one.3)) ∙ m.2) one.2;
+      are_up = λ drive has.
+          let m = unmapped (λ (r : Replica). r.line.at.drive) (replicas_of o.seats) drive has in
+          let one = each m.0 m.1 in
+          subst (λ (d : DriveNo). has_drive answer.up d ≡ true) (sym (ap (λ (l : SliceLine). l.at.drive) (line_is one.0 m.0 one.3)) ∙ m.2) (by_it.1.up one.0.line.at.drive one.1.is_up);
+    }
 
-    -- one that is down isn't clean
-    unclean : answer.end ≡ found.Down → answer.clean ≡ false
-    unclean so = by answer.clean is.clean where
-      by : (clean : Bool)
-          → MatchBool clean ((is_answered answer.end ≡ true) × ((drive : DriveNo) → Contains host.own drive → (calls drive.0).none × (has_drive answer.up drive ≡ true))) ((drive : DriveNo) × Contains host.own drive × (calls drive.0).some) → clean ≡ false
-      by false match = refl
-      by true match = absurd (let down = ap is_answered so in cc (down, match.0))
+    pub adopted_cause : IsAnsweredBy calls host (memory (Some o))
+    adopted_cause = record { end = end.Adopted o; answer_is = refl; opened_is = refl; up = up_as (end.Adopted o) (ap is_memory so); opened = open_by }
 
-    module _ (made : Made) (begun : ℕ) (t u : Tale) (quiet : IsQuiet (place_of host.home) t u) (ends : BootEnds (calls host.home.drive.0) made (site_of host) host.own answer t u) where
-      kept : KeptOutside (area_of (site_of host)) t u
-      kept = quiet.outside
+    pub unfitting_cause : IsAnsweredBy calls host (memory None)
+    unfitting_cause = record { end = end.Empty; answer_is = refl; opened_is = refl; up = up_as end.Empty (ap is_memory so); opened = tt }
 
-      -- each drive that is up is synced, where no write failed
-      synced : (answer.end ≢ found.Lost) → (drive : DriveNo) → has_drive answer.up drive ≡ true → IsSynced drive.0 u
-      synced calm drive on = ends.synced drive on (λ so. absurd (calm so))
+    pub adopted_well : IsOfGeometry host.drives o.table → IsWell host (memory (Some o))
+    adopted_well listed = record { database = held_by listed }
 
-      as_booted : (e : BootEnd) → answer.end ≡ e → IsBooted (calls host.home.drive.0) (site_of host) (last t host.home.drive.0) e
-      as_booted e so = subst (λ (x : BootEnd). IsBooted (calls host.home.drive.0) (site_of host) (last t host.home.drive.0) x) so ends.place.shown
+  pub empty_cause : answer.end ≡ end.Empty → IsAnsweredBy calls host (memory None)
+  empty_cause so = record { end = end.Empty; answer_is = refl; opened_is = refl; up = up_as end.Empty (ap is_memory so); opened = tt }
 
-      as_counted : (e : BootEnd) → answer.end ≡ e → BootedBy (and_more ends.booted.brought made) (site_of host) (last t host.home.drive.0) e
-      as_counted e so = subst (λ (x : BootEnd). BootedBy (and_more ends.booted.brought made) (site_of host) (last t host.home.drive.0) x) so ends.booted.calls
+  -- it isn't answered
+  pub ended_cause : (e : BootEnd) (over : Ended) → answer.end ≡ e → answered_by e ≡ Over over → HasEndCause (FailedOnSite calls host) over → IsEndedBy calls host over
+  ended_cause e over so answer_is cause = record { came = e; answer_is = answer_is; up = (answer.up, answer.clean, up_as e (ap is_memory so)); cause = cause }
 
-      as_caused : (e : BootEnd) → answer.end ≡ e → HasBootCause (calls host.home.drive.0) e
-      as_caused e so = subst (HasBootCause (calls host.home.drive.0)) so is.place.cause
+  pub short_cause : (readable needed : ℕ) → answer.end ≡ end.NoQuorum readable needed → IsEndedBy calls host (ended.NoQuorum readable needed)
+  short_cause readable needed so = (let by = read (end.NoQuorum readable needed) so refl in ended_cause (end.NoQuorum readable needed) (ended.NoQuorum readable needed) so refl (short_less by.0 readable needed by.2))
 
-      as_gone : (e : BootEnd) → answer.end ≡ e → GoesOnTo (site_of host) (IsBootedTo e) t u
-      as_gone e so = subst (λ (x : BootEnd). GoesOnTo (site_of host) (IsBootedTo x) t u) so ends.place.goes
+  pub two_cause : (a b : Identity) → answer.end ≡ end.TwoDatabases a b → IsEndedBy calls host (ended.TwoDatabases a b)
+  two_cause a b so = (let by = read (end.TwoDatabases a b) so refl in ended_cause (end.TwoDatabases a b) (ended.TwoDatabases a b) so refl (two_differ by.0 a b by.2))
 
-      unwritten : (e : BootEnd) → answer.end ≡ e → IsRefusal e → KeptOutside nowhere t u
-      unwritten e so refusal = ends.place.refuses (subst IsRefusal (sym so) refusal)
+  pub lost_cause : (active listed : ℕ) → answer.end ≡ end.Lost active listed → IsEndedBy calls host (ended.Lost active listed)
+  lost_cause active listed so =
+      let by = read (end.Lost active listed) so refl in
+      let lost : IsLost calls (Rewrites shelf by.1.looked new host.site.key) host.site.key by.0 active listed = by.2 in
+      let Took = TakesClaimOrBoth lost.number (length (record_text lost.newest.table)) in
+      let fewer = more_enough host.site.key lost.seats lost.now (left_count calls Took lost.seats lost.now lost.left) lost.drawn.enough lost.few in
+      let one = some_lost calls Took lost.seats lost.now lost.left fewer in
+      let at = in_hand by.0 by.1 lost.newest lost.replica lost.seats lost.drawn.hand one.0 one.1 in
+      let few : is_half_active lost.now ≡ false = subst (λ (k : Key). is_enough k lost.now ≡ false) ready.key lost.few in
+      let less = leb-false (length lost.now) (2 * active_of lost.now) few in
+      let active_is = lost.active_is in
+      let listed_is = lost.listed_is in
+      ended_cause (end.Lost active listed) (ended.Lost active listed) so refl (record { line = one.0.line; one_of = at.seated.one_of; here = one.2 }, omega (arith, less, active_is, listed_is))
 
-      -- so is each of its own on which no call failed, for it is up
-      module _ (drive : DriveNo) (one_of : Contains host.own drive) (calm : (calls drive.0).some → ⊥) where
-        is_up_by : (drive ≡ host.home.drive) ⊎ (drive ≢ host.home.drive) → (up : Bool) → has_drive answer.up drive ≡ up → up ≡ true
-        is_up_by place true on = refl
-        is_up_by (inl same) false off =
-            absurd (calm (subst (λ (d : DriveNo). (calls d.0).some) (sym same) (as_caused found.Down (is.here (sym (ap (has_drive answer.up) same) ∙ off)))))
-        is_up_by (inr apart) false off = absurd (calm (subst (λ (b : Bool). MatchBool b (calls drive.0).none (calls drive.0).some) off (is.up drive one_of apart)))
+  pub spent_cause : answer.end ≡ end.Spent → IsEndedBy calls host ended.Spent
+  spent_cause so = ended_cause end.Spent ended.Spent so refl tt
 
-        unfailed : (answer.end ≢ found.Lost) → IsSynced drive.0 u
-        unfailed other = synced other drive (is_up_by (is_drive drive host.home.drive) (has_drive answer.up drive) refl)
+  pub wanting_cause : answer.end ≡ end.Memory → IsEndedBy calls host ended.Memory
+  wanting_cause so = ended_cause end.Memory ended.Memory so refl tt
 
-      -- the calls of one that is answered, and of one that isn't
-      effort_of : (read : Bool) (to : Answer) (memory : Memory) → (to ≡ accepted → answer.up ≡ memory.up) → (read ≡ false → (calls host.home.drive.0).some) → PlaceCalls (and_more ends.booted.brought made) host to read memory (contents t) → BootCalls calls made host to memory (contents t)
-      effort_of read to memory tied unread place = record { up = answer.up; brought = ends.booted.brought; tied = tied; own = is.up; by = ends.booted.by; read = read; unread = unread; place = place }
+  -- The end, where the tale is told.
+  module _ (moments : AtEachTale shelf (store.BootMoment host.drives host.site answer.end) old new) (ends : AtEnd shelf (BootEnds (λ drive. (calls drive).some) host.drives host.site answer) old new) (counted : IsBootCounted shelf old new host.drives host.site answer) where
+    pub all_moments : AtEachTale shelf (BootMoment host) old new
+    all_moments = moments_weaker (store.BootMoment host.drives host.site answer.end) (BootMoment host) (shelf.tale old) (shelf.tale new) (boot_moments host (shelf.sizes old) ready answer.end) moments
 
-      -- it adopted a replica
-      module _ (newest : Newest) (so : answer.end ≡ found.Adopted newest) where
-        abbrev memory : Memory
-        memory = booted_with (Some newest) answer.up answer.clean begun
+    abbrev EndAs : Answer → Memory → Type 0
+    EndAs said next = AtEnd shelf (IsBootEnd calls (made_of shelf old new) host (unbooted begun) said next) old new
 
-        within : KeptOutside (replica_area (site_of host) newest.blocks) t u
-        within = kept_by_both (site_of host) t u newest.blocks kept (subst (λ (x : BootEnd). IfAdopted x (λ n. IsQuiet (with_blocks (site_of host).at n.blocks) t u)) so ends.place.within).outside
-
-        rewritten : IsRewritten (site_of host) (contents t) (contents u) newest
-        rewritten =
-            let drawn = as_booted (found.Adopted newest) so in
-            rewritten_newest host (unbooted begun) memory t u newest drawn.head (other_slot newest.slot) newest.table within drawn.tie drawn.the drawn.fits
-            (subst (λ (x : BootEnd). IfAdopted x (λ n. IsAdopted (site_of host) (last t host.home.drive.0) n u)) so ends.place.adopted)
-
-        pub adopted_end : IsBootEnd calls made host (unbooted begun) accepted memory t u
-        adopted_end = record {
-          rebooted = adopted (as_caused (found.Adopted newest) so) newest answer.up answer.clean refl refl up_by (up_here (λ other. cc (so, other))) rewritten;
-          booted = λ ok. booted_adopted host t answer.up u kept quiet.quiet (synced (λ other. cc (so, other))) answer.clean begun sizes ready newest
-              (subst (λ (x : BootEnd). IfAdopted x (λ n. IsOpened (site_of host) n u)) so ends.place.opened) (as_gone (found.Adopted newest) so);
-          synced = λ ok drive one_of calm. unfailed drive one_of calm (λ other. cc (so, other));
-          effort = effort_of true accepted memory (λ ok. refl) (λ so. absurd (cc (so))) (as_counted (found.Adopted newest) so);
-        }
-
-      -- it found nothing
-      pub empty_end : answer.end ≡ found.Empty → IsBootEnd calls made host (unbooted begun) accepted (booted_with None answer.up answer.clean begun) t u
-      empty_end so =
-          let memory = booted_with None answer.up answer.clean begun in
+    end_as : (said : Answer) (next : Memory) → said ≡ answered_by answer.end → (said ≡ accepted → next ≡ memory (opened_by answer.end))
+        → ((t u : Tale) → store.BootMoment host.drives host.site answer.end t u → BootEnds (λ drive. (calls drive).some) host.drives host.site answer t u → said ≡ accepted → BootedTo host next t u) → EndAs said next
+    end_as said next said_is next_is to t told =
+        let e = ends t told in
+        let m = moments_end (store.BootMoment host.drives host.site answer.end) (shelf.tale old) (shelf.tale new) moments t told in
+        let same : m.0 ≡ e.0 = some_is (shelf.tale new) m.0 e.0 m.1 e.1 in
+        let moment = subst (λ (u : Tale). store.BootMoment host.drives host.site answer.end t u) same m.2 in (
+          e.0,
+          e.1,
           record {
-            rebooted = empty (as_caused found.Empty so) answer.up answer.clean refl refl up_by (up_here (λ other. cc (so, other))) (as_booted found.Empty so) (same_content t u (unwritten found.Empty so tt));
-            booted = λ ok. booted_none host t answer.up u kept quiet.quiet (synced (λ other. cc (so, other))) answer.clean begun (λ calm. ends.place.empty so) (booting_empty host t answer.up u kept (as_gone found.Empty so));
-            synced = λ ok drive one_of calm. unfailed drive one_of calm (λ other. cc (so, other));
-            effort = effort_of true accepted memory (λ ok. refl) (λ so. absurd (cc (so))) (as_counted found.Empty so);
-          }
+            rebooted = record {
+              end = answer.end;
+              up = answer.up;
+              clean = answer.clean;
+              up_by = up_by shelf old new host answer is kept unclean;
+              by = rebooting.ended shelf old new host answer is kept t e.0 told e.1 unclean away moment (λ drive. (calls drive).some) e.2;
+              answer_is = said_is;
+              memory = next_is;
+              content = rebooting.left shelf old new host answer is kept t e.0 told e.1 unclean away moment (λ drive. (calls drive).some) e.2;
+              beside = same_beside (boot_area host.site (has_written answer.end)) t e.0 moment.quiet.outside;
+            };
+            booted = to t e.0 moment e.2;
+            synced = λ ok drive one_of calm. e.2.synced (remembered answer.end (sym said_is ∙ ok)) drive one_of calm;
+            still = λ drive block on out. e.2.still drive block on out;
+            unwritten = λ quiet. subst (λ (wrote : Bool). KeptOutside (boot_area host.site wrote) t e.0) quiet moment.quiet.outside;
+            effort = rebooting.boot_calls shelf old new host answer is kept t e.0 told e.1 unclean counted (unbooted begun) next said said_is next_is;
+          },
+        )
 
-      -- a call on the place's drive failed before anything was written there
-      pub down_end : answer.end ≡ found.Down → IsBootEnd calls made host (unbooted begun) accepted (booted_with None answer.up answer.clean begun) t u
-      down_end so =
-          let memory = booted_with None answer.up answer.clean begun in
-          let some = as_caused found.Down so in
-          record {
-            rebooted = down some answer.up refl (ap (λ (clean : Bool). booted_with None answer.up clean begun) (unclean so)) (subst (λ (clean : Bool). IsUpBy calls host answer.up clean) (unclean so) up_by) (same_content t u (unwritten found.Down so tt));
-            booted = λ ok. booted_none host t answer.up u kept quiet.quiet (synced (λ other. cc (so, other))) answer.clean begun (λ calm. absurd (cc (calm, unclean so))) (booting_still host t answer.up u (unwritten found.Down so tt));
-            synced = λ ok drive one_of calm. unfailed drive one_of calm (λ other. cc (so, other));
-            effort = effort_of false accepted memory (λ ok. refl) (λ so. some) (as_counted found.Down so);
-          }
+    pub adopted_end : (o : Opened) → answer.end ≡ end.Adopted o → EndAs accepted (memory (Some o))
+    adopted_end o so = end_as accepted (memory (Some o)) (sym (ap answered_by so)) (λ ok. ap memory (sym (ap opened_by so)))
+        (λ t u moment e ok. adopted_to host (shelf.sizes old) ready (λ drive. (calls drive).some) answer begun t u moment e o so (its_key o so))
 
-      -- the number is spent, memory was wanting, or the place is lost
-      pub spent_end : answer.end ≡ found.Spent → IsBootEnd calls made host (unbooted begun) (Over ended.Spent) (unbooted begun) t u
-      spent_end so =
-          let of = as_booted found.Spent so in
-          record {
-            rebooted = spent (as_caused found.Spent so) own_calls refl (record { head = of.head; replica = of.replica; shown = of.shown; spent = of.spent }) (same_content t u (unwritten found.Spent so tt));
-            booted = λ ok. absurd (cc (ok));
-            synced = λ ok. absurd (cc (ok));
-            effort = effort_of true (Over ended.Spent) (unbooted begun) (λ ok. absurd (cc (ok))) (λ so. absurd (cc (so))) (as_counted found.Spent so);
-          }
+    pub empty_end : answer.end ≡ end.Empty → EndAs accepted (memory None)
+    empty_end so = end_as accepted (memory None) (sym (ap answered_by so)) (λ ok. ap memory (sym (ap opened_by so)))
+        (λ t u moment e ok. empty_to host (shelf.sizes old) ready (λ drive. (calls drive).some) answer begun t u moment e so)
 
-      pub wanting_end : answer.end ≡ found.Memory → IsBootEnd calls made host (unbooted begun) (Over ended.Memory) (unbooted begun) t u
-      wanting_end so = record {
-        rebooted = wanting (as_caused found.Memory so) own_calls (as_booted found.Memory so) refl (same_content t u (unwritten found.Memory so tt));
-        booted = λ ok. absurd (cc (ok));
-        synced = λ ok. absurd (cc (ok));
-        effort = effort_of true (Over ended.Memory) (unbooted begun) (λ ok. absurd (cc (ok))) (λ so. absurd (cc (so))) (as_counted found.Memory so);
-      }
+    pub over_end : (over : Ended) → answered_by answer.end ≡ Over over → EndAs (Over over) (unbooted begun)
+    over_end over so = end_as (Over over) (unbooted begun) (sym so) (λ ok. absurd (cc (ok))) (λ t u moment e ok. absurd (cc (ok)))
 
-      pub lost_end : answer.end ≡ found.Lost → IsBootEnd calls made host (unbooted begun) (Over (ended.Lost 0 1)) (unbooted begun) t u
-      lost_end so = record {
-        rebooted = lost (as_caused found.Lost so) own_calls (as_booted found.Lost so).1 refl (same_beside (area_of (site_of host)) t u kept);
-        booted = λ ok. absurd (cc (ok));
-        synced = λ ok. absurd (cc (ok));
-        effort = effort_of true (Over (ended.Lost 0 1)) (unbooted begun) (λ ok. absurd (cc (ok))) (λ so. absurd (cc (so))) (as_counted found.Lost so);
-      }
+    -- where the tale is told the adopted table is one of the host's table of drives
+    listed_told : (o : Opened) → answer.end ≡ end.Adopted o → (t : Tale) → shelf.tale old ≡ Some t → IsOfGeometry host.drives o.table
+    listed_told o so t told = (let e = ends t told in (subst (λ (x : BootEnd). IfAdopted x (λ y. IsBootedTo host.drives host.site y t e.0)) so e.2.adopted).opened.of_geometry)
 
--- what the boot says of the place that the code computed
-module _ (host : Host) (sizes : List ℕ) (ready : IsReady host sizes) (at : PlaceAt) (at_is : at ≡ place_of host.home) (a b : Option Tale) where
-  pub moments_here : Moments (PlaceMoment (told_site host sizes ready at at_is)) a b → Moments (PlaceMoment (site_of host)) a b
-  moments_here = here host sizes ready at at_is (λ s. Moments (PlaceMoment s) a b)
+    counted_as : (said : Answer) (next : Memory)
+        → (said ≡ accepted → next.clean ≡ true → (t : Tale) → shelf.tale old ≡ Some t → (next.up ≡ answer.up) × (next.clean ≡ answer.clean) × ((n : ℕ) → IsEndCounted shelf old new n answer.end → IsOpenedCounted (made_of shelf old new) n next.opened)) → IsBootedCounted shelf old new host said next
+    counted_as said next of = record {
+      most = counted.most;
+      clean = λ ok clean t told.
+          let is_so = of ok clean t told in
+          let c = counted.clean (sym is_so.1 ∙ clean) t told in
+          (c.0, subst (λ (up : Drives). AreLinesBy host.drives host.site up no_drives (last t) host.site.lines c.0) (sym is_so.0) c.1, is_so.2 _ c.2);
+    }
 
-  pub all_moments : Moments (PlaceMoment (told_site host sizes ready at at_is)) a b → Moments (BootMoment host) a b
-  all_moments moments = moments_weaker (PlaceMoment (site_of host)) (BootMoment host) a b (boot_moments host sizes ready) (moments_here moments)
+    opened_counts : (e : BootEnd) (n : ℕ) → answered_by e ≡ accepted → IsEndCounted shelf old new n e → IsOpenedCounted (made_of shelf old new) n (opened_by e)
+    opened_counts (end.Adopted o) n ok calls_made = calls_made
+    opened_counts end.Empty n ok calls_made = reads_between shelf old new n n n (omega arith) (omega arith) calls_made
+    opened_counts (end.TwoDatabases a b) n ok calls_made = absurd (cc (ok))
+    opened_counts (end.NoQuorum readable needed) n ok calls_made = absurd (cc (ok))
+    opened_counts (end.Lost active listed) n ok calls_made = absurd (cc (ok))
+    opened_counts end.Spent n ok calls_made = absurd (cc (ok))
+    opened_counts end.Memory n ok calls_made = absurd (cc (ok))
 
-  module _ (calls : Outcomes) (made : Made) (answer : Booted) where
-    pub answer_here : BootAnswer calls host.drives sizes host.own at answer → BootAnswer calls host.drives sizes host.own (place_of host.home) answer
-    answer_here is = subst (λ (p : PlaceAt). BootAnswer calls host.drives sizes host.own p answer) at_is is
+    answered_counted : (e : BootEnd) → answer.end ≡ e → answered_by e ≡ accepted → IsBootedCounted shelf old new host accepted (memory (opened_by e))
+    answered_counted e so ok = counted_as accepted (memory (opened_by e)) (λ on clean t told. (refl, refl, λ n of. opened_counts e n ok (subst (IsEndCounted shelf old new n) so of)))
 
-    -- in the end, by what is so of each that ends so
-    pub ends_here : (P : Tale → Tale → Type 0) → ((t u : Tale) → IsQuiet (place_of host.home) t u → BootEnds (calls host.home.drive.0) made (site_of host) host.own answer t u → P t u)
-        → Moments (PlaceMoment (told_site host sizes ready at at_is)) a b → Ends (BootEnds (calls at.drive.0) made (told_site host sizes ready at at_is) host.own answer) a b → Ends P a b
-    ends_here P so moments ends =
-        ends_both (PlaceMoment (site_of host)) (BootEnds (calls host.home.drive.0) made (site_of host) host.own answer) P a b (λ t u moment end. so t u moment.quiet end)
-        (moments_end (PlaceMoment (site_of host)) a b (moments_here moments)) (here host sizes ready at at_is (λ s. Ends (BootEnds (calls s.at.drive.0) made s host.own answer) a b) ends)
+    pub over_counted : (over : Ended) (next : Memory) → IsBootedCounted shelf old new host (Over over) next
+    over_counted over next = counted_as (Over over) next (λ ok. absurd (cc (ok)))
 
--- no call failed on a drive that isn't one of these, where none was made but on them
-pub own_still : {S : Type 0} (shelf : Ghosts S) (old new : S) (own : List DriveNo) → KeptAmong shelf old new own → (drive : DriveNo) → (Contains own drive → ⊥) → (DriveFailures shelf old new drive.0).none
-own_still shelf old new own kept drive other = kept.others (OnDrive drive.0) (λ among.
-    let number : drive.0 ≡ among.0.0 = (let is = among.2 in cc is) in
-    let same : among.0 ≡ drive = λ i. record { 0 = (sym number) i } in
-    other (subst (Contains own) same among.1))
+    pub empty_counted : answer.end ≡ end.Empty → IsBootedCounted shelf old new host accepted (memory None)
+    empty_counted so = answered_counted end.Empty so refl
 
--- a boot of the host, by what the database says of it
-module _ (host : Host) (sizes : List ℕ) (ready : IsReady host sizes) (at : PlaceAt) (at_is : at ≡ place_of host.home) (own : List DriveNo) (own_is : own ≡ host.own) (calls : Outcomes) (made : Made) (answer : Booted) (begun : ℕ) (a b : Option Tale)
-    (says : BootAnswer calls host.drives sizes own at answer) (still : (drive : DriveNo) → (Contains own drive → ⊥) → (calls drive.0).none) (moments : Moments (PlaceMoment (told_site host sizes ready at at_is)) a b)
-    (ends : Ends (BootEnds (calls at.drive.0) made (told_site host sizes ready at at_is) own answer) a b) where
-  is : BootAnswer calls host.drives sizes host.own (place_of host.home) answer
-  is = answer_here host sizes ready at at_is a b calls made answer (subst (λ (o : List DriveNo). BootAnswer calls host.drives sizes o at answer) own_is says)
+    -- what was adopted, where it is kept
+    module _ (o : Opened) (so : answer.end ≡ end.Adopted o) (database : Option Opened) (fits : IsFitting host.drives o database) where
+      never : (IsOfGeometry host.drives o.table → ⊥) → (t : Tale) → shelf.tale old ≡ Some t → ⊥
+      never off t told = off (listed_told o so t told)
 
-  still_own : (drive : DriveNo) → (Contains host.own drive → ⊥) → (calls drive.0).none
-  still_own drive other = still drive (λ one_of. other (subst (λ (o : List DriveNo). Contains o drive) own_is one_of))
+      pub fitting_end : EndAs accepted (memory database)
+      fitting_end = by database fits where
+        by : (d : Option Opened) → IsFitting host.drives o d → EndAs accepted (memory d)
+        by (Some kept_one) is_it = subst (λ (x : Opened). EndAs accepted (memory (Some x))) (sym is_it.0) (adopted_end o so)
+        by None off = λ t told. absurd (never off t told)
 
-  all : (P : Tale → Tale → Type 0) → ((t u : Tale) → IsQuiet (place_of host.home) t u → BootEnds (calls host.home.drive.0) made (site_of host) host.own answer t u → P t u) → Ends P a b
-  all P so = ends_here host sizes ready at at_is a b calls made answer P so moments
-      (subst (λ (o : List DriveNo). Ends (BootEnds (calls at.drive.0) made (told_site host sizes ready at at_is) o answer) a b) own_is ends)
+      pub fitting_counted : IsBootedCounted shelf old new host accepted (memory database)
+      fitting_counted = by database fits where
+        by : (d : Option Opened) → IsFitting host.drives o d → IsBootedCounted shelf old new host accepted (memory d)
+        by (Some kept_one) is_it = subst (λ (x : Opened). IsBootedCounted shelf old new host accepted (memory (Some x))) (sym is_it.0) (answered_counted (end.Adopted o) so refl)
+        by None off = counted_as accepted (memory None) (λ ok clean t told. absurd (never off t told))
 
-  pub adopted_all : (newest : Newest) → answer.end ≡ found.Adopted newest → Ends (IsBootEnd calls made host (unbooted begun) accepted (booted_with (Some newest) answer.up answer.clean begun)) a b
-  adopted_all newest so = all _ (λ t u quiet end. adopted_end host calls still_own sizes ready answer is made begun t u quiet end newest so)
+      pub fitting_cause : IsAnsweredBy calls host (memory database)
+      fitting_cause = by database fits where
+        by : (d : Option Opened) → IsFitting host.drives o d → IsAnsweredBy calls host (memory d)
+        by (Some kept_one) is_it = subst (λ (x : Opened). IsAnsweredBy calls host (memory (Some x))) (sym is_it.0) (adopted_cause o so)
+        by None off = unfitting_cause o so
 
-  pub none_all : (answer.end ≡ found.Empty) ⊎ (answer.end ≡ found.Down) → Ends (IsBootEnd calls made host (unbooted begun) accepted (booted_with None answer.up answer.clean begun)) a b
-  none_all (inl so) = all _ (λ t u quiet end. empty_end host calls still_own sizes ready answer is made begun t u quiet end so)
-  none_all (inr so) = all _ (λ t u quiet end. down_end host calls still_own sizes ready answer is made begun t u quiet end so)
-
-  pub lost_all : answer.end ≡ found.Lost → Ends (IsBootEnd calls made host (unbooted begun) (Over (ended.Lost 0 1)) (unbooted begun)) a b
-  lost_all so = all _ (λ t u quiet end. lost_end host calls still_own sizes ready answer is made begun t u quiet end so)
-
-  pub spent_all : answer.end ≡ found.Spent → Ends (IsBootEnd calls made host (unbooted begun) (Over ended.Spent) (unbooted begun)) a b
-  spent_all so = all _ (λ t u quiet end. spent_end host calls still_own sizes ready answer is made begun t u quiet end so)
-
-  pub wanting_all : answer.end ≡ found.Memory → Ends (IsBootEnd calls made host (unbooted begun) (Over ended.Memory) (unbooted begun)) a b
-  wanting_all so = all _ (λ t u quiet end. wanting_end host calls still_own sizes ready answer is made begun t u quiet end so)
-
-  -- by which calls it came to what it opened, to nothing, and to its end where it isn't answered
-  caused : (e : BootEnd) → answer.end ≡ e → HasBootCause (calls host.home.drive.0) e
-  caused e so = subst (HasBootCause (calls host.home.drive.0)) so is.place.cause
-
-  answered_by : (opened : Option Newest) → IfSome opened (λ newest. (home_calls host calls).none × (has_drive answer.up host.home.drive ≡ true)) → IsAnsweredBy calls host (booted_with opened answer.up answer.clean begun)
-  answered_by opened cause = record {
-    own = own_calls host calls still_own sizes ready answer is;
-    up = up_by host calls still_own sizes ready answer is;
-    down = λ off. caused found.Down (is.here off);
-    opened = cause;
-  }
-
-  pub adopted_cause : (newest : Newest) → answer.end ≡ found.Adopted newest → IsAnsweredBy calls host (booted_with (Some newest) answer.up answer.clean begun)
-  adopted_cause newest so = answered_by (Some newest) (caused (found.Adopted newest) so, up_here host calls still_own sizes ready answer is (λ other. cc (so, other)))
-
-  pub none_cause : IsAnsweredBy calls host (booted_with None answer.up answer.clean begun)
-  none_cause = answered_by None tt
-
-  ended_by : (end : Ended) → HasEndCause (home_calls host calls) end → IsEndedBy calls host end
-  ended_by end cause = record { own = own_calls host calls still_own sizes ready answer is; cause = cause }
-
-  pub lost_cause : answer.end ≡ found.Lost → IsEndedBy calls host (ended.Lost 0 1)
-  lost_cause so = ended_by (ended.Lost 0 1) (caused found.Lost so, refl, refl)
-
-  pub spent_cause : answer.end ≡ found.Spent → IsEndedBy calls host ended.Spent
-  spent_cause so = ended_by ended.Spent (caused found.Spent so)
-
-  pub wanting_cause : answer.end ≡ found.Memory → IsEndedBy calls host ended.Memory
-  wanting_cause so = ended_by ended.Memory (caused found.Memory so)
-
-  pub table_well : (newest : Newest) → answer.end ≡ found.Adopted newest → IsWell host (booted_with (Some newest) answer.up answer.clean begun)
-  table_well newest so = record { table = subst (λ (x : BootEnd). IfAdopted x (λ n. IsTableAt host.drives (with_blocks (place_of host.home) n.blocks).place n.table)) so is.place.table }
+      pub fitting_well : IsWell host (memory database)
+      fitting_well = by database fits where
+        by : (d : Option Opened) → IsFitting host.drives o d → IsWell host (memory d)
+        by (Some kept_one) is_it = subst (λ (x : Opened). IsWell host (memory (Some x))) (sym is_it.0) (adopted_well o so is_it.1)
+        by None off = record { database = tt }

@@ -1,47 +1,239 @@
--- What a commit of the open database answers and leaves, told of the host, by the answer of the database.
-use Rattle.mdv_engine_law.specs.Line.{ToDo}
-use Rattle.std.proofs.Common.{◌≡◌, Option, Some, refl, sym, subst, ap, ◌∙◌}
-use Rattle.mdv_engine.specs.Below.{Outcomes, VolId, SliceName, CameTo, Refusal, Ends, Tale, Change, Newest, Changed, Answer, Host, key_of, Memory, kept_at, CarriedTo, Knows}
-use Rattle.mdv_table.specs.declared.change.Change.TheVariants as change
-use Rattle.mdv_words.specs.declared.command.Command.TheVariants.{MakeStripe}
-use Rattle.mdv_engine_law.specs.Answers.{refusing}
+-- A commit that the engine makes of its store, put together: its moments, its end, its answer and its calls.
+use Rattle.std.proofs.Common.{◌≡◌, ◌⊎◌, inl, inr, ◌≤◌, ◌<◌, ◌+◌, ◌*◌, ℕ, Bool, List, [], ◌∷◌, length, Contains, Option, Some, Ok, Err, refl, sym, subst, ap, ◌∙◌, arith}
+use Rattle.std.proofs.Math.Nat.{mul-le-mul_right}
+use Rattle.std.proofs.lemmas.Bool.{leb-true}
+use Rattle.std.specs.Prelude.{IsTrue, MatchBool}
+use Rattle.mdv_record.proofs.Rooms.{room_most}
+use Rattle.mdv_table.specs.Plan.{places_of}
+use Rattle.mdv_shelf.proofs.Between.{between_wider}
+use Rattle.mdv_shelf.proofs.Moments.{ends_both, moments_end, moments_weaker}
+use Rattle.mdv_shelf.specs.Between.{RoseByAtLeast}
+use Rattle.mdv_shelf.specs.Calls.{OnDrive}
+use Rattle.mdv_shelf.specs.Drives.{KeptAmong}
+use Rattle.mdv_shelf.specs.Made.{made_of}
+use Rattle.mdv_shelf.specs.Shelves.{AtEachTale, AtEnd, DriveFailures}
+use Rattle.mdv_shelf.specs.declared.shelf.Shelf.{Ghosts}
+use Rattle.mdv_store.proofs.Losing.{left_or_lost, pass_wrote}
+use Rattle.mdv_store.specs.Commit as commit
+use Rattle.mdv_store.specs.Commit.{CommitAnswer, CommitDone, CommitMoment}
+use Rattle.mdv_store.specs.Counts.{ArePassCounted, IsCommitCounted, drives_lost}
+use Rattle.mdv_store.specs.Seats.{AreLeft, TakesSlot}
+use Rattle.mdv_store.specs.Text.{blocks_for}
+use Rattle.mdv_store.specs.declared.store.CommitFault.TheVariants as unwritten
+use Rattle.mdv_words.specs.declared.command.Command.TheVariants as command
+use Rattle.mdv_engine_law.specs.Answers.{accepted, refusing}
+use Rattle.mdv_engine_law.specs.Commands as came
+use Rattle.mdv_engine_law.specs.Commands.{blame_of}
+use Rattle.mdv_engine_law.specs.Efforts.{PassCalls}
+use Rattle.mdv_engine_law.specs.Line.{AreCalmBeside, ToDo}
+use Rattle.mdv_engine_law.specs.Replies.{HasAnswerCause, IsAccepted}
 use Rattle.mdv_engine_law.specs.declared.answer.Answer.TheVariants.{Over}
 use Rattle.mdv_engine_law.specs.declared.answer.Ended.TheVariants as ended
-use Rattle.mdv_engine_law.proofs.Refusing.{refused_still, spent_still}
-use Rattle.mdv_engine.specs.Ends.{CommandEnd}
-use Rattle.mdv_engine.proofs.Ending.{other_ends}
+use Rattle.mdv_engine_law.specs.declared.answer.Outcome.TheVariants as outcome
+use Rattle.mdv_engine_law.proofs.Plain.{numbers_plain}
+use Rattle.mdv_engine_law.proofs.Refusing.{opened_has, spent_still}
+use Rattle.mdv_engine.specs.Below.{Answer, AreLaid, CameTo, CarriedTo, CarryMoment, Change, Changed, CommitFault, Created, Geometry, IsOfGeometry, IsOpenedAt, IsPlainAnswer, IsReady, Knows, MakeStripe, Memory, Opened, Outcomes, ReplicaFull, Seat, SliceName, Table, Tale, TooLong, VolId, active_of, drives_of, is_half_active, kept_at, key_of, record_room, record_text}
+use Rattle.mdv_engine.specs.Counts.{IsCommandCounted}
+use Rattle.mdv_engine.specs.Ends.{ChangeMoments, HasAnswered, StripeEnds}
+use Rattle.mdv_engine.specs.Engine.{IsHeldBy, IsLostOnSite, IsNextTable, IsWell, commit_answer}
+use Rattle.mdv_engine.specs.declared.engine.Engine.{Engine}
+use Rattle.mdv_engine.proofs.Blocks.{refused_carried}
+use Rattle.mdv_engine.proofs.Committing as committing
+use Rattle.mdv_engine.proofs.Committing.{IsChanging, next_of, with_open}
+use Rattle.mdv_engine.proofs.Creating.{calm_beside}
+use Rattle.mdv_engine.proofs.Ending.{command_ends, no_creation, other_ends}
+use Rattle.mdv_engine.proofs.Losing.{lost_on_site}
+use Rattle.mdv_engine.proofs.Makes.{moved}
 
--- what is in memory, where another database is open
-pub opened_as : (old memory : Memory) → old ≡ memory → (n m : Newest) → n ≡ m → record old { opened = Some n } ≡ record memory { opened = Some m }
-opened_as old memory same n m is = subst (λ (x : Memory). record old { opened = Some n } ≡ record x { opened = Some m }) same (ap (λ (x : Newest). record old { opened = Some x }) is)
+same_most : (n : ℕ) → n ≤ n + 1
+same_most n = omega arith
 
--- where the same one is
-pub opened_still : (old memory : Memory) → old ≡ memory → (n m : Newest) → n ≡ m → memory.opened ≡ Some m → record old { opened = Some n } ≡ memory
-opened_still old memory same n m is opened = opened_as old memory same n m is ∙ subst (λ (o : Option Newest). record memory { opened = o } ≡ memory) opened refl
+half_some : (seats : List Seat) → 1 ≤ length seats → IsTrue (is_half_active seats) → 0 < active_of seats
+half_some seats some half = (let twice = leb-true (length seats) (2 * active_of seats) half in omega (arith, some, twice))
 
-module _ (host : Host) (memory : Memory) (volume : VolId) (slice : SliceName) where
-  module _ (a b : Option Tale) (answer result : Answer) (result_is : result ≡ answer) (after real : Memory) (real_is : real ≡ after) where
-    abbrev Committed : Outcomes → Answer → Memory → Type 0
-    Committed calls answer after = Ends (λ t u. Knows host memory t → CameTo calls host (kept_at memory t) (MakeStripe volume slice) answer (kept_at after u)) a b
+text_few : (next old : Table) → length (record_text next) ≤ commit.room_in old → 2 + blocks_for (length (record_text next)) ≤ 4096
+text_few next old fits = (let most = room_most (places_of old.plan.lists) in omega (arith, fits, most))
 
-    abbrev Carried : Answer → Memory → Type 0
-    Carried answer after = Ends (CarriedTo host (ToDo (Changed (key_of host) (change.MakeStripe volume slice))) memory answer after) a b
+-- no more than what a change may make
+pass_most : {S : Type 0} (shelf : Ghosts S) (a b : S) (text least fewer active : ℕ) → fewer ≤ least → 2 + text ≤ 4096 → (made_of shelf a b).within least (6 * active) ((2 + text) * active) → (made_of shelf a b).within fewer (6 * active) (4096 * active)
+pass_most shelf a b text least fewer active lower few took =
+    between_wider shelf.calls shelf.written a b least (6 * active) ((2 + text) * active) fewer (6 * active) (4096 * active) lower (omega arith) (mul-le-mul_right active few) took
 
-    -- what the commit answers, and leaves in memory
-    commit_as : (calls : Outcomes) → Committed calls answer after → Committed calls result real
-    commit_as calls is = subst (λ (x : Answer). Committed calls x real) (sym result_is) (subst (λ (m : Memory). Committed calls answer m) (sym real_is) is)
+module _ {S : Type 0} (shelf : Ghosts S) (a b : S) (v : Engine) (ready : IsReady v.host (shelf.sizes a)) (well : IsWell v.host v.state) (o : Opened) (opened : v.state.opened ≡ Some o) (next : Table) where
+  held : IsHeldBy v.host o
+  held = opened_has v.state o (IsHeldBy v.host) opened well.database
 
-    carried_as : Carried answer after → Carried result real
-    carried_as is = subst (λ (x : Answer). Carried x real) (sym result_is) (subst (λ (m : Memory). Carried answer m) (sym real_is) is)
+  some_active : 0 < active_of o.seats
+  some_active = half_some o.seats held.some held.half
 
-    pub end_as : (calls : Outcomes) → Committed calls answer after → Carried answer after → Ends (CommandEnd calls (record { host = host; state = memory }) (MakeStripe volume slice) result (record { host = host; state = real })) a b
-    end_as calls is carried =
-        other_ends calls (record { host = host; state = memory }) (MakeStripe volume slice) result (record { host = host; state = real }) a b (commit_as calls is) (carried_as carried) (λ on u. tt) (λ active listed lost u. tt)
+  pub laid : AreLaid (shelf.sizes a) o.seats
+  laid = subst (λ (s : _). AreLaid s o.seats) ready.on_shelf.sizes_are held.laid
 
--- nothing was done
-module _ (host : Host) (memory : Memory) (change : Change) (a b : Option Tale) (same : b ≡ a) where
-  pub refused_carried : (refusal : Refusal) → Ends (CarriedTo host (ToDo (Changed (key_of host) change)) memory (refusing refusal) memory) a b
-  refused_carried refusal t start = (t, same ∙ start, refused_still host (ToDo (Changed (key_of host) change)) memory memory t refl refl refl refusal)
+  module _ (new : Opened) where
+    abbrev after : Engine
+    after = record { host = v.host; state = with_open v.state new }
 
-  pub spent_carried : Ends (CarriedTo host (ToDo (Changed (key_of host) change)) memory (Over ended.Spent) memory) a b
-  spent_carried t start = (t, same ∙ start, spent_still host (ToDo (Changed (key_of host) change)) memory memory t)
+    -- it is as it was
+    as_before : new ≡ o → after ≡ v
+    as_before same = (λ i. record { host = v.host; state = record v.state { opened = (ap (λ (x : Opened). Some x) same ∙ sym opened) i } })
+
+    module _ (kept : KeptAmong shelf a b (drives_of o.seats)) (moments : AtEachTale shelf (CommitMoment o next) a b) where
+      calm : AreCalmBeside (drives_of o.seats) (DriveFailures shelf a b)
+      calm = calm_beside shelf a b (drives_of o.seats) kept
+
+      pub change_moments : (change : Change) → IsNextTable v.host v.state change next → ChangeMoments shelf a b v change
+      change_moments change is = moments_weaker (CommitMoment o next) (CarryMoment v.host (ToDo (Changed (key_of v.host) change)) v.state) (shelf.tale a) (shelf.tale b)
+          (λ t m moment. committing.commit_moment v.host (shelf.sizes a) ready v.state o opened held next t m moment change (next_of v.host v.state change next o opened is)) moments
+
+      module _ (volume : VolId) (slice : SliceName) (is : IsNextTable v.host v.state (MakeStripe volume slice) next) where
+        chosen : IsChanging v.host o (MakeStripe volume slice) next
+        chosen = next_of v.host v.state (MakeStripe volume slice) next o opened is
+
+        -- of those who were at least half before it is lost now
+        lost_now : commit.IsLostNow (DriveFailures shelf a b) o new next ⊎ commit.WasLost o new → commit.IsLostNow (DriveFailures shelf a b) o new next
+        lost_now (inl lost) = lost
+        lost_now (inr was) = absurd (let yes = held.half in let no = was.few in cc (yes, no))
+
+        abbrev Shown : Tale → Tale → Type 0
+        Shown t u = (g : Geometry) → IsOfGeometry g next → IsOpenedAt g o t → IsOpenedAt g (record new { mark = commit.next_mark o.mark; table = next }) u
+
+        abbrev Comes : Answer → Memory → Tale → Tale → Type 0
+        Comes answer memory t u = Knows v.host v.state t → CameTo (DriveFailures shelf a b) v.host (kept_at v.state t) (command.MakeStripe volume slice) answer (kept_at memory u)
+
+        abbrev Carries : Answer → Memory → Tale → Tale → Type 0
+        Carries answer memory = CarriedTo v.host (ToDo (Changed (key_of v.host) (MakeStripe volume slice))) v.state answer memory
+
+        pub done_ends : commit.IsCommitted (DriveFailures shelf a b) o new next → AtEnd shelf (CommitDone o new next) a b → StripeEnds shelf a b v volume slice accepted after
+        done_ends done ends = command_ends (DriveFailures shelf a b) v (command.MakeStripe volume slice) outcome.Ok after (shelf.tale a) (shelf.tale b)
+            (ends_both (CommitMoment o next) (CommitDone o new next) (Comes accepted (with_open v.state new)) (shelf.tale a) (shelf.tale b)
+            (λ t u moment end. committing.done_line v.host (shelf.sizes a) ready v.state o opened held next volume slice chosen t u moment (DriveFailures shelf a b) new done calm end)
+            (moments_end (CommitMoment o next) (shelf.tale a) (shelf.tale b) moments) ends)
+            (ends_both (CommitMoment o next) (CommitDone o new next) (Carries accepted (with_open v.state new)) (shelf.tale a) (shelf.tale b)
+            (λ t u moment end. committing.done_carried v.host (shelf.sizes a) ready v.state o opened held next volume slice chosen t u moment (DriveFailures shelf a b) new done calm end)
+            (moments_end (CommitMoment o next) (shelf.tale a) (shelf.tale b) moments) ends)
+            (λ on u. tt)
+
+        lost_ends : (active listed : ℕ) → CommitAnswer shelf a b o new next (Err (unwritten.Lost active listed)) → StripeEnds shelf a b v volume slice (Over (ended.Lost active listed)) after
+        lost_ends active listed said = other_ends (DriveFailures shelf a b) v (command.MakeStripe volume slice) (Over (ended.Lost active listed)) after (shelf.tale a) (shelf.tale b)
+            (ends_both (CommitMoment o next) Shown (Comes (Over (ended.Lost active listed)) (with_open v.state new)) (shelf.tale a) (shelf.tale b)
+            (λ t u moment shown known. committing.lost_line v.host (shelf.sizes a) ready v.state o opened held next volume slice chosen t u moment (DriveFailures shelf a b) active listed new (lost_now said.came.2) said.came.0 said.came.1 calm
+            (shown v.host.drives chosen.of_geometry) (with_open v.state new) known)
+            (moments_end (CommitMoment o next) (shelf.tale a) (shelf.tale b) moments) (said.shown held.half))
+            (moments_end (Carries (Over (ended.Lost active listed)) (with_open v.state new)) (shelf.tale a) (shelf.tale b)
+            (moments_weaker (CommitMoment o next) (Carries (Over (ended.Lost active listed)) (with_open v.state new)) (shelf.tale a) (shelf.tale b)
+            (λ t u moment. committing.lost_carried v.host (shelf.sizes a) ready v.state o opened held next volume slice chosen t u moment (DriveFailures shelf a b) active listed (with_open v.state new)) moments))
+            (λ on u. absurd on) (λ one two is u. tt)
+
+        over_ends : (fault : TooLong) → commit.IsOver o new next fault → shelf.tale b ≡ shelf.tale a → ((drive : ℕ) → (DriveFailures shelf a b drive).none) → StripeEnds shelf a b v volume slice (refusing (ReplicaFull fault.bytes fault.room)) after
+        over_ends fault long same none = subst (λ (e : Engine). StripeEnds shelf a b v volume slice (refusing (ReplicaFull fault.bytes fault.room)) e) (sym (as_before long.is))
+            (command_ends (DriveFailures shelf a b) v (command.MakeStripe volume slice) (outcome.Refused (ReplicaFull fault.bytes fault.room)) v (shelf.tale a) (shelf.tale b)
+            (λ t start. (t, same ∙ start, λ known. came.refused none (ReplicaFull fault.bytes fault.room) (committing.long_refusal v.host v.state o opened volume slice next chosen new fault long) (refl, record { memory = refl; content = λ drive block. refl })))
+            (refused_carried v.host (ToDo (Changed (key_of v.host) (MakeStripe volume slice))) v.state (shelf.tale a) (shelf.tale b) same (ReplicaFull fault.bytes fault.room))
+            (λ on u. tt))
+
+        spent_ends : commit.IsSpent o new next → shelf.tale b ≡ shelf.tale a → ((drive : ℕ) → (DriveFailures shelf a b drive).none) → StripeEnds shelf a b v volume slice (Over ended.Spent) after
+        spent_ends spent same none = subst (λ (e : Engine). StripeEnds shelf a b v volume slice (Over ended.Spent) e) (sym (as_before spent.is))
+            (other_ends (DriveFailures shelf a b) v (command.MakeStripe volume slice) (Over ended.Spent) v (shelf.tale a) (shelf.tale b)
+            (λ t start. (t, same ∙ start, λ known. came.over ended.Spent (committing.free_of v.host v.state o opened volume slice next chosen spent.fits) refl (none, o, opened, spent.spent, record { memory = refl; content = λ drive block. refl })))
+            (λ t start. (t, same ∙ start, spent_still v.host (ToDo (Changed (key_of v.host) (MakeStripe volume slice))) v.state v.state t))
+            (λ on u. absurd on) (λ one two is u. tt))
+
+        -- by the fault
+        unwritten_by : (fault : CommitFault) → CommitAnswer shelf a b o new next (Err fault) → IsCommitCounted shelf a b (length (record_text next)) o.seats new.seats (Err fault) → StripeEnds shelf a b v volume slice (commit_answer fault) after
+        unwritten_by (unwritten.Lost active listed) said counted = lost_ends active listed said
+        unwritten_by (unwritten.TooLong fault) said counted = over_ends fault said.came (ap shelf.tale counted) (λ drive. ap (λ (s : S). shelf.faults s (OnDrive drive)) counted)
+        unwritten_by unwritten.Spent said counted = spent_ends said.came (ap shelf.tale counted) (λ drive. ap (λ (s : S). shelf.faults s (OnDrive drive)) counted)
+
+        pub uncommitted_ends : (fault : CommitFault) (answer : Answer) → answer ≡ commit_answer fault → CommitAnswer shelf a b o new next (Err fault) → IsCommitCounted shelf a b (length (record_text next)) o.seats new.seats (Err fault)
+            → StripeEnds shelf a b v volume slice answer after
+        uncommitted_ends fault answer is said counted = subst (λ (x : Answer). StripeEnds shelf a b v volume slice x after) (sym is) (unwritten_by fault said counted)
+
+        -- what the answers say whatever the shelf tells
+        abbrev Answered : Answer → Engine → Type 0
+        Answered answer e = HasAnswered (DriveFailures shelf a b) (command.MakeStripe volume slice) v answer e
+
+        never_made : Contains (Changed (key_of v.host) (MakeStripe volume slice) ∷ []) (Created (key_of v.host)) → ⊥
+        never_made has = no_creation (key_of v.host) (Changed (key_of v.host) (MakeStripe volume slice)) (λ same. absurd (cc (same))) has
+
+        well_left : (failed : Outcomes) → IsTrue (is_half_active new.seats) → AreLaid (shelf.sizes b) new.seats → new.key ≡ o.key → IsOfGeometry v.host.drives new.table → AreLeft failed (TakesSlot (commit.next_mark o.mark) (length (record_text next))) o.seats new.seats → IsWell v.host (with_open v.state new)
+        well_left failed enough laid_now keyed listed left = record {
+          database = committing.held_left v.host o new failed (commit.next_mark o.mark) (length (record_text next)) held enough keyed listed left
+              (subst (λ (s : List ℕ). AreLaid s new.seats) (kept.keeps.same_sizes ∙ sym ready.on_shelf.sizes_are) laid_now);
+        }
+
+        pub done_answer : CommitAnswer shelf a b o new next (Ok tt) → Answered accepted after
+        done_answer said = record {
+          plain = tt;
+          cause = (o, opened, calm);
+          lost = λ one two is. absurd (cc (is));
+          free = λ on has. absurd (never_made has);
+          host = refl;
+          well = λ on. well_left (DriveFailures shelf a b) said.came.enough said.laid (ap (λ (x : Opened). x.key) said.came.is) (subst (λ (t : Table). IsOfGeometry v.host.drives t) (sym (ap (λ (x : Opened). x.table) said.came.is)) chosen.of_geometry) said.came.tried.left;
+          begun = same_most v.state.begun;
+        }
+
+        lost_answer : (active listed : ℕ) → CommitAnswer shelf a b o new next (Err (unwritten.Lost active listed)) → Answered (Over (ended.Lost active listed)) after
+        lost_answer active listed said = record {
+          plain = tt;
+          cause = (o, opened, subst (λ (t : Table). came.IsLostCommit (DriveFailures shelf a b) o t active listed) chosen.is (record { new = new; calm = calm; lost = lost_now said.came.2; active_is = said.came.0; listed_is = said.came.1 }));
+          lost = λ one two same. moved (λ (x y : ℕ). IsLostOnSite (DriveFailures shelf a b) v.host x y) active listed one two same
+              (let now = lost_now said.came.2 in
+              lost_on_site (DriveFailures shelf a b) v.host (TakesSlot (commit.next_mark o.mark) (length (record_text next))) o.seats new.seats now.tried.left held.half now.few (λ r has. (held.seated r has).one_of) active listed said.came.0 said.came.1);
+          free = λ on has. absurd on;
+          host = refl;
+          well = λ on. absurd on;
+          begun = same_most v.state.begun;
+        }
+
+        still_answer : (answer : Answer) → IsPlainAnswer answer → HasAnswerCause (blame_of (DriveFailures shelf a b) v.host v.state (command.MakeStripe volume slice)) (Unit {0}) answer → (IsAccepted answer → ⊥) → ((active listed : ℕ) → answer ≡ Over (ended.Lost active listed) → ⊥) → new ≡ o → Answered answer after
+        still_answer answer plain cause never unlost same = subst (λ (e : Engine). Answered answer e) (sym (as_before same))
+            (record { plain = plain; cause = cause; lost = λ one two is. absurd (unlost one two is); free = λ on has. absurd (never on); host = refl; well = λ on. well; begun = same_most v.state.begun })
+
+        unwritten_said : (fault : CommitFault) → CommitAnswer shelf a b o new next (Err fault) → IsCommitCounted shelf a b (length (record_text next)) o.seats new.seats (Err fault) → Answered (commit_answer fault) after
+        unwritten_said (unwritten.Lost active listed) said counted = lost_answer active listed said
+        unwritten_said (unwritten.TooLong fault) said counted = still_answer (refusing (ReplicaFull fault.bytes fault.room)) (numbers_plain fault.bytes fault.room) (λ drive. ap (λ (s : S). shelf.faults s (OnDrive drive)) counted) (λ on. on) (λ one two is. absurd (cc (is))) said.came.is
+        unwritten_said unwritten.Spent said counted = still_answer (Over ended.Spent) tt ((λ drive. ap (λ (s : S). shelf.faults s (OnDrive drive)) counted), tt) (λ on. on) (λ one two is. absurd (cc (is))) said.came.is
+
+        pub uncommitted_answer : (fault : CommitFault) (answer : Answer) → answer ≡ commit_answer fault → CommitAnswer shelf a b o new next (Err fault) → IsCommitCounted shelf a b (length (record_text next)) o.seats new.seats (Err fault) → Answered answer after
+        uncommitted_answer fault answer is said counted = subst (λ (x : Answer). Answered x after) (sym is) (unwritten_said fault said counted)
+
+    -- the calls
+    module _ (volume : VolId) (slice : SliceName) where
+      abbrev Counted : Answer → Type 0
+      Counted answer = IsCommandCounted shelf a b v.host (command.MakeStripe volume slice) answer v.state.opened (Some new)
+
+      abbrev CountedAt : Option Opened → Answer → Type 0
+      CountedAt before answer = IsCommandCounted shelf a b v.host (command.MakeStripe volume slice) answer before (Some new)
+
+      -- one call at least, for a place of those that were active is, or a drive was left
+      pass_fits : (least : ℕ) → least ≤ 1 → length (record_text next) ≤ record_room o → ArePassCounted shelf a b 6 (2 + blocks_for (length (record_text next))) o.seats new.seats → (made_of shelf a b).within least (6 * active_of o.seats) (4096 * active_of o.seats)
+      pass_fits least lower fits counted =
+          let one = left_or_lost 6 o.seats new.seats (omega arith) some_active in
+          pass_most shelf a b (blocks_for (length (record_text next))) (6 * active_of new.seats + drives_lost o.seats new.seats) least (active_of o.seats) (omega (arith, lower, one)) (text_few next o.table fits) counted.some
+
+      pub done_counted : CommitAnswer shelf a b o new next (Ok tt) → IsCommitCounted shelf a b (length (record_text next)) o.seats new.seats (Ok tt) → Counted accepted
+      done_counted said counted = subst (λ (before : Option Opened). CountedAt before accepted) (sym opened) (record {
+        exactly = subst (λ (t : Table). PassCalls (made_of shelf a b) (blocks_for (length (record_text t))) o.seats new.seats) (sym (ap (λ (x : Opened). x.table) said.came.is)) (record {
+          all = λ same. counted.all some_active same;
+          some = counted.some;
+          wrote = pass_wrote shelf a b 6 (2 + blocks_for (length (record_text next))) o.seats new.seats (omega arith) some_active counted;
+        });
+        most = pass_fits 0 (omega arith) said.came.tried.fits counted;
+        wrote = subst (λ (t : Table). RoseByAtLeast ((2 + blocks_for (length (record_text t))) * active_of new.seats + drives_lost o.seats new.seats) (shelf.written a) (shelf.written b)) (sym (ap (λ (x : Opened). x.table) said.came.is)) counted.wrote;
+      })
+
+      lost_counted : (active listed : ℕ) → CommitAnswer shelf a b o new next (Err (unwritten.Lost active listed)) → IsCommitCounted shelf a b (length (record_text next)) o.seats new.seats (Err (unwritten.Lost active listed)) → Counted (Over (ended.Lost active listed))
+      lost_counted active listed said counted = subst (λ (before : Option Opened). CountedAt before (Over (ended.Lost active listed))) (sym opened)
+          (pass_fits 1 (omega arith) (fits said.came.2) (subst (λ (h : Bool). MatchBool h (ArePassCounted shelf a b 6 (2 + blocks_for (length (record_text next))) o.seats new.seats) (b ≡ a)) held.half counted))
+        where
+          fits : commit.IsLostNow (DriveFailures shelf a b) o new next ⊎ commit.WasLost o new → length (record_text next) ≤ record_room o
+          fits (inl lost) = lost.tried.fits
+          fits (inr was) = absurd (let yes = held.half in let no = was.few in cc (yes, no))
+
+      unwritten_calls : (fault : CommitFault) → CommitAnswer shelf a b o new next (Err fault) → IsCommitCounted shelf a b (length (record_text next)) o.seats new.seats (Err fault) → Counted (commit_answer fault)
+      unwritten_calls (unwritten.Lost active listed) said counted = lost_counted active listed said counted
+      unwritten_calls (unwritten.TooLong fault) said counted = counted
+      unwritten_calls unwritten.Spent said counted = counted
+
+      pub uncommitted_counted : (fault : CommitFault) (answer : Answer) → answer ≡ commit_answer fault → CommitAnswer shelf a b o new next (Err fault) → IsCommitCounted shelf a b (length (record_text next)) o.seats new.seats (Err fault) → Counted answer
+      uncommitted_counted fault answer is said counted = subst Counted (sym is) (unwritten_calls fault said counted)

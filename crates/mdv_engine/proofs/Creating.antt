@@ -1,111 +1,257 @@
 -- What a creation of the host's database leaves, told of the host.
-use Rattle.mdv_engine_law.specs.Line.{ToMake}
-use Rattle.mdv_engine_law.specs.Home.{replica_area}
-use Rattle.mdv_engine_law.specs.Commands as came
-use Rattle.std.proofs.Common.{◌≡◌, ◌≤◌, ◌+◌, ℕ, Bool, true, false, List, Option, Some, None, refl, subst, ap, ◌∙◌}
-use Rattle.mdv_engine.specs.Below.{AreCalm, FailedOn, Outcomes, SliceName, Create, Identity, IoFault, OutOfMemory, place_of, with_blocks, PlaceAt, Moments, Ends, Tale, IsCreated, Log, is_firm, Site, Newest, Anything, GoesMaking, IsOpened, ShowsNothing, IsSafe, first_newest, first_table, Host, IsReady, key_of, site_of, identity_of, Memory, CameTo, IsAllowed, kept_at, CarriedTo, CarryMoment, Knows}
-use Rattle.mdv_shelf.proofs.Moments.{moments_both, moments_weaker, moments_end, ends_both}
+use Rattle.std.proofs.Common.{◌≡◌, ◌⊎◌, inl, inr, ◌≤◌, ◌<◌, ◌+◌, ◌*◌, ◌^◌, ℕ, Bool, true, List, [], length, Option, Some, None, Ok, Err, Contains, refl, sym, subst, ap, ◌∙◌, arith}
+use Rattle.std.specs.Prelude.{nat_le}
+use Rattle.std.proofs.lemmas.Bool.{le-leb}
+use Rattle.std.proofs.lemmas.List.Elements.{All-contains}
+use Rattle.mdv_base.specs.Name.{IsName}
+use Rattle.mdv_databases.proofs.Creating as databases
+use Rattle.mdv_databases.specs.Creating.{IsCreation}
+use Rattle.mdv_databases.specs.Going.{GoOn}
+use Rattle.mdv_volumes.specs.Databases.{Database, with_creation}
+use Rattle.mdv_store.specs.Commit.{AnyLog}
+use Rattle.mdv_home.proofs.Read.{read_table}
+use Rattle.mdv_name.specs.Entry.{IsHostName}
+use Rattle.mdv_replica.specs.Forms.{name_of_key}
+use Rattle.mdv_shelf.proofs.Blocks.{both_ways}
+use Rattle.mdv_shelf.proofs.Moments.{moments_end}
+use Rattle.mdv_shelf.specs.Drives.{IsAmong, KeptAmong}
+use Rattle.mdv_shelf.specs.Shelves.{AtEnd, DriveFailures}
+use Rattle.mdv_shelf.specs.declared.shelf.Shelf.{Ghosts}
+use Rattle.mdv_shown.proofs.Elsewhere.{places_step}
+use Rattle.mdv_shown.specs.Site.{size_on}
+use Rattle.mdv_standing.specs.Creating.{first_mark}
+use Rattle.mdv_store.proofs.Asked.{few_of}
+use Rattle.mdv_store.proofs.Adoptions.{same_identity_self}
+use Rattle.mdv_store.proofs.Formed.{made_opened}
+use Rattle.mdv_store.proofs.Given.{IsOwner}
+use Rattle.mdv_store.proofs.Reading.{same_identity_is}
+use Rattle.mdv_store.proofs.Seated.{replica_is}
+use Rattle.mdv_store.proofs.Sitting.{left_count, left_replica}
+use Rattle.mdv_store.proofs.Spotting.{asked_active, asked_length}
+use Rattle.mdv_store.specs.Create as create
+use Rattle.mdv_store.specs.Create.{AreAsked, CreateEnds, CreateMoment, MayForm, StayFormed, WereFormed, drives_asked, replica_on, seats_asked, table_of}
+use Rattle.mdv_store.specs.Blank.{IsBlank}
+use Rattle.mdv_store.specs.Seats.{AreLeft, AreTheirs, TakesSlot, active_of}
+use Rattle.mdv_store.specs.declared.creating.CreateFault.TheVariants as unmade
+use Rattle.mdv_survey.specs.Choice.{same_identity}
+use Rattle.mdv_words.specs.Line.{IsCount, IsLength}
 use Rattle.mdv_engine_law.specs.Answers.{accepted, refusing}
+use Rattle.mdv_engine_law.specs.Commands as came
+use Rattle.mdv_engine_law.specs.Line.{AreCalmBeside, ToMake}
+use Rattle.mdv_engine_law.specs.Refusals.{Case}
 use Rattle.mdv_engine_law.specs.declared.answer.Answer.TheVariants.{Over}
 use Rattle.mdv_engine_law.specs.declared.answer.Ended.TheVariants as ended
-use Rattle.mdv_engine_law.proofs.Keeping.{created, same_beside, uncreated}
-use Rattle.mdv_engine_law.proofs.Making.{Makes, making_moment, made, unmade, made_or_lost}
+use Rattle.mdv_engine_law.proofs.Allowed.{allowed_clean, allowed_none}
+use Rattle.mdv_engine_law.proofs.Keeping.{created, leaves_places, uncreated}
+use Rattle.mdv_engine_law.proofs.Making as making
+use Rattle.mdv_engine_law.proofs.Places.{asked_kept}
+use Rattle.mdv_engine_law.proofs.Placing.{asked, asked_on_site, asked_placed, asked_within}
 use Rattle.mdv_engine_law.proofs.Refusing.{refused_still}
-use Rattle.mdv_shelf.specs.Tale.{last}
-use Rattle.mdv_store_law.specs.Standing.{ShowsReplica}
-use Rattle.mdv_shelf.proofs.Everywhere.{last_image}
-use Rattle.mdv_engine.proofs.Sites.{IsQuietIn, here, replica_here, told_site}
+use Rattle.mdv_engine.specs.Below.{AreCalm, AreLaid, CameTo, CarriedTo, CarryMoment, Create, DriveNo, Ends, HasNoTable, Host, Identity, IoFault, IsAllowed, IsOfGeometry, IsOpenedAt, IsReady, Key, KeptOutside, Knows, Memory, OnDrive, Opened, OutOfMemory, Outcomes, Replica, Seat, Site, SliceLine, SliceName, Tale, identity_of, kept_at, key_of, lines_asked, places_area, record_text, replicas_of}
+use Rattle.mdv_engine.specs.Ends.{made_at}
+use Rattle.mdv_engine.specs.Engine.{IsHeldBy, IsLostOnSite, LiesOn}
+use Rattle.mdv_engine.proofs.Losing.{lost_on_site}
+
+-- no call failed on a drive beside those on which some were made
+pub calm_beside : {S : Type 0} (shelf : Ghosts S) (a b : S) (drives : List DriveNo) → KeptAmong shelf a b drives → AreCalmBeside drives (DriveFailures shelf a b)
+calm_beside shelf a b drives kept drive other = kept.others (OnDrive drive.0) (λ among. other (same among)) where
+  same : IsAmong drives (OnDrive drive.0) → Contains drives drive
+  same (d, one_of, is) = let number : drive.0 ≡ d.0 = cc (is) in subst (λ (x : DriveNo). Contains drives x) (λ i. record { 0 = sym number i }) one_of
+
+identities : (a b : Identity) → (a ≡ b) ⊎ (a ≡ b → ⊥)
+identities a b = elim (both_ways (same_identity a b)) [
+  | inl is ↦ inl (same_identity_is a b is)
+  | inr not ↦ inr (λ (same : a ≡ b). absurd (let itself : same_identity a b ≡ true = subst (λ (x : Identity). same_identity a x ≡ true) same (same_identity_self a) in cc (itself, not)))
+]
 
 -- what is in memory once a creation was begun, and once it made a database
 abbrev pub begun : Memory → Memory
 begun memory = record memory { begun = memory.begun + 1 }
 
-abbrev pub with_new : Host → ℕ → Memory → Memory
-with_new host blocks memory = record memory { opened = Some (first_newest (site_of host).at blocks); begun = memory.begun + 1 }
+abbrev pub with_new : Memory → Opened → Memory
+with_new memory o = record memory { opened = Some o; begun = memory.begun + 1 }
 
-module _ (host : Host) (sizes : List ℕ) (ready : IsReady host sizes) (at : PlaceAt) (at_is : at ≡ place_of host.home) (memory : Memory) (blocks : ℕ) (none : memory.opened ≡ None) (clean : memory.clean ≡ true) (a b : Option Tale)
-    (quiet : Moments (IsQuietIn at blocks) a b) where
-  abbrev site : Site
-  site = told_site host sizes ready at at_is
+one_more : (n : ℕ) → n < n + 1
+one_more n = omega arith
 
-  abbrev to_host : (P : Site → Type 0) → P site → P (site_of host)
-  to_host = here host sizes ready at at_is
+-- the host's name is one
+pub owner : (host : Host) (sizes : List ℕ) → IsReady host sizes → (number : ℕ) → number < 2 ^ 32 → IsOwner (key_of host) (identity_of host number)
+owner host sizes ready number small = record {
+  fresh = ready.fresh;
+  number = small;
+  name = subst (λ (k : Key). IsName (name_of_key k)) (sym ready.key) (All-contains IsHostName ready.table.hosts ready.name (read_table ready.text ready.table ready.read).hosts ready.one_of).0;
+}
+
+-- A creation that nothing refuses, on some slices.
+module _ (host : Host) (sizes : List ℕ) (ready : IsReady host sizes) (memory : Memory) (slices : List SliceName) (force : Bool) (count blocks : ℕ) (free : IsAllowed (record { host = host; memory = memory }) (Create slices force count blocks))
+    (some : 1 ≤ length slices) (more : IsCount count) (sized : IsLength blocks) where
+  abbrev case : Case
+  case = record { host = host; memory = memory }
+
+  abbrev key : Key
+  key = key_of host
 
   abbrev identity : Identity
   identity = identity_of host memory.begun
 
-  abbrev pub Goes : (Log → Type 0) → Tale → Tale → Type 0
-  Goes After t m = ShowsNothing site t → GoesMaking site identity After t m
+  abbrev lines : List SliceLine
+  lines = lines_asked host slices
 
-  makes : (After : Log → Type 0) (t m : Tale) → Goes After t m → Makes host memory After t m
-  makes After t m goes = to_host (λ s. ShowsNothing s t → GoesMaking s identity After t m) goes
+  abbrev seats : List Seat
+  seats = seats_asked key identity lines count blocks
 
-  pub making_moments : Moments (Goes Anything) a b → Moments (CarryMoment host (ToMake (key_of host) blocks) memory) a b
-  making_moments goes = moments_weaker _ (CarryMoment host (ToMake (key_of host) blocks) memory) a b
-      (λ t m both. making_moment host sizes ready memory none clean blocks t m (replica_here host sizes ready at at_is blocks t m both.0) both.0.0.quiet (makes Anything t m both.1))
-      (moments_both (IsQuietIn at blocks) (Goes Anything) a b quiet goes)
+  pub are_asked : AreAsked sizes lines count blocks
+  are_asked = asked case sizes ready slices force count blocks free some more.0 sized.0 sized.1
 
-  -- it was made
-  module _ (slice : SliceName) (force : Bool) (free : IsAllowed (record { host = host; memory = memory }) (Create slice force blocks)) (safe : Ends (λ t u. IsSafe site blocks identity u) a b) where
-    pub made_creation : (calls : Outcomes) → AreCalm calls → (next : Memory) → next ≡ with_new host blocks memory → Ends (λ t u. Knows host memory t → CameTo calls host (kept_at memory t) (Create slice force blocks) accepted (kept_at next u)) a b
-    made_creation calls calm next next_is = ends_both (IsQuietIn at blocks) (λ t u. IsSafe site blocks identity u) _ a b
-        (λ t u q s. λ known. came.done calm free (
-          refl,
-          created host memory next t u blocks (first_table (with_blocks (site_of host).at blocks).place) (replica_here host sizes ready at at_is blocks t u q) next_is refl refl (to_host (λ x. IsSafe x blocks identity u) s),
-        ))
-        (moments_end (IsQuietIn at blocks) a b quiet) safe
+  pub none : memory.opened ≡ None
+  none = allowed_none case slices force count blocks free
 
-  pub made_carried : (newest : Newest) (next : Memory) → newest ≡ first_newest at blocks → next ≡ with_new host blocks memory → Ends (λ t u. IsOpened site newest u) a b → Ends (Goes (IsCreated blocks identity newest.table)) a b → Ends (CarriedTo host (ToMake (key_of host) blocks) memory accepted next) a b
-  made_carried newest next is next_is opened goes =
-      ends_both _ _ _ a b
-      (λ t u q two. made host sizes ready memory none clean blocks t u (replica_here host sizes ready at at_is blocks t u q) (first_table (with_blocks (site_of host).at blocks).place) next (ap (λ (m : Memory). m.up) next_is) refl (ap (λ (m : Memory). m.opened) next_is)
-      (λ nothing. to_host (λ s. IsOpened s (first_newest s.at blocks) u) (subst (λ (n : Newest). IsOpened site n u) is two.0))
-      (to_host (λ s. ShowsNothing s t → GoesMaking s identity (IsCreated blocks identity (first_table (with_blocks s.at blocks).place)) t u) (subst (λ (n : Newest). Goes (IsCreated blocks identity n.table) t u) is two.1)))
-      (moments_end (IsQuietIn at blocks) a b quiet)
-      (ends_both (λ t u. IsOpened site newest u) (Goes (IsCreated blocks identity newest.table)) (λ t u. IsOpened site newest u × Goes (IsCreated blocks identity newest.table) t u) a b (λ t u o g. (o, g)) opened goes)
+  pub clean : memory.clean ≡ true
+  clean = allowed_clean case slices force count blocks free
 
-  -- what is in memory then
-  pub new_memory : (newest : Newest) → newest ≡ first_newest at blocks → ◌≡◌ {A = Memory} (record { opened = Some newest; up = memory.up; clean = memory.clean; begun = memory.begun + 1; entries = memory.entries }) (with_new host blocks memory)
-  new_memory newest is = λ i. record { opened = Some ((is ∙ ap (λ (p : PlaceAt). first_newest p blocks) at_is) i); up = memory.up; clean = memory.clean; begun = memory.begun + 1; entries = memory.entries }
+  on_site : (line : SliceLine) → Contains lines line → Contains host.site.lines line
+  on_site = asked_on_site case sizes ready slices force count blocks free more.0 sized.0
 
-  -- its format failed
-  module _ (nothing : Ends (λ t u. ShowsNothing site t → ShowsNothing site u) a b) where
-    pub unmade_creation : (slice : SliceName) (force : Bool) → IsAllowed (record { host = host; memory = memory }) (Create slice force blocks) → (calls : Outcomes) → FailedOn host.home.drive.0 calls → Ends (λ t u. Knows host memory t → CameTo calls host (kept_at memory t) (Create slice force blocks) (refusing IoFault) (kept_at (begun memory) u)) a b
-    unmade_creation slice force free calls so = ends_both (IsQuietIn at blocks) (λ t u. ShowsNothing site t → ShowsNothing site u) _ a b
-        (λ t u q n. λ known. came.faulted free refl (so, uncreated host memory (begun memory) t u blocks (replica_here host sizes ready at at_is blocks t u q) refl (to_host (λ s. ShowsNothing s t → ShowsNothing s u) n (known.nothing none clean))))
-        (moments_end (IsQuietIn at blocks) a b quiet) nothing
+  within : (line : SliceLine) → Contains lines line → 16 + count * blocks ≤ line.at.blocks
+  within = asked_within case sizes ready slices force count blocks free
 
-    pub unmade_carried : Ends (Goes (λ lg. is_firm lg ≡ false)) a b → Ends (CarriedTo host (ToMake (key_of host) blocks) memory (refusing IoFault) (begun memory)) a b
-    unmade_carried goes =
-        ends_both _ _ _ a b
-        (λ t u q two. unmade host sizes ready memory none clean blocks t u (replica_here host sizes ready at at_is blocks t u q) (begun memory) refl none (to_host (λ s. ShowsNothing s t → ShowsNothing s u) two.0) (makes (λ lg. is_firm lg ≡ false) t u two.1))
-        (moments_end (IsQuietIn at blocks) a b quiet)
-        (ends_both (λ t u. ShowsNothing site t → ShowsNothing site u) (Goes (λ lg. is_firm lg ≡ false)) (λ t u. (ShowsNothing site t → ShowsNothing site u) × Goes (λ lg. is_firm lg ≡ false) t u) a b (λ t u o g. (o, g)) nothing goes)
+  placed : IsOfGeometry host.drives (table_of seats)
+  placed = asked_placed case sizes ready slices force count blocks free some more.0 sized.0 sized.1 identity
 
-  -- the write of its table failed
-  pub lost_creation : (slice : SliceName) (force : Bool) → IsAllowed (record { host = host; memory = memory }) (Create slice force blocks) → (calls : Outcomes) → FailedOn host.home.drive.0 calls → Ends (λ _ u. ShowsReplica site blocks identity u) a b → Ends (λ t u. Knows host memory t → CameTo calls host (kept_at memory t) (Create slice force blocks) (Over (ended.Lost 0 1)) (kept_at (begun memory) u)) a b
-  lost_creation slice force free calls so shows =
-      ends_both (IsQuietIn at blocks) (λ _ u. ShowsReplica site blocks identity u) (λ t u. Knows host memory t → CameTo calls host (kept_at memory t) (Create slice force blocks) (Over (ended.Lost 0 1)) (kept_at (begun memory) u)) a b
-      (λ t u q s known. came.over (ended.Lost 0 1) free refl (
-        record { failed = so; active_is = refl; listed_is = refl },
-        record { made = to_host (λ x. ShowsReplica x blocks identity u) s (last u) (last_image u); beside = same_beside (replica_area (site_of host) blocks) t u (replica_here host sizes ready at at_is blocks t u q) },
-      ))
-      (moments_end (IsQuietIn at blocks) a b quiet) shows
+  pub may_form : MayForm host.drives key lines seats
+  may_form = record {
+    sound = ready.sound;
+    sites = λ line has. subst (λ (s : Site). Contains s.lines line) ready.site (on_site line has);
+    within = λ line has. subst (λ (s : Site). line.at.start + line.at.blocks ≤ size_on s line) ready.site (ready.on_shelf.within line (on_site line has));
+    of_geometry = placed;
+  }
 
-  -- whatever a crash leaves then
-  pub lost_leaves : Ends (λ _ u. ShowsReplica site blocks identity u) a b → Ends (λ _ u. ShowsReplica (site_of host) blocks identity u) a b
-  lost_leaves shows t start = (let end = shows t start in (end.0, end.1, to_host (λ x. ShowsReplica x blocks identity end.0) end.2))
+  -- the replicas that are left lie on the slices
+  seated : (failed : Outcomes) (bytes : ℕ) (now : List Seat) → AreLeft failed (TakesSlot first_mark bytes) seats now → (r : Replica) → Contains (replicas_of now) r → LiesOn host.site r
+  seated failed bytes now left r has =
+      let one = left_replica failed (TakesSlot first_mark bytes) seats now r left has in
+      let is = replica_is key identity count blocks lines one.0 one.1 in
+      let step = places_step is.number count blocks is.lt in
+      let room = within is.line is.among in
+      let there : LiesOn host.site one.0 = subst (λ (x : Replica). LiesOn host.site x) (sym is.is) (record { one_of = on_site is.line is.among; within = omega (arith, step, room) }) in
+      subst (λ (x : Replica). LiesOn host.site x) (sym one.2.2) (record { one_of = there.one_of; within = there.within })
 
-  pub lost_carried : (next : Memory) → Moments (Goes Anything) a b → Ends (CarriedTo host (ToMake (key_of host) blocks) memory (Over (ended.Lost 0 1)) next) a b
-  lost_carried next goes =
-      ends_both (IsQuietIn at blocks) (Goes Anything) (CarriedTo host (ToMake (key_of host) blocks) memory (Over (ended.Lost 0 1)) next) a b
-      (λ t u q g. made_or_lost host sizes ready memory none clean blocks t u (replica_here host sizes ready at at_is blocks t u q) 0 1 next (makes Anything t u g))
-      (moments_end (IsQuietIn at blocks) a b quiet) (moments_end (Goes Anything) a b goes)
+  -- where too few places took its table a call failed on the drive of one of the slices
+  pub lost_on : (failed : Outcomes) (active listed : ℕ) → create.IsLost failed key identity lines count blocks active listed → IsLostOnSite failed host active listed
+  lost_on failed active listed lost =
+      let all = asked_length key identity count blocks lines in
+      let each = asked_active key identity count blocks lines in
+      lost_on_site failed host (TakesSlot first_mark (length (record_text (table_of seats)))) seats lost.now lost.tried (le-leb (length seats) (2 * active_of seats) (omega (arith, all, each))) lost.few
+      (λ r has. let is = replica_is key identity count blocks lines r has in subst (λ (x : Replica). Contains host.site.lines x.line) (sym is.is) (on_site is.line is.among))
+      active listed lost.active_is lost.listed_is
+
+  -- it was made: the database is the host's
+  pub made_held : (failed : Outcomes) (o : Opened) → create.IsMade failed key identity lines count blocks o → AreLaid sizes o.seats → IsHeldBy host o
+  made_held failed o made laid = record {
+    its = ap (λ (x : Opened). x.key) made.is;
+    some =
+        let counted = left_count failed (TakesSlot first_mark (length (record_text (table_of seats)))) seats o.seats made.tried in
+        let all = asked_length key identity count blocks lines in
+        let each = few_of (length lines) count are_asked.some in
+        let least = are_asked.more in
+        omega (arith, counted, all, each, least);
+    few =
+        let counted = left_count failed (TakesSlot first_mark (length (record_text (table_of seats)))) seats o.seats made.tried in
+        let all = asked_length key identity count blocks lines in
+        let most = are_asked.few in
+        omega (arith, counted, all, most);
+    half = made.half;
+    of_geometry = subst (λ (t : _). IsOfGeometry host.drives t) (sym (ap (λ (x : Opened). x.table) made.is)) placed;
+    laid = subst (λ (s : List ℕ). AreLaid s o.seats) (sym ready.on_shelf.sizes_are) laid;
+    seated = seated failed (length (record_text (table_of seats))) o.seats made.tried;
+  }
+
+  module _ (t m : Tale) (moment : CreateMoment key identity lines count blocks t m) where
+    kept : KeptOutside (places_area lines count blocks) t m
+    kept = asked_kept key identity lines count blocks t m moment.quiet.outside
+
+    goes : (all : List Database) → IsCreation host.drives all key identity lines count blocks t → GoOn host.drives (with_creation key identity all) key identity [] AnyLog m
+    goes all is = databases.created_goes host.drives all key identity lines count blocks t is m moment
+
+    pub making_moment : CarryMoment host (ToMake key lines count blocks) memory t m
+    making_moment = making.making_moment host sizes ready memory none clean lines count blocks on_site within placed t m kept moment.quiet.quiet goes
+
+    -- it was made
+    module _ (calls : Outcomes) (o : Opened) (made : create.IsMade calls key identity lines count blocks o) (calm : AreCalmBeside (drives_asked lines) calls) (ends : CreateEnds key identity lines count blocks (Ok o) t m)
+        (formed : AreTheirs host.drives key identity seats m) where
+      opened : IsOpenedAt host.drives o m
+      opened = ends.opened host.drives may_form
+
+      pub made_line : CameTo calls host (kept_at memory t) (Create slices force count blocks) accepted (kept_at (with_new memory o) m)
+      made_line = came.done free (refl, created host memory (with_new memory o) t m calls lines count blocks o made calm kept refl formed opened)
+
+      pub made_carried : CarriedTo host (ToMake key lines count blocks) memory accepted (with_new memory o) t m
+      made_carried =
+          making.made host sizes ready memory none clean lines count blocks on_site within placed t m kept o (with_new memory o) refl (one_more memory.begun) (ap (λ (x : Opened). x.key) made.is) (ap (λ (x : Opened). x.table.plan.volumes) made.is) refl opened
+          (λ all is. databases.created_made host.drives all key identity lines count blocks t is m moment o (ends.ended host.drives _ (databases.may_create host.drives all key identity lines count blocks t is)) (ap (λ (x : Opened). x.key) made.is) (ap (λ (x : Opened). x.identity) made.is))
+
+    -- a call of its formats failed
+    module _ (calls : Outcomes) (failed : create.HasFailed calls key identity lines count blocks) (ends : CreateEnds key identity lines count blocks (Err unmade.Failed) t m) where
+      nothing : HasNoTable host.drives key t → HasNoTable host.drives key m
+      nothing before other = elim (identities other identity) [
+        | inl same ↦ subst (λ (x : Identity). IsBlank host.drives key x m) (sym same) (ends.unmade refl host.drives may_form (before identity))
+        | inr differ ↦ moment.blank host.drives may_form key other differ (before other)
+      ]
+
+      pub failed_line : Knows host memory t → CameTo calls host (kept_at memory t) (Create slices force count blocks) (refusing IoFault) (kept_at (begun memory) m)
+      failed_line known = came.faulted free refl (uncreated host memory (begun memory) t m calls lines count blocks failed kept refl (nothing (known.nothing none clean)))
+
+      pub failed_carried : CarriedTo host (ToMake key lines count blocks) memory (refusing IoFault) (begun memory) t m
+      failed_carried = making.unmade host sizes ready memory none clean lines count blocks on_site within placed t m kept (begun memory) refl (one_more memory.begun) none nothing
+          (λ all is. databases.created_fails host.drives all key identity lines count blocks t is m moment (ends.ended host.drives _ (databases.may_create host.drives all key identity lines count blocks t is)))
+
+    -- too few places took its table
+    module _ (calls : Outcomes) (active listed : ℕ) (lost : create.IsLost calls key identity lines count blocks active listed) (calm : AreCalmBeside (drives_asked lines) calls)
+        (formed : AreTheirs host.drives key identity seats m) (left : IsOpenedAt host.drives (made_at host memory.begun lines count blocks lost.now) m) where
+      pub lost_line : CameTo calls host (kept_at memory t) (Create slices force count blocks) (Over (ended.Lost active listed)) (kept_at (begun memory) m)
+      lost_line = came.over (ended.Lost active listed) free refl (leaves_places host memory (begun memory) t m calls lines count blocks active listed lost calm kept formed left)
+
+    pub lost_carried : (active listed : ℕ) (next : Memory) → CarriedTo host (ToMake key lines count blocks) memory (Over (ended.Lost active listed)) next t m
+    lost_carried active listed next = making.made_or_lost host sizes ready memory none clean lines count blocks on_site within placed t m kept active listed next goes
+
+  -- each place was formatted; and what is left where too few took the table
+  module _ {S : Type 0} (shelf : Ghosts S) (a b : S) (small : memory.begun < 2 ^ 32) (f : WereFormed shelf a b key identity lines count blocks) where
+    pub formed_end : AtEnd shelf (λ t u. AreTheirs host.drives key identity seats u) a b
+    formed_end t told =
+        let mid = f.gone.end t told in
+        let end = moments_end (λ (v m : Tale). StayFormed key identity lines count blocks m) (shelf.tale f.formed) (shelf.tale b) (f.stay t told) mid.0 mid.1 in
+        (end.0, end.1, end.2 host.drives may_form)
+
+    tried : AreLeft (DriveFailures shelf a b) (TakesSlot first_mark (length (record_text (table_of seats)))) seats f.now
+    tried = f.tried
+
+    formed_lost : (active listed : ℕ) → create.IsLost (DriveFailures shelf a b) key identity lines count blocks active listed → active ≡ active_of f.now → listed ≡ length f.now → create.IsLost (DriveFailures shelf a b) key identity lines count blocks active listed
+    formed_lost active listed lost active_is listed_is = record {
+      now = f.now;
+      tried = tried;
+      few = (λ i. nat_le ((sym listed_is ∙ lost.listed_is) i) (2 * (sym active_is ∙ lost.active_is) i)) ∙ lost.few;
+      active_is = active_is;
+      listed_is = listed_is;
+    }
+
+    formed_left : AtEnd shelf (λ t u. IsOpenedAt host.drives (made_at host memory.begun lines count blocks f.now) u) a b
+    formed_left t told =
+        let mid = f.gone.end t told in
+        let last_one = f.ends mid.0 mid.1 in (
+          last_one.0,
+          last_one.1,
+          made_opened host.drives key identity lines count blocks sizes t (owner host sizes ready memory.begun small) are_asked may_form mid.0 mid.2 last_one.2.body last_one.2.spelled (DriveFailures shelf a b) f.now tried last_one.0 last_one.2.slotting,
+        )
+
+    pub leaves : (active listed : ℕ) → create.IsLost (DriveFailures shelf a b) key identity lines count blocks active listed → active ≡ active_of f.now → listed ≡ length f.now
+        → (lost : create.IsLost (DriveFailures shelf a b) key identity lines count blocks active listed) × AtEnd shelf (λ t u. IsOpenedAt host.drives (made_at host memory.begun lines count blocks lost.now) u) a b
+    unfolding formed_lost
+    leaves active listed lost active_is listed_is = (formed_lost active listed lost active_is listed_is, formed_left)
 
 -- memory was wanting
-module _ (host : Host) (memory : Memory) (blocks : ℕ) (a b : Option Tale) (same : b ≡ a) where
-  pub unbegun_creation : (slice : SliceName) (force : Bool) → IsAllowed (record { host = host; memory = memory }) (Create slice force blocks) → (calls : Outcomes) → AreCalm calls → Ends (λ t u. Knows host memory t → CameTo calls host (kept_at memory t) (Create slice force blocks) (refusing OutOfMemory) (kept_at (begun memory) u)) a b
-  unbegun_creation slice force free calls calm t start = (t, same ∙ start, λ known. came.wanting calm refl (free, record { memory = refl; content = λ drive block. refl }))
+module _ (host : Host) (memory : Memory) (slices : List SliceName) (force : Bool) (count blocks : ℕ) (a b : Option Tale) (same : b ≡ a) where
+  pub unbegun_line : IsAllowed (record { host = host; memory = memory }) (Create slices force count blocks) → (calls : Outcomes) → AreCalm calls → Ends (λ t u. Knows host memory t → CameTo calls host (kept_at memory t) (Create slices force count blocks) (refusing OutOfMemory) (kept_at (begun memory) u)) a b
+  unbegun_line free calls calm t start = (t, same ∙ start, λ known. came.wanting calm refl (free, record { memory = refl; content = λ drive block. refl }))
 
-  pub unbegun_carried : Ends (CarriedTo host (ToMake (key_of host) blocks) memory (refusing OutOfMemory) (begun memory)) a b
-  unbegun_carried t start = (t, same ∙ start, refused_still host (ToMake (key_of host) blocks) memory (begun memory) t refl refl refl OutOfMemory)
+  pub unbegun_carried : Ends (CarriedTo host (ToMake (key_of host) (lines_asked host slices) count blocks) memory (refusing OutOfMemory) (begun memory)) a b
+  unbegun_carried t start = (t, same ∙ start, refused_still host (ToMake (key_of host) (lines_asked host slices) count blocks) memory (begun memory) t refl refl refl (omega arith) OutOfMemory)

@@ -2,10 +2,12 @@
 use Rattle.std.proofs.Common.{◌≡◌, ◌≤◌, ◌+◌, ℕ, zero, suc, [], ◌∷◌, Option, Contains, refl, sym, subst, arith}
 use Rattle.mdv_shelf.proofs.Moments.{ends_both}
 use Rattle.mdv_words.specs.declared.command.Command.{Command}
+use Rattle.mdv_words.specs.declared.command.Command.TheVariants.{Create, MakeStripe, Print, Read, Write}
+use Rattle.mdv_engine_law.proofs.Widening.{AreWithin, left_more}
 use Rattle.mdv_shelf.specs.Made.{Made}
-use Rattle.mdv_engine.specs.Below.{Outcomes, Key, Refusal, Ends, Tale, Deed, Created, Answer, Host, Memory, kept_at, unbooted, asked_by, CameTo, IsRebooted, adopted, empty, down, lost, spent, wanting, IsPlain, CarriedTo, CarryEnd, Knows}
+use Rattle.mdv_engine.specs.Below.{Outcomes, Key, Refusal, Ends, Tale, Deed, Created, Answer, Host, Memory, kept_at, unbooted, asked_by, CameTo, IsRebooted, IsPlain, CarriedTo, CarryEnd, Knows}
 use Rattle.mdv_engine_law.specs.Answers.{refusing}
-use Rattle.mdv_engine_law.specs.Commands.{MayLose, MaySpend, blamed}
+use Rattle.mdv_engine_law.specs.Commands.{MaySpend, blame_of}
 use Rattle.mdv_engine_law.specs.Replies.{HasAnswerCause, IsAccepted}
 use Rattle.mdv_engine_law.specs.Standing.{LeavesDone}
 use Rattle.mdv_engine_law.specs.declared.answer.Answer.TheVariants.{Said, Over}
@@ -30,12 +32,14 @@ module _ (calls : Outcomes) (old : Engine) (command : Command) (answer : Answer)
       ends_both Carry (λ _ u. LeavesDone old.host old.state command u) (CommandEnd calls old command answer new) a b (λ t u carry done. record { carry = carry; done = λ on. done; lost = λ active listed is. absurd (never active listed is) }) carry_ends left
 
   -- and where the run is over
-  pub lost_ends : (IsAccepted answer → ⊥) → Ends (λ _ u. LeavesMade old.host old.state command u) a b → Ends (CommandEnd calls old command answer new) a b
-  lost_ends never left =
-      ends_both Carry (λ _ u. LeavesMade old.host old.state command u) (CommandEnd calls old command answer new) a b (λ t u carry made. record { carry = carry; done = λ on. absurd (never on); lost = λ active listed is. made }) carry_ends left
+  abbrev pub LeavesLost : Tale → Type 0
+  LeavesLost u = (active listed : ℕ) → answer ≡ Over (ended.Lost active listed) → LeavesMade calls old.host old.state command active listed u
+
+  pub lost_ends : (IsAccepted answer → ⊥) → Ends (λ _ u. LeavesLost u) a b → Ends (CommandEnd calls old command answer new) a b
+  lost_ends never left = ends_both Carry (λ _ u. LeavesLost u) (CommandEnd calls old command answer new) a b (λ t u carry made. record { carry = carry; done = λ on. absurd (never on); lost = made }) carry_ends left
 
   -- where it is neither, or with another command than a write and a creation
-  pub other_ends : (IsAccepted answer → (u : Tale) → LeavesDone old.host old.state command u) → ((active listed : ℕ) → answer ≡ Over (ended.Lost active listed) → (u : Tale) → LeavesMade old.host old.state command u)
+  pub other_ends : (IsAccepted answer → (u : Tale) → LeavesDone old.host old.state command u) → ((active listed : ℕ) → answer ≡ Over (ended.Lost active listed) → (u : Tale) → LeavesMade calls old.host old.state command active listed u)
       → Ends (CommandEnd calls old command answer new) a b
   other_ends done over t start = (let end = carry_ends t start in (end.0, end.1, record { carry = end.2; done = λ on. done on end.0; lost = λ active listed is. over active listed is end.0 }))
 
@@ -45,10 +49,22 @@ pub command_ends : (calls : Outcomes) (old : Engine) (command : Command) (this :
     → Ends (CarriedTo old.host (asked_by old.host command) old.state (Said this) new.state) a b → (IsAccepted (Said this) → (u : Tale) → LeavesDone old.host old.state command u) → Ends (CommandEnd calls old command (Said this) new) a b
 command_ends calls old command this new a b came carried done = other_ends calls old command (Said this) new a b came carried done (λ active listed is u. absurd (cc (is)))
 
+-- what is left at the places of a creation, told of a longer stretch by which no further call failed
+pub leaves_more : (failed more : Outcomes) → AreWithin failed more → (host : Host) (memory : Memory) (command : Command) (active listed : ℕ) (u : Tale) → LeavesMade failed host memory command active listed u → LeavesMade more host memory command active listed u
+leaves_more failed more within host memory (Create slices force count blocks) active listed u leaves = (let lost = leaves.lost in record {
+  lost = record { now = lost.now; tried = left_more failed more within _ _ _ lost.tried; few = lost.few; active_is = lost.active_is; listed_is = lost.listed_is };
+  formed = leaves.formed;
+  left = leaves.left;
+})
+leaves_more failed more within host memory (MakeStripe volume slice) active listed u leaves = tt
+leaves_more failed more within host memory (Read volume at count) active listed u leaves = tt
+leaves_more failed more within host memory (Write volume at block) active listed u leaves = tt
+leaves_more failed more within host memory (Print names) active listed u leaves = tt
+
 -- a refusal before anything was done
-pub refused_answer : (calls : Outcomes) (command : Command) (old : Engine) → IsWell old.host old.state → (r : Refusal) → HasAnswerCause (blamed calls old.host old.state command) (MayLose calls old.host command) (MaySpend command) (refusing r) → IsPlain r
+pub refused_answer : (calls : Outcomes) (command : Command) (old : Engine) → IsWell old.host old.state → (r : Refusal) → HasAnswerCause (blame_of calls old.host old.state command) (MaySpend command) (refusing r) → IsPlain r
     → HasAnswered calls command old (refusing r) old
-refused_answer calls command old well r cause plain = record { plain = plain; cause = cause; free = λ on has. absurd on; host = refl; well = well; begun = at_most old.state.begun }
+refused_answer calls command old well r cause plain = record { plain = plain; cause = cause; lost = λ active listed is. absurd (cc (is)); free = λ on has. absurd on; host = refl; well = λ on. well; begun = at_most old.state.begun }
   where
     at_most : (n : ℕ) → n ≤ n + 1
     at_most n = omega arith
@@ -60,12 +76,8 @@ no_creation key deed other (suc n, less, is) = absurd (omega (arith, less))
 
 -- what is in memory before a boot is forgotten, but for how many creations were begun
 pub from_state : (calls : Outcomes) (made : Made) (host : Host) (old next new : Memory) (answer : Answer) (t u : Tale) → next ≡ new → IsBootEnd calls made host (unbooted old.begun) answer new t u → IsBootEnd calls made host old answer next t u
-from_state calls made host old next new answer t u same end = subst (λ (m : Memory). IsBootEnd calls made host old answer m t u) (sym same) (record { rebooted = from end.rebooted; booted = end.booted; synced = end.synced; effort = end.effort })
+from_state calls made host old next new answer t u same end =
+    subst (λ (m : Memory). IsBootEnd calls made host old answer m t u) (sym same) (record { rebooted = from end.rebooted; booted = end.booted; synced = end.synced; still = end.still; unwritten = end.unwritten; effort = end.effort })
   where
     from : IsRebooted calls host (kept_at (unbooted old.begun) t) answer (kept_at new u) → IsRebooted calls host (kept_at old t) answer (kept_at new u)
-    from (adopted calm newest up clean ok memory by here is) = adopted calm newest up clean ok memory by here is
-    from (empty calm up clean ok memory by here none same) = empty calm up clean ok memory by here none same
-    from (down so up ok memory by same) = down so up ok memory by same
-    from (lost so own found panic beside) = lost so own found panic beside
-    from (spent calm own is used same) = spent calm own is used same
-    from (wanting calm own headed is same) = wanting calm own headed is same
+    from is = record { end = is.end; up = is.up; clean = is.clean; up_by = is.up_by; by = is.by; answer_is = is.answer_is; memory = is.memory; content = is.content; beside = is.beside }

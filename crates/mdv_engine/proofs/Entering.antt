@@ -53,7 +53,7 @@ module _ (lines : List ℕ) where
   kept_host old new this (none r why is now) = ap (λ (e : Engine). e.host) now
 
   pub kept_well : (old new : Engine) (this : Outcome) → HasKept old lines this new → IsWell old.host old.state → IsWell old.host new.state
-  kept_well old new this (all entries tab is now) well = subst (λ (e : Engine). IsWell old.host e.state) (sym now) (record { table = well.table })
+  kept_well old new this (all entries tab is now) well = subst (λ (e : Engine). IsWell old.host e.state) (sym now) (record { database = well.database })
   kept_well old new this (none r why is now) well = subst (λ (e : Engine). IsWell old.host e.state) (sym now) well
 
   pub kept_begun : (old new : Engine) (this : Outcome) → HasKept old lines this new → new.state.begun ≤ old.state.begun + 1

@@ -1,20 +1,21 @@
 -- What a refusal says that comes before anything is done: nothing of a failed call, and nothing of want of memory.
-use Rattle.std.proofs.Common.{◌≡◌, inl, inr, ◌+◌, ◌++◌, ◌&&◌, not, ℕ, Bool, true, false, List, [], Option, Some, None, All, sym, subst, ◌∙◌}
+use Rattle.std.proofs.Common.{◌≡◌, inl, inr, ◌+◌, ◌*◌, ◌++◌, ◌&&◌, ◌||◌, not, ℕ, Bool, true, false, List, [], ◌∷◌, length, Option, Some, None, All, sym, subst, ◌∙◌}
 use Rattle.std.proofs.lemmas.List.Elements.{All-append, All-cons, All-nil}
-use Rattle.std.specs.List.{find}
+use Rattle.std.specs.List.{find, list_any}
 use Rattle.std.specs.Prelude.{nat_lt, is_some, is_none}
 use Rattle.mdv_base.specs.Order.{order, where_so}
-use Rattle.mdv_base.specs.declared.refusal.Refusal.TheVariants.{NameTaken, NeedForce, NoDatabase, NoSuchSlice, NoSuchVolume, OutOfRange, ReplicaFull, SliceInUse, TooMany, TooSmall, WrongKind, WrongState}
+use Rattle.mdv_base.specs.declared.refusal.Refusal.TheVariants.{BadLine, NameTaken, NeedForce, NoDatabase, NoSuchSlice, NoSuchVolume, OutOfRange, ReplicaFull, SliceInUse, TooMany, TooSmall, WrongKind, WrongState}
 use Rattle.mdv_base.proofs.Order.{first_holds}
 use Rattle.mdv_name.specs.SliceIndex.{slice_at}
 use Rattle.mdv_table.specs.Change.{is_db}
+use Rattle.mdv_plan.specs.Slices.{meets_db}
 use Rattle.mdv_table.specs.Plan.{is_in_use, used_slices}
 use Rattle.mdv_table.specs.Volumes.{has_volume}
 use Rattle.mdv_engine_law.specs.Below.{Down}
 use Rattle.mdv_engine_law.specs.Answers.{refusing}
-use Rattle.mdv_engine_law.specs.Refusals.{Case, blocks_refusal, bytes_after, change_refusal, has_number, held_of_blocks, held_of_change, held_of_creation, held_of_read, held_past, is_plain, read_refusal, refusal_of, size_of}
-use Rattle.mdv_engine_law.specs.Replies.{HasAnswerCause}
-use Rattle.mdv_engine.specs.Below.{Failures, SliceName, VolId, Create, Refusal, IoFault, OutOfMemory, Change, MakeStripe, Host, Memory, Newest, Volume, record_room}
+use Rattle.mdv_engine_law.specs.Refusals.{Case, blocks_refusal, bytes_after, change_refusal, has_number, held_of_blocks, held_of_change, held_of_creation, held_of_more, held_of_read, held_of_replicas, held_past, is_doubled, is_missing, is_plain, is_short, is_taken, places_open, read_refusal, refusal_of, size_of}
+use Rattle.mdv_engine_law.specs.Replies.{Blame, HasAnswerCause}
+use Rattle.mdv_engine.specs.Below.{SliceName, VolId, Create, Refusal, IoFault, OutOfMemory, Change, MakeStripe, Host, Memory, Opened, Volume, record_room}
 use Rattle.mdv_engine.specs.Engine.{HasChangeCause}
 
 -- a refusal that tells of no failed call and of no want of memory
@@ -35,14 +36,14 @@ past_judged (Some volume) end = by (nat_lt (size_of volume.kind) end) where
   by true = All-cons IsJudged OutOfRange [] tt (All-nil IsJudged)
   by false = All-nil IsJudged
 
-blocks_held : (opened : Option Newest) (volume : VolId) (end : ℕ) → All IsJudged (held_of_blocks opened volume end)
+blocks_held : (opened : Option Opened) (volume : VolId) (end : ℕ) → All IsJudged (held_of_blocks opened volume end)
 blocks_held None volume end = All-cons IsJudged NoDatabase [] tt (All-nil IsJudged)
-blocks_held (Some newest) volume end = past_judged (find (has_number volume) newest.table.plan.volumes) end
+blocks_held (Some o) volume end = past_judged (find (has_number volume) o.table.plan.volumes) end
 
-pub blocks_judged : (opened : Option Newest) (volume : VolId) (end : ℕ) (r : Refusal) → blocks_refusal opened volume end ≡ Some r → IsJudged r
+pub blocks_judged : (opened : Option Opened) (volume : VolId) (end : ℕ) (r : Refusal) → blocks_refusal opened volume end ≡ Some r → IsJudged r
 blocks_judged opened volume end r is = first_holds IsJudged order (held_of_blocks opened volume end) r (blocks_held opened volume end) is
 
-pub read_judged : (opened : Option Newest) (volume : VolId) (at count : ℕ) (r : Refusal) → read_refusal opened volume at count ≡ Some r → IsJudged r
+pub read_judged : (opened : Option Opened) (volume : VolId) (at count : ℕ) (r : Refusal) → read_refusal opened volume at count ≡ Some r → IsJudged r
 read_judged opened volume at count r is =
     first_holds IsJudged order (held_of_read opened volume at count) r (All-append IsJudged (held_of_blocks opened volume (at + count)) (where_so (nat_lt 1024 count) TooMany) (blocks_held opened volume (at + count)) (where_judged (nat_lt 1024 count) TooMany tt)) is
 
@@ -51,19 +52,30 @@ and_judged : (holds : Bool) (r : Refusal) (rest : List Refusal) → IsJudged r �
 and_judged true r rest judged behind = All-cons IsJudged r rest judged behind
 and_judged false r rest judged behind = behind
 
-creation_held : (gone plain unread unforced used small : Bool)
-    → All IsJudged (where_so gone NoSuchSlice ++ (where_so plain WrongKind ++ (where_so unread (WrongState Down) ++ (where_so unforced NeedForce ++ (where_so used SliceInUse ++ where_so small TooSmall)))))
-creation_held gone plain unread unforced used small =
-    and_judged gone NoSuchSlice (where_so plain WrongKind ++ (where_so unread (WrongState Down) ++ (where_so unforced NeedForce ++ (where_so used SliceInUse ++ where_so small TooSmall)))) tt
-    (and_judged plain WrongKind (where_so unread (WrongState Down) ++ (where_so unforced NeedForce ++ (where_so used SliceInUse ++ where_so small TooSmall))) tt
-    (and_judged unread (WrongState Down) (where_so unforced NeedForce ++ (where_so used SliceInUse ++ where_so small TooSmall)) tt
-    (and_judged unforced NeedForce (where_so used SliceInUse ++ where_so small TooSmall) tt (and_judged used SliceInUse (where_so small TooSmall) tt (where_judged small TooSmall tt)))))
+creation_held : (gone plain unread many unforced used small : Bool)
+    → All IsJudged (where_so gone NoSuchSlice ++ (where_so plain WrongKind ++ (where_so unread (WrongState Down) ++ (where_so many TooMany ++ (where_so unforced NeedForce ++ (where_so used SliceInUse ++ where_so small TooSmall))))))
+creation_held gone plain unread many unforced used small =
+    let last = where_so small TooSmall in
+    let sixth = where_so used SliceInUse ++ last in
+    let fifth = where_so unforced NeedForce ++ sixth in
+    let fourth = where_so many TooMany ++ fifth in
+    let third = where_so unread (WrongState Down) ++ fourth in
+    let second = where_so plain WrongKind ++ third in
+    and_judged gone NoSuchSlice second tt
+    (and_judged plain WrongKind third tt
+    (and_judged unread (WrongState Down) fourth tt (and_judged many TooMany fifth tt (and_judged unforced NeedForce sixth tt (and_judged used SliceInUse last tt (where_judged small TooSmall tt))))))
 
-pub creation_judged : (case : Case) (slice : SliceName) (force : Bool) (blocks : ℕ) (r : Refusal) → refusal_of case (Create slice force blocks) ≡ Some r → IsJudged r
-creation_judged case slice force blocks r is =
-    let at = slice_at case.host.drives.slices slice in
-    first_holds IsJudged order (held_of_creation case slice force blocks) r
-    (creation_held (not (is_some at)) (is_plain at) (not case.memory.clean) (not (is_some case.memory.opened) && not force) (is_some case.memory.opened) (nat_lt case.host.home.blocks (16 + blocks))) is
+-- so is that nothing can be added yet
+more_held : (opened : Option Opened) (held : List Refusal) → All IsJudged held → All IsJudged (held_of_more opened held)
+more_held (Some o) [] all = All-cons IsJudged BadLine [] tt (All-nil IsJudged)
+more_held (Some o) (r ∷ rs) all = all
+more_held None held all = all
+
+pub creation_judged : (case : Case) (slices : List SliceName) (force : Bool) (count blocks : ℕ) (r : Refusal) → refusal_of case (Create slices force count blocks) ≡ Some r → IsJudged r
+creation_judged case slices force count blocks r is =
+    first_holds IsJudged order (held_of_creation case slices force count blocks) r (more_held case.memory.opened (held_of_replicas case slices force count blocks)
+    (creation_held (list_any (is_missing case.host) slices) (list_any (λ slice. is_plain (slice_at case.host.drives.slices slice)) slices) (not (is_some case.memory.opened) && not case.memory.clean)
+    (nat_lt 50 (length (places_open case.memory.opened) + length slices * count)) (not (is_some case.memory.opened) && not force) (list_any (is_taken case) slices || is_doubled slices) (list_any (is_short case.host count blocks) slices))) is
 
 -- and a change
 change_held_so : (gone taken set_aside used long : Bool) (full : Refusal) → IsJudged full
@@ -77,27 +89,27 @@ change_held_so gone taken set_aside used long full judged =
     (where_judged used SliceInUse tt))
     (where_judged long full judged)
 
-change_held : (host : Host) (opened : Option Newest) (volume : VolId) (slice : SliceName) → All IsJudged (held_of_change host opened (MakeStripe volume slice))
+change_held : (host : Host) (opened : Option Opened) (volume : VolId) (slice : SliceName) → All IsJudged (held_of_change host opened (MakeStripe volume slice))
 change_held host None volume slice = All-cons IsJudged NoDatabase [] tt (All-nil IsJudged)
-change_held host (Some newest) volume slice =
+change_held host (Some o) volume slice =
     let g = host.drives in
-    let p = newest.table.plan in
+    let p = o.table.plan in
     let change = MakeStripe volume slice in
-    change_held_so (is_none (slice_at g.slices slice)) (has_volume p.volumes volume) (is_db (slice_at g.slices slice)) (is_in_use g.slices (used_slices p) slice)
-    (nat_lt (record_room newest) (bytes_after host newest change)) (ReplicaFull (bytes_after host newest change) (record_room newest)) tt
+    change_held_so (is_none (slice_at g.slices slice)) (has_volume p.volumes volume) (is_db (slice_at g.slices slice)) (is_in_use g.slices (used_slices p) slice || meets_db g slice)
+    (nat_lt (record_room o) (bytes_after host o change)) (ReplicaFull (bytes_after host o change) (record_room o)) tt
 
-pub change_judged : (host : Host) (opened : Option Newest) (change : Change) (r : Refusal) → change_refusal host opened change ≡ Some r → IsJudged r
+pub change_judged : (host : Host) (opened : Option Opened) (change : Change) (r : Refusal) → change_refusal host opened change ≡ Some r → IsJudged r
 change_judged host opened (MakeStripe volume slice) r is = first_holds IsJudged order (held_of_change host opened (MakeStripe volume slice)) r (change_held host opened volume slice) is
 
 -- such a refusal comes where no call failed
-pub judged_said : (failures : Failures) (lost spends : Type 0) (r : Refusal) → IsJudged r → failures.none → HasAnswerCause failures lost spends (refusing r)
-judged_said failures lost spends IoFault judged calm = absurd judged
-judged_said failures lost spends OutOfMemory judged calm = absurd judged
-judged_said failures lost spends other judged calm = calm
+pub judged_said : (blame : Blame) (spends : Type 0) (r : Refusal) → IsJudged r → blame.none → HasAnswerCause blame spends (refusing r)
+judged_said blame spends IoFault judged calm = absurd judged
+judged_said blame spends OutOfMemory judged calm = absurd judged
+judged_said blame spends other judged calm = calm
 
-pub change_cause : (host : Host) (memory : Memory) (change : Change) (failures : Failures) (lost spends : Type 0) → failures.none → (r : Refusal) → HasChangeCause host memory change r → HasAnswerCause failures lost spends (refusing r)
-change_cause host memory change failures lost spends calm r (inl is) = judged_said failures lost spends r (change_judged host memory.opened change r is) calm
-change_cause host memory change failures lost spends calm r (inr (some, want)) = subst (λ (x : Refusal). HasAnswerCause failures lost spends (refusing x)) (sym want) calm
+pub change_cause : (host : Host) (memory : Memory) (change : Change) (blame : Blame) (spends : Type 0) → blame.none → (r : Refusal) → HasChangeCause host memory change r → HasAnswerCause blame spends (refusing r)
+change_cause host memory change blame spends calm r (inl is) = judged_said blame spends r (change_judged host memory.opened change r is) calm
+change_cause host memory change blame spends calm r (inr (some, want)) = subst (λ (x : Refusal). HasAnswerCause blame spends (refusing x)) (sym want) calm
 
 -- and is no failed call
 pub change_no_fault : (host : Host) (memory : Memory) (change : Change) (r : Refusal) → HasChangeCause host memory change r → r ≡ IoFault → ⊥

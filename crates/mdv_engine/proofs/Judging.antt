@@ -1,34 +1,27 @@
 -- The refusal of a creation, by what its checks found.
-use Rattle.std.proofs.Common.{◌≡◌, ◌+◌, ℕ, Bool, ◌&&◌, not, if◌then◌else◌, Option, Some, None, sym, ◌∙◌, ap}
+use Rattle.std.proofs.Common.{◌≡◌, ◌+◌, ◌*◌, ℕ, Bool, ◌&&◌, ◌||◌, not, true, false, List, length, Some, refl, sym, ap, ◌∙◌}
+use Rattle.std.specs.List.{list_any}
 use Rattle.std.specs.Prelude.{is_some, nat_lt}
-use Rattle.mdv_base.specs.declared.state_word.StateWord.TheVariants.{Down}
-use Rattle.mdv_base.specs.declared.refusal.Refusal.TheVariants.{NeedForce, NoSuchSlice, SliceInUse, TooSmall, WrongKind, WrongState}
-use Rattle.mdv_name.proofs.Finding.{slice_at-none, slice_at-some}
-use Rattle.mdv_name.specs.SliceIndex.{slice_at}
-use Rattle.mdv_table.specs.Slices.{IsSound}
-use Rattle.mdv_engine.specs.Below.{SliceName, Refusal, SliceAt, HasSlice, HasNoSlice, Create}
-use Rattle.mdv_engine_law.specs.Refusals.{refusal_of}
-use Rattle.mdv_engine_law.proofs.Judging.{creation_is_told, told_of_creation}
-use Rattle.mdv_engine.specs.declared.engine.Engine.{Engine}
-use Rattle.mdv_engine.specs.Engine.{case_at}
+use Rattle.mdv_engine.specs.Below.{Create, Refusal, SliceName, slice_at}
+use Rattle.mdv_engine_law.specs.Refusals.{Case, is_doubled, is_missing, is_plain, is_short, is_taken, places_open, refusal_of}
+use Rattle.mdv_engine_law.proofs.Judging.{creation_is_told, told_of_more, told_of_replicas}
 
--- where the slice is there
-abbrev pub told_at : Bool → Bool → Bool → Bool → Bool → Option Refusal
-told_at db down opened force small =
-    if not db then Some WrongKind else if down then Some (WrongState Down) else if not opened && not force then Some NeedForce else if opened then Some SliceInUse else if small then Some TooSmall else None
+-- by whether each cause holds, and whether a database is open
+pub told_of_checks : (case : Case) (slices : List SliceName) (force : Bool) (count blocks : ℕ) (missing plain down many unforced taken small opened : Bool) → list_any (is_missing case.host) slices ≡ missing
+    → list_any (λ slice. is_plain (slice_at case.host.drives.slices slice)) slices ≡ plain → (not (is_some case.memory.opened) && not case.memory.clean) ≡ down → nat_lt 50 (length (places_open case.memory.opened) + length slices * count) ≡ many
+    → (not (is_some case.memory.opened) && not force) ≡ unforced → (list_any (is_taken case) slices || is_doubled slices) ≡ taken → list_any (is_short case.host count blocks) slices ≡ small → is_some case.memory.opened ≡ opened
+    → told_of_more opened (told_of_replicas missing plain down many unforced taken small) ≡ refusal_of case (Create slices force count blocks)
+told_of_checks case slices force count blocks missing plain down many unforced taken small opened a b c d e f g h =
+    sym (creation_is_told case slices force count blocks ∙ (λ i. told_of_more (h i) (told_of_replicas (a i) (b i) (c i) (d i) (e i) (f i) (g i))))
 
--- `e` is what the engine's fields are, `v` the engine
-module _ (e v : Engine) (is : e ≡ v) (slice : SliceName) (force : Bool) (blocks : ℕ) where
-  by_at : (at : Option SliceAt) → slice_at e.host.drives.slices slice ≡ at → refusal_of (case_at e) (Create slice force blocks) ≡ told_of_creation at (not e.state.clean) (is_some e.state.opened) force (nat_lt e.host.home.blocks (16 + blocks))
-  by_at at found = creation_is_told (case_at e) slice force blocks ∙ ap (λ (o : Option SliceAt). told_of_creation o (not e.state.clean) (is_some e.state.opened) force (nat_lt e.host.home.blocks (16 + blocks))) found
+told_some : (opened : Bool) (r : Refusal) → told_of_more opened (Some r) ≡ Some r
+told_some true r = refl
+told_some false r = refl
 
-  of_engine : (o : Option Refusal) → refusal_of (case_at e) (Create slice force blocks) ≡ o → o ≡ refusal_of (case_at v) (Create slice force blocks)
-  of_engine o same = sym same ∙ ap (λ (x : Engine). refusal_of (case_at x) (Create slice force blocks)) is
-
-  pub not_there : HasNoSlice e.host.drives.slices slice → Some NoSuchSlice ≡ refusal_of (case_at v) (Create slice force blocks)
-  not_there none = of_engine (Some NoSuchSlice) (by_at None ((slice_at-none e.host.drives.slices slice).1 none))
-
-  pub there : IsSound e.host.drives → (at : SliceAt) → HasSlice e.host.drives.slices slice at → (db down opened forced small : Bool) → at.db ≡ db → not e.state.clean ≡ down → is_some e.state.opened ≡ opened → force ≡ forced → nat_lt e.host.home.blocks (16 + blocks) ≡ small
-      → told_at db down opened forced small ≡ refusal_of (case_at v) (Create slice force blocks)
-  there sound at has db down opened forced small db_is down_is opened_is forced_is small_is =
-      of_engine (told_at db down opened forced small) (by_at (Some at) ((slice_at-some e.host.drives slice at sound).1 has) ∙ (λ i. told_at (db_is i) (down_is i) (opened_is i) (forced_is i) (small_is i)))
+-- where one of them holds it is told, whatever is open
+pub told_of_cause : (case : Case) (slices : List SliceName) (force : Bool) (count blocks : ℕ) (missing plain down many unforced taken small : Bool) → list_any (is_missing case.host) slices ≡ missing
+    → list_any (λ slice. is_plain (slice_at case.host.drives.slices slice)) slices ≡ plain → (not (is_some case.memory.opened) && not case.memory.clean) ≡ down → nat_lt 50 (length (places_open case.memory.opened) + length slices * count) ≡ many
+    → (not (is_some case.memory.opened) && not force) ≡ unforced → (list_any (is_taken case) slices || is_doubled slices) ≡ taken → list_any (is_short case.host count blocks) slices ≡ small
+    → (r : Refusal) → told_of_replicas missing plain down many unforced taken small ≡ Some r → Some r ≡ refusal_of case (Create slices force count blocks)
+told_of_cause case slices force count blocks missing plain down many unforced taken small a b c d e f g r first =
+    sym (ap (told_of_more (is_some case.memory.opened)) first ∙ told_some (is_some case.memory.opened) r) ∙ told_of_checks case slices force count blocks missing plain down many unforced taken small (is_some case.memory.opened) a b c d e f g refl

@@ -1,16 +1,16 @@
 pub mod ReadJudging
-pub mod Sites
+pub mod Asked
 pub mod Booting
 pub mod Creating
+pub mod Makes
 pub mod Committing
 pub mod Commits
 pub mod Places
 pub mod Blocks
 pub mod Counting
-pub mod Drives
 pub mod Ending
+pub mod Losing
 pub mod Entering
-mod Parts
 pub mod Printing
 mod Judging
 pub mod Judged

@@ -8,14 +8,14 @@ use Rattle.mdv_base.specs.Order.{first_refusal, where_so}
 use Rattle.mdv_base.specs.declared.refusal.Refusal.TheVariants.{NoSuchVolume, OutOfRange}
 use Rattle.mdv_engine_law.specs.Refusals.{blocks_refusal, has_number, held_past, size_of}
 use Rattle.mdv_engine_law.proofs.Volumes.{find_is, find_none}
-use Rattle.mdv_engine.specs.Below.{VolId, SliceName, IsReady, HasSlice, HasNoSlice, SliceAt, Table, Base, Slice, Volume, VolumeKind, Stripe, IsComponentOn, IsKindOf, IsStripeOf, IsWholeSlice, HasVolume, HasNoVolume, Newest, Host, Memory, HasVolumeOn}
+use Rattle.mdv_engine.specs.Below.{VolId, SliceName, IsReady, HasSlice, HasNoSlice, SliceAt, Table, Base, Slice, Volume, VolumeKind, Stripe, IsComponentOn, IsKindOf, IsStripeOf, IsWholeSlice, HasVolume, HasNoVolume, Opened, Host, Memory, HasVolumeOn}
 use Rattle.mdv_map.specs.Maps.{Map, run_map}
 use Rattle.mdv_volumes.specs.Tables.{IsBaseMap, IsKindMap}
 use Rattle.mdv_engine_law.proofs.Ready.{in_drive}
 use Rattle.mdv_table.specs.declared.volume.Stripe.{Stripe as OneStripe}
 use Rattle.mdv_table.specs.Slices.{IsSound}
 use Rattle.mdv_engine_law.proofs.Refusing.{opened_has}
-use Rattle.mdv_engine.specs.Engine.{IsTableOf, IsWell}
+use Rattle.mdv_engine.specs.Engine.{IsHeldBy, IsWell}
 use Rattle.mdv_engine.specs.Placed.{EndsIn}
 
 -- there is one kind of volume, and one of bases
@@ -68,19 +68,19 @@ not_past : (size end : ℕ) → end ≤ size → nat_lt size end ≡ false
 not_past size end less = grind (arith, nat_tests)
 
 -- a volume of the open table
-module _ (host : Host) (memory : Memory) (well : IsWell host memory) (newest : Newest) (opened : memory.opened ≡ Some newest) (table : Table) (table_is : table ≡ newest.table) (number : VolId) where
+module _ (host : Host) (memory : Memory) (well : IsWell host memory) (database : Opened) (opened : memory.opened ≡ Some database) (table : Table) (table_is : table ≡ database.table) (number : VolId) where
   -- what blocks up to that one are refused for, by what was found
-  found_refusal : (o : Option Volume) (end : ℕ) → find (has_number number) newest.table.plan.volumes ≡ o → blocks_refusal memory.opened number end ≡ first_refusal (held_past o end)
-  found_refusal o end is = ap (λ (x : Option Newest). blocks_refusal x number end) opened ∙ ap (λ (x : Option Volume). first_refusal (held_past x end)) is
+  found_refusal : (o : Option Volume) (end : ℕ) → find (has_number number) database.table.plan.volumes ≡ o → blocks_refusal memory.opened number end ≡ first_refusal (held_past o end)
+  found_refusal o end is = ap (λ (x : Option Opened). blocks_refusal x number end) opened ∙ ap (λ (x : Option Volume). first_refusal (held_past x end)) is
 
   pub no_volume : (end : ℕ) → HasNoVolume table.plan.volumes number → blocks_refusal memory.opened number end ≡ Some NoSuchVolume
-  no_volume end never = found_refusal None end (find_none newest.table.plan.volumes number (subst (λ (t : Table). HasNoVolume t.plan.volumes number) table_is never))
+  no_volume end never = found_refusal None end (find_none database.table.plan.volumes number (subst (λ (t : Table). HasNoVolume t.plan.volumes number) table_is never))
 
   module _ (volume : Volume) (has : HasVolume table.plan.volumes number volume) where
     refusal_is : (end : ℕ) → blocks_refusal memory.opened number end ≡ first_refusal (where_so (nat_lt (size_of volume.kind) end) OutOfRange)
     refusal_is end =
-        let is : IsTableOf host newest.blocks newest.table = opened_has memory newest (λ n. IsTableOf host n.blocks n.table) opened well.table in
-        found_refusal (Some volume) end (find_is newest.table.plan.volumes number volume is.of_geometry.numbers.ascending (subst (λ (t : Table). HasVolume t.plan.volumes number volume) table_is has))
+        let is : IsHeldBy host database = opened_has memory database (IsHeldBy host) opened well.database in
+        found_refusal (Some volume) end (find_is database.table.plan.volumes number volume is.of_geometry.numbers.ascending (subst (λ (t : Table). HasVolume t.plan.volumes number volume) table_is has))
 
     pub past_its_end : (end : ℕ) → size_of volume.kind < end → blocks_refusal memory.opened number end ≡ Some OutOfRange
     past_its_end end past = refusal_is end ∙ ap (λ (b : Bool). first_refusal (where_so b OutOfRange)) (is_past (size_of volume.kind) end past)
@@ -90,8 +90,8 @@ module _ (host : Host) (memory : Memory) (well : IsWell host memory) (newest : N
 
     pub kind_of : IsKindOf host.drives volume.kind
     kind_of =
-        let is : IsTableOf host newest.blocks newest.table = opened_has memory newest (λ n. IsTableOf host n.blocks n.table) opened well.table in
-        All-contains (λ (v : Volume). IsKindOf host.drives v.kind) newest.table.plan.volumes volume is.of_geometry.kinds (subst (λ (t : Table). Contains t.plan.volumes volume) table_is has.0)
+        let is : IsHeldBy host database = opened_has memory database (IsHeldBy host) opened well.database in
+        All-contains (λ (v : Volume). IsKindOf host.drives v.kind) database.table.plan.volumes volume is.of_geometry.kinds (subst (λ (t : Table). Contains t.plan.volumes volume) table_is has.0)
 
     pub volume_on : (drive first blocks : ℕ) → IsKindMap host.drives volume.kind (run_map drive first blocks) → HasVolumeOn host memory number drive first blocks
-    volume_on drive first blocks lies = (newest, opened, record { of = volume; has = (subst (λ (t : Table). Contains t.plan.volumes volume) table_is has.0, has.1); kind = lies })
+    volume_on drive first blocks lies = (database, opened, record { of = volume; has = (subst (λ (t : Table). Contains t.plan.volumes volume) table_is has.0, has.1); kind = lies })

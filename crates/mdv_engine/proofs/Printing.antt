@@ -1,5 +1,5 @@
 -- What the printing of a table comes to, and what it leads to.
-use Rattle.std.proofs.Common.{◌≡◌, inl, inr, if◌then◌else◌, not, ℕ, Bool, true, false, List, [], ◌∷◌, ◌++◌, ◌+◌, ◌≤◌, Option, Some, None, All, Contains, refl, sym, ap, subst, ◌∙◌, arith}
+use Rattle.std.proofs.Common.{◌≡◌, inl, inr, if◌then◌else◌, not, ℕ, Bool, true, false, List, [], ◌++◌, ◌+◌, ◌≤◌, Option, Some, None, All, refl, sym, ap, subst, ◌∙◌, arith}
 use Rattle.std.proofs.lemmas.List.Elements.{All-append, All-cons, All-nil}
 use Rattle.std.specs.List.{list_any}
 use Rattle.std.specs.Prelude.{IfNone, IfSome, is_some}
@@ -11,12 +11,11 @@ use Rattle.mdv_base.specs.declared.refusal.Refusal.TheVariants.{NoDatabase, NoSu
 use Rattle.mdv_base.proofs.Order.{first_holds}
 use Rattle.mdv_listing.specs.Listing.{listing_of}
 use Rattle.mdv_listing.proofs.Lines.{listings_are_lines}
-use Rattle.mdv_shelf.proofs.Between.{between_none}
+use Rattle.mdv_shelf.specs.declared.shelf.Shelf.{Ghosts}
 use Rattle.mdv_status.specs.Values.{printed_reply}
 use Rattle.mdv_words.specs.declared.command.Command.TheVariants.{Print}
-use Rattle.mdv_engine_law.specs.Answers.{refusing}
 use Rattle.mdv_engine_law.specs.Commands as came
-use Rattle.mdv_engine_law.specs.Commands.{MayLose, MaySpend, blamed}
+use Rattle.mdv_engine_law.specs.Commands.{MaySpend, blame_of}
 use Rattle.mdv_engine_law.specs.Line.{Nothing, Stays}
 use Rattle.mdv_engine_law.specs.Refusals.{held_of_names, held_of_print, names_no_volume, names_pool, print_refusal}
 use Rattle.mdv_engine_law.specs.Replies.{HasAnswerCause, IsPlainAnswer}
@@ -29,25 +28,25 @@ use Rattle.mdv_table.proofs.Deciding.{has_volume-false, has_volume-true}
 use Rattle.mdv_table.specs.Volumes.{HasNoVolume, HasVolume}
 use Rattle.mdv_table.specs.declared.plan.Plan.{Plan}
 use Rattle.mdv_table.specs.declared.volume.Volume.{Volume}
-use Rattle.mdv_engine.specs.Below.{AreCalm, CameTo, CarriedTo, Ends, Memory, Newest, Outcomes, OutOfMemory, Refusal, Tale, kept_at}
+use Rattle.mdv_engine.specs.Below.{AreCalm, CameTo, CarriedTo, Ends, Host, Memory, Opened, Outcomes, OutOfMemory, Refusal, Tale, kept_at}
 use Rattle.mdv_engine.specs.Counts.{IsCommandCounted}
 use Rattle.mdv_engine.specs.Ends.{CommandEnd, HasAnswered}
 use Rattle.mdv_engine.specs.Engine.{IsWell, case_at}
 use Rattle.mdv_engine.specs.Printing.{HasPrinted, IsPrint, printed, turned_down}
 use Rattle.mdv_engine.specs.declared.engine.Engine.{Engine}
-use Rattle.mdv_engine.proofs.Counting.{refused_counted}
+use Rattle.mdv_engine.proofs.Counting.{none_within, refused_counted}
 use Rattle.mdv_engine.proofs.Ending.{command_ends}
 use Rattle.mdv_engine.proofs.Judged.{IsJudged, judged_said, where_judged}
 
 -- what it is refused for tells of no failed call
-print_held : (opened : Option Newest) (names : List Named) → All IsJudged (held_of_print opened names)
+print_held : (opened : Option Opened) (names : List Named) → All IsJudged (held_of_print opened names)
 print_held None names = All-cons IsJudged NoDatabase [] tt (All-nil IsJudged)
-print_held (Some newest) names =
-    let missing = list_any (names_no_volume newest.table.plan.volumes) names in
+print_held (Some database) names =
+    let missing = list_any (names_no_volume database.table.plan.volumes) names in
     let pools = list_any names_pool names in
     All-append IsJudged (where_so missing NoSuchVolume) (where_so pools NoSuchPool) (where_judged missing NoSuchVolume tt) (where_judged pools NoSuchPool tt)
 
-pub print_judged : (opened : Option Newest) (names : List Named) (r : Refusal) → print_refusal opened names ≡ Some r → IsJudged r
+pub print_judged : (opened : Option Opened) (names : List Named) (r : Refusal) → print_refusal opened names ≡ Some r → IsJudged r
 print_judged opened names r is = first_holds IsJudged order (held_of_print opened names) r (print_held opened names) is
 
 -- by whether a volume of that number is found
@@ -71,14 +70,14 @@ told_of_names volumes names missing pools one two =
     sym (first_of_names missing pools) ∙ sym (λ i. first_refusal (where_so (one i) NoSuchVolume ++ where_so (two i) NoSuchPool))
 
 -- what is open is printed, or what has these names of it
-pub turned_down_open : (memory : Memory) (newest : Newest) (names : List Named) (r : Refusal) → memory.opened ≡ Some newest → Some r ≡ first_refusal (held_of_names newest.table.plan.volumes names) → HasPrinted memory names (outcome.Refused r)
-turned_down_open memory newest names r opened is = turned_down r (ap (λ (o : Option Newest). print_refusal o names) opened ∙ sym is) refl
+pub turned_down_open : (memory : Memory) (database : Opened) (names : List Named) (r : Refusal) → memory.opened ≡ Some database → Some r ≡ first_refusal (held_of_names database.table.plan.volumes names) → HasPrinted memory names (outcome.Refused r)
+turned_down_open memory database names r opened is = turned_down r (ap (λ (o : Option Opened). print_refusal o names) opened ∙ sym is) refl
 
-pub printed_open : (memory : Memory) (newest : Newest) (names : List Named) (this : Outcome) → memory.opened ≡ Some newest → None ≡ first_refusal (held_of_names newest.table.plan.volumes names) → IsPrint newest.table.plan names this → HasPrinted memory names this
-printed_open memory newest names this opened is print = printed newest opened (ap (λ (o : Option Newest). print_refusal o names) opened ∙ sym is) print
+pub printed_open : (memory : Memory) (database : Opened) (names : List Named) (this : Outcome) → memory.opened ≡ Some database → None ≡ first_refusal (held_of_names database.table.plan.volumes names) → IsPrint database.table.plan names this → HasPrinted memory names this
+printed_open memory database names this opened is print = printed database opened (ap (λ (o : Option Opened). print_refusal o names) opened ∙ sym is) print
 
 pub printed_shut : (memory : Memory) (names : List Named) → memory.opened ≡ None → HasPrinted memory names (outcome.Refused NoDatabase)
-printed_shut memory names none = turned_down NoDatabase (ap (λ (o : Option Newest). print_refusal o names) none) refl
+printed_shut memory names none = turned_down NoDatabase (ap (λ (o : Option Opened). print_refusal o names) none) refl
 
 module _ (old : Engine) (names : List Named) where
   still : (t : Tale) → Stays (kept_at old.state t) (kept_at old.state t)
@@ -89,16 +88,16 @@ module _ (old : Engine) (names : List Named) where
 
   comes : (this : Outcome) → HasPrinted old.state names this → (calls : Outcomes) → AreCalm calls → (t : Tale) → Comes calls t this
   comes this (turned_down r is said) calls calm t = subst (Comes calls t) (sym said) (came.refused calm r is (refl, still t))
-  comes this (printed newest opened free (inl said)) calls calm t = subst (Comes calls t) (sym said) (came.done calm free (newest, opened, refl, still t))
-  comes this (printed newest opened free (inr want)) calls calm t = subst (Comes calls t) (sym want) (came.wanting calm refl (free, still t))
+  comes this (printed database opened free (inl said)) calls calm t = subst (Comes calls t) (sym said) (came.done free (calm, database, opened, refl, still t))
+  comes this (printed database opened free (inr want)) calls calm t = subst (Comes calls t) (sym want) (came.wanting calm refl (free, still t))
 
   abbrev Carries : Tale → Outcome → Type 0
   Carries t this = CarriedTo old.host Nothing old.state (Said this) old.state t t
 
   carried : (this : Outcome) → HasPrinted old.state names this → (t : Tale) → Carries t this
   carried this (turned_down r is said) t = subst (Carries t) (sym said) (refused_none old.host Nothing old.state r t)
-  carried this (printed newest opened free (inl said)) t = subst (Carries t) (sym said) (entered_none old.host old.state old.state.entries (printed_reply (listing_of newest.table.plan names)) t)
-  carried this (printed newest opened free (inr want)) t = subst (Carries t) (sym want) (refused_none old.host Nothing old.state OutOfMemory t)
+  carried this (printed database opened free (inl said)) t = subst (Carries t) (sym said) (entered_none old.host old.state old.state.entries (printed_reply (listing_of database.table.plan names)) t)
+  carried this (printed database opened free (inr want)) t = subst (Carries t) (sym want) (refused_none old.host Nothing old.state OutOfMemory t)
 
   pub print_ends : (this : Outcome) → HasPrinted old.state names this → (calls : Outcomes) → AreCalm calls → (a : Option Tale) → Ends (CommandEnd calls old (Print names) (Said this) old) a a
   print_ends this has calls calm a =
@@ -110,18 +109,18 @@ module _ (old : Engine) (names : List Named) where
 
   print_plain : (this : Outcome) → HasPrinted old.state names this → IsPlainAnswer (Said this)
   print_plain this (turned_down r is said) = subst (λ (o : Outcome). IsPlainAnswer (Said o)) (sym said) (refusal_plain (case_at old) (Print names) r is)
-  print_plain this (printed newest opened free (inl said)) = subst (λ (o : Outcome). IsPlainAnswer (Said o)) (sym said) (text_plain newest.table.plan)
-  print_plain this (printed newest opened free (inr want)) = subst (λ (o : Outcome). IsPlainAnswer (Said o)) (sym want) memory_plain
+  print_plain this (printed database opened free (inl said)) = subst (λ (o : Outcome). IsPlainAnswer (Said o)) (sym said) (text_plain database.table.plan)
+  print_plain this (printed database opened free (inr want)) = subst (λ (o : Outcome). IsPlainAnswer (Said o)) (sym want) memory_plain
 
   abbrev Cause : Outcomes → Outcome → Type 0
-  Cause calls this = HasAnswerCause (blamed calls old.host old.state (Print names)) (MayLose calls old.host (Print names)) (MaySpend (Print names)) (Said this)
+  Cause calls this = HasAnswerCause (blame_of calls old.host old.state (Print names)) (MaySpend (Print names)) (Said this)
 
   print_cause : (this : Outcome) → HasPrinted old.state names this → (calls : Outcomes) → AreCalm calls → Cause calls this
   print_cause this (turned_down r is said) calls calm =
       subst (Cause calls) (sym said)
-      (judged_said (blamed calls old.host old.state (Print names)) (MayLose calls old.host (Print names)) (MaySpend (Print names)) r (print_judged old.state.opened names r is) calm)
-  print_cause this (printed newest opened free (inl said)) calls calm = subst (Cause calls) (sym said) calm
-  print_cause this (printed newest opened free (inr want)) calls calm = subst (Cause calls) (sym want) calm
+      (judged_said (blame_of calls old.host old.state (Print names)) (MaySpend (Print names)) r (print_judged old.state.opened names r is) calm)
+  print_cause this (printed database opened free (inl said)) calls calm = subst (Cause calls) (sym said) calm
+  print_cause this (printed database opened free (inr want)) calls calm = subst (Cause calls) (sym want) calm
 
   at_most : (n : ℕ) → n ≤ n + 1
   at_most n = omega arith
@@ -130,21 +129,22 @@ module _ (old : Engine) (names : List Named) where
   print_answer this has calls calm well = record {
     plain = print_plain this has;
     cause = print_cause this has calls calm;
+    lost = λ active listed is. absurd (cc (is));
     free = λ on among. absurd (omega (arith, among.1));
     host = refl;
-    well = well;
+    well = λ on. well;
     begun = at_most old.state.begun;
   }
 
 -- no call is made
-module _ {S : Type 0} (tale : S → Option Tale) (calls written : S → Option ℕ) (s : S) (names : List Named) (memory : Memory) where
-  abbrev Counted : Option Newest → Outcome → Type 0
-  Counted opened this = IsCommandCounted tale calls written s s (Print names) (Said this) opened
+module _ {S : Type 0} (shelf : Ghosts S) (s : S) (host : Host) (names : List Named) (memory : Memory) where
+  abbrev Counted : Option Opened → Outcome → Type 0
+  Counted opened this = IsCommandCounted shelf s s host (Print names) (Said this) opened opened
 
-  refused_none_made : (r : Refusal) (opened : Option Newest) → IsJudged r → Counted opened (outcome.Refused r)
-  refused_none_made r opened judged = refused_counted tale calls written s s (Print names) r opened (λ fault. absurd (subst IsJudged fault judged)) refl
+  refused_none_made : (r : Refusal) (opened : Option Opened) → IsJudged r → Counted opened (outcome.Refused r)
+  refused_none_made r opened judged = refused_counted shelf s s host (Print names) r opened opened (λ fault. absurd (subst IsJudged fault judged)) refl
 
-  pub print_counted : (this : Outcome) → HasPrinted memory names this → (opened : Option Newest) → Counted opened this
+  pub print_counted : (this : Outcome) → HasPrinted memory names this → (opened : Option Opened) → Counted opened this
   print_counted this (turned_down r is said) opened = subst (Counted opened) (sym said) (refused_none_made r opened (print_judged memory.opened names r is))
-  print_counted this (printed newest is free (inl said)) opened = subst (Counted opened) (sym said) (record { exactly = between_none calls written s s 0 0 refl; few = omega arith })
-  print_counted this (printed newest is free (inr want)) opened = subst (Counted opened) (sym want) (refused_counted tale calls written s s (Print names) OutOfMemory opened (λ fault. absurd (cc (fault))) refl)
+  print_counted this (printed database is free (inl said)) opened = subst (Counted opened) (sym said) (record { exactly = none_within shelf s s 0 0 refl; most = none_within shelf s s 0 0 refl; wrote = tt })
+  print_counted this (printed database is free (inr want)) opened = subst (Counted opened) (sym want) (refused_counted shelf s s host (Print names) OutOfMemory opened opened (λ fault. absurd (cc (fault))) refl)

@@ -7,7 +7,7 @@ use Rattle.std.specs.Prelude.{nat_lt}
 use Rattle.mdv_base.specs.Order.{first_refusal, where_so}
 use Rattle.mdv_base.specs.declared.refusal.Refusal.TheVariants.{NoDatabase, NoSuchVolume, OutOfRange, TooMany}
 use Rattle.mdv_engine_law.specs.Refusals.{blocks_refusal, has_number, held_of_blocks, held_past, read_refusal, size_of}
-use Rattle.mdv_engine.specs.Below.{Outcomes, VolId, Refusal, Host, Memory, Newest, Volume}
+use Rattle.mdv_engine.specs.Below.{Outcomes, VolId, Refusal, Host, Memory, Opened, Volume}
 use Rattle.mdv_engine.specs.Engine.{HasBlocksCause, HasReadCause}
 
 -- why a read of too many blocks is refused
@@ -15,9 +15,9 @@ abbrev past_many : Option Volume → Option Refusal
 past_many None = Some NoSuchVolume
 past_many (Some volume) = Some TooMany
 
-abbrev many_refusal : Option Newest → VolId → Option Refusal
+abbrev many_refusal : Option Opened → VolId → Option Refusal
 many_refusal None volume = Some NoDatabase
-many_refusal (Some newest) volume = past_many (find (has_number volume) newest.table.plan.volumes)
+many_refusal (Some o) volume = past_many (find (has_number volume) o.table.plan.volumes)
 
 past_first : (past : Bool) → first_refusal (where_so past OutOfRange ++ where_so true TooMany) ≡ Some TooMany
 past_first true = refl
@@ -27,9 +27,9 @@ found_first : (found : Option Volume) (end : ℕ) → first_refusal (held_past f
 found_first None end = refl
 found_first (Some volume) end = past_first (nat_lt (size_of volume.kind) end)
 
-many_first : (opened : Option Newest) (volume : VolId) (end : ℕ) → first_refusal (held_of_blocks opened volume end ++ where_so true TooMany) ≡ many_refusal opened volume
+many_first : (opened : Option Opened) (volume : VolId) (end : ℕ) → first_refusal (held_of_blocks opened volume end ++ where_so true TooMany) ≡ many_refusal opened volume
 many_first None volume end = refl
-many_first (Some newest) volume end = found_first (find (has_number volume) newest.table.plan.volumes) end
+many_first (Some o) volume end = found_first (find (has_number volume) o.table.plan.volumes) end
 
 -- that it is there is known by none of its blocks
 none_past : (volume : Volume) → first_refusal (held_past (Some volume) 0) ≡ None
@@ -43,18 +43,18 @@ there_many : (found : Option Volume) → first_refusal (held_past found 0) ≡ N
 there_many None is = absurd (cc (is))
 there_many (Some volume) is = refl
 
-module _ (opened : Option Newest) (volume : VolId) where
+module _ (opened : Option Opened) (volume : VolId) where
   absent_is : (r : Refusal) → blocks_refusal opened volume 0 ≡ Some r → many_refusal opened volume ≡ Some r
   absent_is r is = by opened is where
-    by : (o : Option Newest) → blocks_refusal o volume 0 ≡ Some r → many_refusal o volume ≡ Some r
+    by : (o : Option Opened) → blocks_refusal o volume 0 ≡ Some r → many_refusal o volume ≡ Some r
     by None is = is
-    by (Some newest) is = there_first (find (has_number volume) newest.table.plan.volumes) r is
+    by (Some o) is = there_first (find (has_number volume) o.table.plan.volumes) r is
 
   there_is : blocks_refusal opened volume 0 ≡ None → many_refusal opened volume ≡ Some TooMany
   there_is is = by opened is where
-    by : (o : Option Newest) → blocks_refusal o volume 0 ≡ None → many_refusal o volume ≡ Some TooMany
+    by : (o : Option Opened) → blocks_refusal o volume 0 ≡ None → many_refusal o volume ≡ Some TooMany
     by None is = absurd (cc (is))
-    by (Some newest) is = there_many (find (has_number volume) newest.table.plan.volumes) is
+    by (Some o) is = there_many (find (has_number volume) o.table.plan.volumes) is
 
   module _ (at count : ℕ) where
     many_is : 1024 < count → read_refusal opened volume at count ≡ many_refusal opened volume

@@ -1,44 +1,75 @@
--- How many calls on the drive a command and a boot make, by what they came to.
-use Rattle.std.specs.Prelude.{◌≡◌, ◌+◌, ℕ, List, Option, Some, None, Result, Ok, Err}
-use Rattle.mdv_base.specs.DriveSet.{Drives}
-use Rattle.mdv_base.specs.declared.drive.DriveNo.{DriveNo}
+-- How many calls on the drives a command and a boot make, by what they came to.
+use Rattle.std.specs.Prelude.{◌≡◌, ◌+◌, ◌*◌, ℕ, true, length, Option, Some, None, Result, Ok, Err}
+use Rattle.mdv_base.specs.DriveSet.{no_drives}
 use Rattle.mdv_base.specs.declared.refusal.Refusal.{Refusal}
 use Rattle.mdv_base.specs.declared.refusal.Refusal.TheVariants.{IoFault, OutOfMemory}
 use Rattle.mdv_base.specs.declared.name.VolId.{VolId}
-use Rattle.mdv_shelf.specs.Calls.{Took}
-use Rattle.mdv_shelf.specs.Between.{TookBetween}
-use Rattle.mdv_shelf.specs.Made.{made_by}
-use Rattle.mdv_shelf.specs.Tale.{Tale}
+use Rattle.mdv_shelf.specs.Between.{RoseByAtLeast}
+use Rattle.mdv_shelf.specs.Made.{Made, made_of}
+use Rattle.mdv_shelf.specs.Shelves.{MadeCalls}
+use Rattle.mdv_shelf.specs.Tale.{Tale, last}
+use Rattle.mdv_shelf.specs.declared.shelf.Shelf.{Ghosts}
 use Rattle.mdv_words.specs.declared.command.Command.{Command}
-use Rattle.mdv_words.specs.declared.command.Command.TheVariants.{Read}
-use Rattle.mdv_store_law.specs.Site.{Newest}
-use Rattle.mdv_engine_law.specs.Efforts.{DoneCalls, FaultCalls, LossCalls, wanting_calls}
-use Rattle.mdv_engine_law.specs.Line.{Memory}
+use Rattle.mdv_words.specs.declared.command.Command.TheVariants as command
+use Rattle.mdv_store.specs.BootCounts.{most_blocks, most_reads}
+use Rattle.mdv_store.specs.Counts.{drives_lost}
+use Rattle.mdv_store.specs.Create.{blanked_asked}
+use Rattle.mdv_store.specs.Text.{blocks_for}
+use Rattle.mdv_survey.specs.Counts.{AreLinesBy}
+use Rattle.mdv_engine_law.specs.Efforts.{FaultCalls, LossCalls, MadeCallsOf, places_on, wanting_calls}
 use Rattle.mdv_engine_law.specs.declared.answer.Answer.{Answer}
 use Rattle.mdv_engine_law.specs.declared.answer.Answer.TheVariants.{Said, Over}
 use Rattle.mdv_engine_law.specs.declared.answer.Ended.TheVariants as ended
 use Rattle.mdv_engine_law.specs.declared.answer.Outcome.TheVariants as outcome
 use Rattle.mdv_engine_law.specs.Answers.{accepted, refusing}
-use Rattle.mdv_store_law.specs.Effort.{BroughtUpBy}
 use Rattle.mdv_engine_law.specs.declared.answer.Reply.{Reply}
 use Rattle.mdv_engine_law.specs.declared.answer.Reply.TheVariants as reply
+use Rattle.mdv_engine.specs.Below.{Create, Host, Memory, Opened, Read, Write, active_of, lines_asked, record_text}
 
--- The calls of a command, by what it came to and left open: exactly so many, and so many blocks, where it was done, and no more where one failed. Without memory
+-- the most calls that a command makes, and the most blocks that it writes
+abbrev pub calls_of : Host → Option Opened → Command → ℕ
+calls_of host opened (Create slices force count blocks) = 2 * blanked_asked (lines_asked host slices) count + 12 * places_on (lines_asked host slices) count
+calls_of host None (command.MakeStripe volume slice) = 0
+calls_of host (Some o) (command.MakeStripe volume slice) = 6 * active_of o.seats
+calls_of host opened (Read volume at count) = 1
+calls_of host opened (Write volume at block) = 2
+calls_of host opened (command.Print names) = 0
+
+abbrev pub blocks_of : Host → Option Opened → Command → ℕ
+blocks_of host opened (Create slices force count blocks) = blanked_asked (lines_asked host slices) count + 4103 * places_on (lines_asked host slices) count
+blocks_of host None (command.MakeStripe volume slice) = 0
+blocks_of host (Some o) (command.MakeStripe volume slice) = 4096 * active_of o.seats
+blocks_of host opened (Read volume at count) = 0
+blocks_of host opened (Write volume at block) = 1
+blocks_of host opened (command.Print names) = 0
+
+-- A change that is done wrote its table to each place that is left, and began to write it on each drive that it left meanwhile.
+abbrev pub HasWrittenAll : {S : Type 0} → Ghosts S → S → S → Command → Option Opened → Option Opened → Type 0
+HasWrittenAll shelf old new (command.MakeStripe volume slice) (Some before) (Some now) =
+    RoseByAtLeast ((2 + blocks_for (length (record_text now.table))) * active_of now.seats + drives_lost before.seats now.seats) (shelf.written old) (shelf.written new)
+HasWrittenAll shelf old new other before now = Unit {0}
+
+-- The calls of a command that was done: exactly so many, and no more than it may make at all; a change wrote to each place so.
+pub record DoneCalls {S : Type 0} (shelf : Ghosts S) (old new : S) (host : Host) (command : Command) (before now : Option Opened) : Type 0 where
+  pub exactly : MadeCallsOf (made_of shelf old new) command host before now
+  pub most : (made_of shelf old new).within 0 (calls_of host before command) (blocks_of host before command)
+  pub wrote : HasWrittenAll shelf old new command before now
+
+-- The calls of a command, by what it came to, and what was open before and is then: exactly so many, and so many blocks, where it was done, and no more where one failed. Without memory
 -- nothing is written. A command that is refused for another cause does nothing at all: it doesn't even read.
-abbrev pub IsCommandCounted : {S : Type 0} → (S → Option Tale) → (S → Option ℕ) → (S → Option ℕ) → S → S → Command → Answer → Option Newest → Type 0
-IsCommandCounted tale calls written old new command (Said outcome.Ok) opened = DoneCalls (made_by calls written old new) command opened
-IsCommandCounted tale calls written old new command (Said (outcome.Values text)) opened = DoneCalls (made_by calls written old new) command opened
-IsCommandCounted tale calls written old new command (Said (outcome.Refused IoFault)) opened = FaultCalls (made_by calls written old new) command
-IsCommandCounted tale calls written old new command (Said (outcome.Refused OutOfMemory)) opened = TookBetween calls written old new 0 (wanting_calls command) 0 × (tale new ≡ tale old)
-IsCommandCounted tale calls written old new command (Said (outcome.Refused other)) opened = new ≡ old
-IsCommandCounted tale calls written old new command (Over (ended.Lost active listed)) opened = LossCalls (made_by calls written old new) command
-IsCommandCounted tale calls written old new command (Over ended.Spent) opened = new ≡ old
-IsCommandCounted tale calls written old new command (Over ended.Memory) opened = new ≡ old
+abbrev pub IsCommandCounted : {S : Type 0} → Ghosts S → S → S → Host → Command → Answer → Option Opened → Option Opened → Type 0
+IsCommandCounted shelf old new host command (Said outcome.Ok) before now = DoneCalls shelf old new host command before now
+IsCommandCounted shelf old new host command (Said (outcome.Values text)) before now = DoneCalls shelf old new host command before now
+IsCommandCounted shelf old new host command (Said (outcome.Refused IoFault)) before now = FaultCalls (made_of shelf old new) command host
+IsCommandCounted shelf old new host command (Said (outcome.Refused OutOfMemory)) before now = (made_of shelf old new).within 0 (wanting_calls command) 0 × (shelf.tale new ≡ shelf.tale old)
+IsCommandCounted shelf old new host command (Said (outcome.Refused other)) before now = new ≡ old
+IsCommandCounted shelf old new host command (Over (ended.Lost active listed)) before now = LossCalls (made_of shelf old new) command host before
+IsCommandCounted shelf old new host command (Over other) before now = new ≡ old
 
 -- the same of a read, before its answer is made
-abbrev pub HasReadCounts : {S T : Type 0} → (S → Option Tale) → (S → Option ℕ) → (S → Option ℕ) → S → S → VolId → ℕ → ℕ → Result T Refusal → Option Newest → Type 0
-HasReadCounts tale calls written old new volume at count (Ok text) opened = Took calls written old new 1 0
-HasReadCounts tale calls written old new volume at count (Err refusal) opened = IsCommandCounted tale calls written old new (Read volume at count) (refusing refusal) opened
+abbrev pub HasReadCounts : {S T : Type 0} → Ghosts S → S → S → Host → VolId → ℕ → ℕ → Result T Refusal → Option Opened → Type 0
+HasReadCounts shelf old new host volume at count (Ok text) opened = MadeCalls shelf old new 1 0
+HasReadCounts shelf old new host volume at count (Err refusal) opened = IsCommandCounted shelf old new host (Read volume at count) (refusing refusal) opened opened
 
 -- a refusal that no call on the drive came before
 abbrev pub IsUnlooked : Reply → Type 0
@@ -50,6 +81,8 @@ IsUnlooked (reply.Panic active listed) = ⊥
 IsUnlooked reply.Spent = ⊥
 IsUnlooked reply.NoMemory = ⊥
 IsUnlooked reply.Told = ⊥
+IsUnlooked (reply.NoQuorum readable needed) = ⊥
+IsUnlooked (reply.TwoDatabases a b) = ⊥
 
 -- a refusal behind which nothing was written
 abbrev pub IsQuietRefusal : Reply → Type 0
@@ -60,23 +93,17 @@ IsQuietRefusal (reply.Panic active listed) = ⊥
 IsQuietRefusal reply.Spent = ⊥
 IsQuietRefusal reply.NoMemory = ⊥
 IsQuietRefusal reply.Told = ⊥
+IsQuietRefusal (reply.NoQuorum readable needed) = ⊥
+IsQuietRefusal (reply.TwoDatabases a b) = ⊥
 
--- Behind the calls that brought the drives up a boot that opened a database took ten or eleven; one that found none three at most, and wrote nothing. One that
--- is lost made three at least, one that is spent two, and one that wants memory one.
-abbrev pub IsOpenedCounted : {S : Type 0} → (S → Option ℕ) → (S → Option ℕ) → S → S → ℕ → Option Newest → Type 0
-IsOpenedCounted calls written old new brought (Some newest) = TookBetween calls written old new (brought + 10) (brought + 11) 4097
-IsOpenedCounted calls written old new brought None = TookBetween calls written old new brought (brought + 3) 0
+-- Behind so many calls that wrote nothing: a boot that opened a database made eight more for each active place, and wrote a claim, two gates and the table's text to each; one that
+-- found none made none.
+abbrev pub IsOpenedCounted : Made → ℕ → Option Opened → Type 0
+IsOpenedCounted made before (Some o) = made.exactly (before + 8 * active_of o.seats) ((3 + blocks_for (length (record_text o.table))) * active_of o.seats)
+IsOpenedCounted made before None = made.within before before 0
 
-abbrev pub IsPlaceCounted : {S : Type 0} → (S → Option ℕ) → (S → Option ℕ) → S → S → ℕ → Answer → Memory → Type 0
-IsPlaceCounted calls written old new brought (Said this) memory = IsOpenedCounted calls written old new brought memory.opened
-IsPlaceCounted calls written old new brought (Over (ended.Lost active listed)) memory = TookBetween calls written old new (brought + 3) (brought + 11) 4097
-IsPlaceCounted calls written old new brought (Over ended.Spent) memory = TookBetween calls written old new (brought + 2) (brought + 3) 0
-IsPlaceCounted calls written old new brought (Over ended.Memory) memory = TookBetween calls written old new (brought + 1) (brought + 3) 0
-
--- The calls of a boot: those that brought the host's drives up, of which memory has which are up where it is answered, and those at the place.
-pub record IsBootedCounted {S : Type 0} (calls written : S → Option ℕ) (old new : S) (own : List DriveNo) (answer : Answer) (memory : Memory) : Type 0 where
-  pub up : Drives
-  pub tied : answer ≡ accepted → up ≡ memory.up
-  pub brought : ℕ
-  pub by : BroughtUpBy own up brought
-  pub place : IsPlaceCounted calls written old new brought answer memory
+-- The calls of a boot: no more than those of as many looks as there are drives, and one, and of fifty places; and where it is answered and none failed, as many as it read, and those by which it opened what it did.
+pub record IsBootedCounted {S : Type 0} (shelf : Ghosts S) (old new : S) (host : Host) (answer : Answer) (memory : Memory) : Type 0 where
+  pub most : (made_of shelf old new).within 0 (2 * length host.site.drives + most_reads host.site + 8 * 50) most_blocks
+  pub clean : answer ≡ accepted → memory.clean ≡ true → (t : Tale) → shelf.tale old ≡ Some t
+      → (reads : ℕ) × AreLinesBy host.drives host.site memory.up no_drives (last t) host.site.lines reads × IsOpenedCounted (made_of shelf old new) (2 * length host.site.drives + reads) memory.opened

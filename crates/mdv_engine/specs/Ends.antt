@@ -1,47 +1,68 @@
--- What the calls of an engine say of their answers, and of the drive in the end.
-use Rattle.mdv_engine_law.specs.Line.{Ask, ToDo, deeds}
-use Rattle.std.specs.Prelude.{◌≡◌, ◌≢◌, ◌≤◌, ◌+◌, ℕ, Bool, List, [], Option, Some, None, Result, Ok, Err, IfOk, IfErr, OnOk, Contains, length}
-use Rattle.mdv_shelf.specs.Calls.{OnDrive}
-use Rattle.mdv_shelf.specs.Shelves.{AtEachMoment, AtEachTale, AtEnd, DriveFailures, EndsTold, GivingFailed, GivingFailures, KeptOn, MadeCalls, MadeCallsAtMost, RestsOnceTold}
+-- What the calls of an engine say of their answers, and of the drives in the end.
+use Rattle.std.specs.Prelude.{◌≡◌, ◌≢◌, ◌≤◌, ◌+◌, ℕ, Bool, true, false, List, [], Option, Some, None, Result, Ok, Err, IfOk, IfErr, OnOk, Contains, length}
+use Rattle.mdv_shelf.specs.Drives.{KeptAmong}
+use Rattle.mdv_shelf.specs.Shelves.{AtEachMoment, AtEachTale, AtEnd, DriveFailures, EndsTold, GivingFailed, GivingFailures, KeptOn, MadeCalls, RestsOnceTold}
 use Rattle.mdv_shelf.specs.declared.shelf.Shelf.{Ghosts}
+use Rattle.mdv_standing.specs.Creating.{first_mark}
+use Rattle.mdv_store.specs.Booting.{boot_area, has_written}
+use Rattle.mdv_store.specs.Create as create
+use Rattle.mdv_store.specs.Seats.{AreTheirs}
 use Rattle.mdv_words.specs.declared.command.Command.{Command}
-use Rattle.mdv_words.specs.declared.command.Command.TheVariants.{Create, MakeStripe}
+use Rattle.mdv_words.specs.declared.command.Command.TheVariants as command
 use Rattle.mdv_words.specs.Line as words
-use Rattle.mdv_engine.specs.Below.{AreCalm, DriveBlock, FailedOn, DriveNo, Outcomes, key_of, site_of, identity_of, SliceName, VolId, Refusal, IoFault, OutOfMemory, KeptOutside, nowhere, IsSettled, IsSynced, Settling, Tale, last, Change, Table, Created, Answer, Ended, Host, Kept, Memory, kept_at, unbooted, asked_by, blocks_of, AreBlocksAt, CameTo, IsRebooted, IsPlainAnswer, BootedTo, CarryEnd, CarryMoment, Changed, Executed, Knows, TellMoment, TellsFront, TurnMoment, Turned, text_of}
-use Rattle.mdv_store_law.specs.Site.{Newest}
-use Rattle.mdv_store_law.specs.Standing.{ShowsReplica}
+use Rattle.mdv_engine.specs.Below.{Answer, AreBlocksAt, AreCalm, BootedTo, CameTo, CarryEnd, CarryMoment, Change, Changed, Create, Created, DriveBlock, DriveNo, Ended, Executed, FailedOn, Host, IoFault, IsAllowed, IsOpenedAt, IsPlainAnswer, IsRebooted, IsSettled, IsSynced, Kept, KeptOutside, Knows, MakeStripe, MayLeave, Memory, OnDrive, Opened, OutOfMemory, Outcomes, Read, Refusal, Seat, Settling, SliceLine, SliceName, Table, Tale, TellMoment, TellsFront, TurnMoment, Turned, VolId, Write, asked_by, blocks_of, has_drive, identity_of, kept_at, key_of, last, lines_asked, nowhere, text_of, unbooted}
 use Rattle.mdv_shelf.specs.Made.{Made, and_more, made_of}
-use Rattle.mdv_engine_law.specs.declared.answer.Answer.TheVariants.{Over}
+use Rattle.mdv_engine_law.specs.declared.answer.Answer.TheVariants.{Said, Over}
 use Rattle.mdv_engine_law.specs.declared.answer.Ended.TheVariants as ended
-use Rattle.mdv_engine_law.specs.Line.{contents}
+use Rattle.mdv_engine_law.specs.Line.{Ask, ToDo, ToMake, contents, deeds}
 use Rattle.mdv_engine_law.specs.Answers.{accepted, refusing}
-use Rattle.mdv_engine_law.specs.Commands.{IsAllowed, MayLose, MaySpend, blamed}
+use Rattle.mdv_engine_law.specs.Commands.{MaySpend, blame_of}
+use Rattle.mdv_engine_law.specs.Efforts.{BootCalls, FaultCalls, LossCalls, MadeCallsOf, wanting_calls}
 use Rattle.mdv_engine_law.specs.Refusals.{blocks_refusal, read_refusal}
 use Rattle.mdv_engine_law.specs.declared.answer.Outcome.{Outcome}
 use Rattle.mdv_engine_law.specs.declared.answer.Reply.{Reply}
 use Rattle.mdv_engine_law.specs.declared.answer.Reply.TheVariants as reply
 use Rattle.mdv_engine_law.specs.Replies.{HasAnswerCause, HasCommandCause, IsAccepted, IsLost, IsReplied, IsReplyTo}
-use Rattle.mdv_engine.specs.declared.engine.Engine.{Engine}
-use Rattle.mdv_engine_law.specs.Efforts.{BootCalls, DoneCalls, FaultCalls, LossCalls, calls_of, wanting_calls}
 use Rattle.mdv_engine_law.specs.Standing.{IsBare, LeavesDone}
-use Rattle.mdv_engine_law.specs.Efforts as efforts
-use Rattle.mdv_engine.specs.Counts.{IsQuietRefusal, IsUnlooked}
-use Rattle.mdv_engine.specs.Engine.{HasBootCause, IsNextTable, IsWell, case_at}
+use Rattle.mdv_engine.specs.declared.engine.Engine.{Engine}
+use Rattle.mdv_engine.specs.Counts.{IsQuietRefusal, IsUnlooked, calls_of}
+use Rattle.mdv_engine.specs.Counts as counts
+use Rattle.mdv_engine.specs.Engine.{HasBootCause, IsLostOnSite, IsNextTable, IsWell, case_at, drives_open}
+
+-- each moment of a creation of so many replicas of so many blocks on each of these slices
+abbrev pub CreationMoments : {S : Type 0} → Ghosts S → S → S → Engine → List SliceName → ℕ → ℕ → Type 0
+CreationMoments shelf from to old slices count blocks = AtEachTale shelf (CarryMoment old.host (ToMake (key_of old.host) (lines_asked old.host slices) count blocks) old.state) from to
 
 -- each moment of a change
 abbrev pub ChangeMoments : {S : Type 0} → Ghosts S → S → S → Engine → Change → Type 0
 ChangeMoments shelf from to old change = AtEachTale shelf (CarryMoment old.host (ToDo (Changed (key_of old.host) change)) old.state) from to
 
--- what a command leaves that the run is over with, for a place was lost: each crash then leaves the new replica of a creation
-abbrev pub LeavesMade : Host → Memory → Command → Tale → Type 0
-LeavesMade host old (Create slice force blocks) u = ShowsReplica (site_of host) blocks (identity_of host old.begun) u
-LeavesMade host old other u = Unit {0}
+-- the database that a creation leaves open at these places
+abbrev pub made_at : Host → ℕ → List SliceLine → ℕ → ℕ → List Seat → Opened
+made_at host begun lines count blocks seats = record {
+  key = key_of host;
+  identity = identity_of host begun;
+  mark = first_mark;
+  table = create.table_of (create.seats_asked (key_of host) (identity_of host begun) lines count blocks);
+  seats = seats;
+}
 
--- a command that was carried out: what it came to and led to, what it left where it was done, and where the run is over, for a place was lost
+-- Too few of the places took the table of a creation, as the calls say that failed; whatever a crash leaves, each of the places has its replica, and each that is left shows the table.
+pub record LeavesTable (calls : Outcomes) (host : Host) (begun : ℕ) (lines : List SliceLine) (count blocks active listed : ℕ) (u : Tale) : Type 0 where
+  pub lost : create.IsLost calls (key_of host) (identity_of host begun) lines count blocks active listed
+  pub formed : AreTheirs host.drives (key_of host) (identity_of host begun) (create.seats_asked (key_of host) (identity_of host begun) lines count blocks) u
+  pub left : IsOpenedAt host.drives (made_at host begun lines count blocks lost.now) u
+
+-- what a command leaves that the run is over with, for too few places are left
+abbrev pub LeavesMade : Outcomes → Host → Memory → Command → ℕ → ℕ → Tale → Type 0
+LeavesMade calls host old (Create slices force count blocks) active listed u = LeavesTable calls host old.begun (lines_asked host slices) count blocks active listed u
+LeavesMade calls host old other active listed u = Unit {0}
+
+-- a command that was carried out: what it came to and led to, what it left where it was done, and where the run is over, for too few places are left
 pub record CarriedOut (calls : Outcomes) (host : Host) (command : Command) (old : Memory) (answer : Answer) (new : Memory) (t u : Tale) : Type 0 where
   pub carry : CarryEnd (λ kept a next. CameTo calls host kept command a next) host (asked_by host command) old answer new t u
   pub done : IsAccepted answer → LeavesDone host old command u
-  pub lost : (active listed : ℕ) → answer ≡ Over (ended.Lost active listed) → LeavesMade host old command u
+  pub lost : (active listed : ℕ) → answer ≡ Over (ended.Lost active listed) → LeavesMade calls host old command active listed u
 
 -- the end of a command
 abbrev pub CommandEnd : Outcomes → Engine → Command → Answer → Engine → Tale → Tale → Type 0
@@ -51,24 +72,45 @@ CommandEnd calls old command answer new t u = CarriedOut calls old.host command 
 abbrev pub IsNext : Engine → Change → Table → Type 0
 IsNext engine change next = IsNextTable engine.host engine.state change next
 
+-- so of a stripe
+abbrev pub IsStriped : Engine → VolId → SliceName → Table → Type 0
+IsStriped engine volume slice next = IsNext engine (MakeStripe volume slice) next
+
 -- the end of a stripe's making
 abbrev pub StripeEnds : {S : Type 0} → Ghosts S → S → S → Engine → VolId → SliceName → Answer → Engine → Type 0
-StripeEnds shelf from to old volume slice answer new = AtEnd shelf (CommandEnd (DriveFailures shelf from to) old (MakeStripe volume slice) answer new) from to
+StripeEnds shelf from to old volume slice answer new = AtEnd shelf (CommandEnd (DriveFailures shelf from to) old (command.MakeStripe volume slice) answer new) from to
 
--- the end of a creation of a replica of so many blocks that nothing refuses
-abbrev pub CreationEnds : {S : Type 0} → Ghosts S → S → S → Engine → ℕ → Answer → Engine → Type 0
-CreationEnds shelf from to old blocks answer new =
-    (slice : SliceName) (force : Bool) → IsAllowed (case_at old) (Create slice force blocks) → AtEnd shelf (CommandEnd (DriveFailures shelf from to) old (Create slice force blocks) answer new) from to
+-- the end of a creation of so many replicas of so many blocks on each of these slices
+abbrev pub CreationEnds : {S : Type 0} → Ghosts S → S → S → Engine → List SliceName → Bool → ℕ → ℕ → Answer → Engine → Type 0
+CreationEnds shelf from to old slices force count blocks answer new = AtEnd shelf (CommandEnd (DriveFailures shelf from to) old (Create slices force count blocks) answer new) from to
 
--- What an answer says, whatever the shelf tells: its text is a reply's, it has its cause, a creation is accepted only where no database is open and no call failed in the last
--- boot; and what the engine keeps.
+-- of one that nothing refuses, with whichever force
+abbrev pub FreeEnds : {S : Type 0} → Ghosts S → S → S → Engine → List SliceName → ℕ → ℕ → Answer → Engine → Type 0
+FreeEnds shelf from to old slices count blocks answer new = (force : Bool) → IsAllowed (case_at old) (Create slices force count blocks) → CreationEnds shelf from to old slices force count blocks answer new
+
+-- the run goes on with it
+abbrev pub IsSaid : Answer → Type 0
+IsSaid (Said this) = Unit {0}
+IsSaid (Over end) = ⊥
+
+-- What an answer says, whatever the shelf tells: its text is a reply's, it has its cause, and where places are lost that lies on the slices where the host's replicas may; a creation is
+-- accepted only where no database is open and no call failed in the last boot; and what the engine keeps, by which it may go on where the run does.
 pub record HasAnswered (calls : Outcomes) (command : Command) (old : Engine) (answer : Answer) (new : Engine) : Type 0 where
   pub plain : IsPlainAnswer answer
-  pub cause : HasAnswerCause (blamed calls old.host old.state command) (MayLose calls old.host command) (MaySpend command) answer
+  pub cause : HasAnswerCause (blame_of calls old.host old.state command) (MaySpend command) answer
+  pub lost : (active listed : ℕ) → answer ≡ Over (ended.Lost active listed) → IsLostOnSite calls old.host active listed
   pub free : IsAccepted answer → Contains (deeds (asked_by old.host command)) (Created (key_of old.host)) → IsBare old.state
   pub host : new.host ≡ old.host
-  pub well : IsWell old.host new.state
+  pub well : IsSaid answer → IsWell old.host new.state
   pub begun : new.state.begun ≤ old.state.begun + 1
+
+-- the answer to a stripe's making
+abbrev pub StripeAnswered : {S : Type 0} → Ghosts S → S → S → Engine → VolId → SliceName → Answer → Engine → Type 0
+StripeAnswered shelf from to old volume slice answer new = HasAnswered (DriveFailures shelf from to) (command.MakeStripe volume slice) old answer new
+
+-- and its calls
+abbrev pub IsStripeCounted : {S : Type 0} → Ghosts S → S → S → Engine → VolId → SliceName → Answer → Engine → Type 0
+IsStripeCounted shelf from to old volume slice answer new = counts.IsCommandCounted shelf from to old.host (command.MakeStripe volume slice) answer old.state.opened new.state.opened
 
 -- Each moment of a line: how the drive stands, what was told of its reply by then, and that from the first byte of that on the drives are at rest.
 pub record LineMoments {S : Type 0} (shelf : Ghosts S) (host : Host) (ask : Ask) (old : Memory) (Comes : Outcomes → Kept → Answer → Kept → Type 0) (from to : S) : Type 0 where
@@ -90,23 +132,24 @@ abbrev pub CarriesOut : Host → Command → Outcomes → Kept → Answer → Ke
 CarriesOut host command calls kept answer next = CameTo calls host kept command answer next
 
 -- The end of a command and its reply: what it came to and with how many calls, what it led to, what is known where the run isn't lost; a refusal behind which
--- nothing was written; and what a command left that was told `ok`, and one that lost a place.
+-- nothing was written; and what a command left that was told `ok`, and one with which the run is over, for too few places are left.
 pub record TurnEnd (calls : Outcomes) (replies : Type 0) (made : Made) (old : Engine) (command : Command) (given : Reply) (new : Engine) (t u : Tale) : Type 0 where
   pub answered : Knows old.host old.state t → Executed calls replies made old.host (words.Exec command) old.state new.state given t u
   pub turned : IsReplied given → Turned old.host (asked_by old.host command) old.state new.state t u
   pub knows : (IsLost given → ⊥) → Knows old.host old.state t → Knows old.host new.state u
   pub quiet : IsQuietRefusal given → KeptOutside nowhere t u
   pub done : given ≡ reply.Ok → LeavesDone old.host old.state command u
-  pub lost : (active listed : ℕ) → given ≡ reply.Panic active listed → LeavesMade old.host old.state command u
+  pub lost : (active listed : ℕ) → given ≡ reply.Panic active listed → LeavesMade calls old.host old.state command active listed u
 
 abbrev pub TurnEnds : {S : Type 0} → Ghosts S → S → S → Engine → Command → Reply → Engine → Type 0
 TurnEnds shelf from to old command given new = AtEnd shelf (TurnEnd (DriveFailures shelf from to) (GivingFailed shelf from to) (made_of shelf from to) old command given new) from to
 
--- a reply to a command has its cause, and what the engine keeps
+-- a reply to a command has its cause, and what the engine keeps, by which it may go on where the run isn't over
 pub record HasReplied (calls : Outcomes) (replies : Type 0) (old : Engine) (command : Command) (given : Reply) (new : Engine) : Type 0 where
-  pub cause : HasCommandCause (blamed calls old.host old.state command) (MayLose calls old.host command) (MaySpend command) replies given
+  pub cause : HasCommandCause (blame_of calls old.host old.state command) (MaySpend command) replies given
+  pub lost : (active listed : ℕ) → given ≡ reply.Panic active listed → IsLostOnSite calls old.host active listed
   pub host : new.host ≡ old.host
-  pub well : IsWell old.host new.state
+  pub well : (IsLost given → ⊥) → IsWell old.host new.state
   pub begun : new.state.begun ≤ old.state.begun + 1
 
 -- so has one that is only told, by which no call on a drive failed, and the engine is as it was
@@ -115,19 +158,19 @@ pub record HasOnlyReplied (calls : Outcomes) (replies : Type 0) (said : Outcome)
   pub calm : AreCalm calls
   pub same : new ≡ old
 
--- The calls of a command that left this open, and of its reply: as many as the command takes, and one; where it was done, just these, and just
--- its blocks. A refused command writes nothing, unless a call failed, and
--- makes no call on the drive, unless memory was wanting behind it; where a call failed it made no more than it makes then. A count that is
+-- The calls of a command and of its reply, by what was open before and is then: as many as the command takes, and one; where it was done, just these, and just
+-- its blocks, of which a change wrote some to each place that is left and each drive that it left. A refused command writes nothing, unless a call failed, and makes no call on a drive, unless memory was wanting behind it; where a call failed it made no more than it makes then. A count that is
 -- spent takes no call. Where the reply was told whole, none failed behind its first byte; and unless it was cut short no giving failed.
-pub record IsTurnCounted {S : Type 0} (shelf : Ghosts S) (old new : S) (command : Command) (r : Reply) (opened : Option Newest) : Type 0 where
-  pub most : MadeCallsAtMost shelf old new (1 + calls_of command) (efforts.blocks_of command)
-  pub done : r ≡ reply.Ok → DoneCalls (and_more 1 (made_of shelf old new)) command opened
-  pub unlooked : IsUnlooked r → MadeCallsAtMost shelf old new 1 0
-  pub unwritten : IsQuietRefusal r → MadeCallsAtMost shelf old new (1 + calls_of command) 0
-  pub wanting : r ≡ reply.Refused OutOfMemory → MadeCallsAtMost shelf old new (1 + wanting_calls command) 0
-  pub faulted : r ≡ reply.Refused IoFault → FaultCalls (and_more 1 (made_of shelf old new)) command
-  pub lost : (active listed : ℕ) → r ≡ reply.Panic active listed → LossCalls (made_of shelf old new) command
-  pub spent : r ≡ reply.Spent → MadeCallsAtMost shelf old new 0 0
+pub record IsTurnCounted {S : Type 0} (shelf : Ghosts S) (old new : S) (host : Host) (command : Command) (r : Reply) (before now : Option Opened) : Type 0 where
+  pub most : (made_of shelf old new).within 0 (1 + calls_of host before command) (counts.blocks_of host before command)
+  pub done : r ≡ reply.Ok → MadeCallsOf (and_more 1 (made_of shelf old new)) command host before now
+  pub wrote : r ≡ reply.Ok → counts.HasWrittenAll shelf old new command before now
+  pub unlooked : IsUnlooked r → (made_of shelf old new).within 0 1 0
+  pub unwritten : IsQuietRefusal r → (made_of shelf old new).within 0 (1 + calls_of host before command) 0
+  pub wanting : r ≡ reply.Refused OutOfMemory → (made_of shelf old new).within 0 (1 + wanting_calls command) 0
+  pub faulted : r ≡ reply.Refused IoFault → FaultCalls (and_more 1 (made_of shelf old new)) command host
+  pub lost : (active listed : ℕ) → r ≡ reply.Panic active listed → LossCalls (made_of shelf old new) command host before
+  pub spent : r ≡ reply.Spent → (made_of shelf old new).within 0 0 0
   pub told : IsReplied r → EndsTold shelf old new
   pub given : r ≢ reply.Told → (GivingFailures shelf old new).none
 
@@ -146,12 +189,15 @@ abbrev pub left_by : Result Engine Ended → Memory
 left_by (Ok engine) = engine.state
 left_by (Err end) = unbooted 0
 
--- The end of a boot: what it came to; where it was answered, what is known, and that of each of the host's own drives on which no call failed a crash leaves what
--- a read gives; and how many calls it made, by what the drive held.
+-- The end of a boot: what it came to; where it was answered, what is known, and that of each drive of the site on which no call failed a crash leaves what
+-- a read gives; so it does, on a drive that is up, of each block that the boot can't have written; one that adopts nothing, and isn't lost, leaves each block as it was; and how many
+-- calls it made, by what the drives held.
 pub record IsBootEnd (calls : Outcomes) (made : Made) (host : Host) (old : Memory) (answer : Answer) (new : Memory) (t u : Tale) : Type 0 where
   pub rebooted : IsRebooted calls host (kept_at old t) answer (kept_at new u)
   pub booted : answer ≡ accepted → BootedTo host new t u
-  pub synced : answer ≡ accepted → (drive : DriveNo) → Contains host.own drive → ((calls drive.0).some → ⊥) → IsSynced drive.0 u
+  pub synced : answer ≡ accepted → (drive : DriveNo) → Contains host.site.drives drive → ((calls drive.0).some → ⊥) → IsSynced drive.0 u
+  pub still : (drive : DriveNo) (block : ℕ) → has_drive rebooted.up drive ≡ true → boot_area host.site (has_written rebooted.end) drive.0 block ≡ false → (x : List ℕ) → MayLeave u drive.0 block x → x ≡ last u drive.0 block
+  pub unwritten : has_written rebooted.end ≡ false → KeptOutside nowhere t u
   pub effort : BootCalls calls made host answer new (contents t)
 
 abbrev pub BootEndsAs : {S : Type 0} → Ghosts S → S → S → Host → Memory → Answer → Memory → Type 0
@@ -218,3 +264,11 @@ pub record AreBlocksCounted {S : Type 0} (shelf : Ghosts S) (old new : S) (calls
 -- All calls that changed something or failed are on one and the same drive, and none there changed something behind a failed one.
 abbrev pub KeptOnOne : {S : Type 0} → Ghosts S → S → S → Type 0
 KeptOnOne shelf old new = (drive : ℕ) × KeptOn shelf old new (OnDrive drive)
+
+-- so they are of a command: on the drives of the slices that a creation names, on those of the open database's active places, and of a transfer on one
+abbrev pub KeptAsAsked : {S : Type 0} → Ghosts S → S → S → Host → Memory → Command → Type 0
+KeptAsAsked shelf old new host memory (Create slices force count blocks) = KeptAmong shelf old new (create.drives_asked (lines_asked host slices))
+KeptAsAsked shelf old new host memory (command.MakeStripe volume slice) = KeptAmong shelf old new (drives_open memory.opened)
+KeptAsAsked shelf old new host memory (Read volume at count) = KeptOnOne shelf old new
+KeptAsAsked shelf old new host memory (Write volume at block) = KeptOnOne shelf old new
+KeptAsAsked shelf old new host memory (command.Print names) = KeptOnOne shelf old new

@@ -1,47 +1,90 @@
 -- What an engine keeps, what its boots answer, and why blocks and changes are refused.
-use Rattle.std.specs.Prelude.{◌≡◌, ◌⊎◌, ◌+◌, ◌≤◌, ℕ, true, false, Option, Some, None, IfSome, Result, Ok, Err}
-use Rattle.mdv_engine.specs.Below.{AreCalm, Outcomes, AreOwnCalls, IsUpBy, has_drive, VolId, Refusal, IoFault, OutOfMemory, with_blocks, Change, Table, Newest, IsTableAt, Answer, Host, site_of, Memory, home_calls}
+use Rattle.std.specs.Prelude.{◌≡◌, ◌⊎◌, ◌+◌, ◌*◌, ◌<◌, ◌≤◌, ℕ, Bool, true, List, [], length, Contains, Option, Some, None, IfSome, IsTrue, Result, Ok, Err}
+use Rattle.mdv_engine.specs.Below.{Answer, AreCalm, AreLaid, BootEnd, Change, CommitFault, CreateFault, DriveNo, Drives, Geometry, Host, IoFault, IsOfGeometry, IsUpBy, Memory, Opened, OutOfMemory, Outcomes, Refusal, Replica, ReplicaFull, Site, SliceLine, Table, VolId, answered_by, drives_of, has_drive, is_half_active, key_of, opened_by, replicas_of}
 pub use Rattle.mdv_engine_law.specs.Commands.{FailedBlocks}
 use Rattle.mdv_table.specs.Change.{table_after}
 use Rattle.mdv_table.specs.Change as table
 use Rattle.mdv_table.specs.declared.change.ApplyFault.{ApplyFault}
 use Rattle.mdv_table.specs.declared.change.ApplyFault.TheVariants.{Refused, Memory as ApplyMemory}
-use Rattle.mdv_engine_law.specs.Answers.{accepted}
+use Rattle.mdv_engine_law.specs.Answers.{accepted, refusing}
 use Rattle.mdv_engine_law.specs.Refusals.{Case, IsUnopposed, blocks_refusal, change_refusal, read_refusal}
 use Rattle.mdv_engine_law.specs.Replies.{HasEndCause}
 use Rattle.mdv_engine_law.specs.declared.answer.Answer.TheVariants.{Over}
 use Rattle.mdv_engine_law.specs.declared.answer.Ended.{Ended}
+use Rattle.mdv_engine_law.specs.declared.answer.Ended.TheVariants as ended
+use Rattle.mdv_store.specs.declared.creating.CreateFault.TheVariants as unmade
+use Rattle.mdv_store.specs.declared.store.CommitFault.TheVariants as unwritten
 use Rattle.mdv_engine.specs.declared.engine.Engine.{Engine}
 
 -- by what an engine judges a command
 abbrev pub case_at : Engine → Case
 case_at engine = record { host = engine.host; memory = engine.state }
 
--- the table is one of the host's table of drives, and names the place of its replica, which has so many blocks
-abbrev pub IsTableOf : Host → ℕ → Table → Type 0
-IsTableOf host blocks table = IsTableAt host.drives (with_blocks (site_of host).at blocks).place table
+-- the replica lies on one of the slices where a boot looks, within it
+pub record LiesOn (site : Site) (r : Replica) : Type 0 where
+  pub one_of : Contains site.lines r.line
+  pub within : 16 + r.number * r.first.blocks + r.first.blocks ≤ r.line.at.blocks
 
--- the open database's table is one of this table of drives and this place
+-- The database is the host's own, of some places, fifty at most, at least half of which are active; its table is one of the host's table of drives, and the replicas at its active places lie
+-- within their drives, where the host's may.
+pub record IsHeldBy (host : Host) (o : Opened) : Type 0 where
+  pub its : o.key ≡ key_of host
+  pub some : 1 ≤ length o.seats
+  pub few : length o.seats ≤ 50
+  pub half : IsTrue (is_half_active o.seats)
+  pub of_geometry : IsOfGeometry host.drives o.table
+  pub laid : AreLaid host.site.sizes o.seats
+  pub seated : (r : Replica) → Contains (replicas_of o.seats) r → LiesOn host.site r
+
+-- so it is of the open database
 pub record IsWell (host : Host) (memory : Memory) : Type 0 where
-  pub table : IfSome memory.opened (λ newest. IsTableOf host newest.blocks newest.table)
+  pub database : IfSome memory.opened (IsHeldBy host)
+
+-- the database, where its table is one of the table of drives
+abbrev pub IsFitting : Geometry → Opened → Option Opened → Type 0
+IsFitting g o (Some kept) = (kept ≡ o) × IsOfGeometry g o.table
+IsFitting g o None = IsOfGeometry g o.table → ⊥
+
+-- the drives on which the active places of the open database lie
+abbrev pub drives_open : Option Opened → List DriveNo
+drives_open None = []
+drives_open (Some o) = drives_of o.seats
 
 -- what a boot came to, as an answer
 abbrev pub boot_answer : {T : Type 0} → Result T Ended → Answer
 boot_answer (Ok booted) = accepted
 boot_answer (Err end) = Over end
 
--- A boot that is answered, and left this in memory: which drives are up and whether it is clean, it tells by the calls that failed. The database's drive is down only where a call
--- on it failed; and a database is open only where none did there, and its drive is up.
-pub record IsAnsweredBy (calls : Outcomes) (host : Host) (memory : Memory) : Type 0 where
-  pub own : AreOwnCalls host calls
-  pub up : IsUpBy calls host memory.up memory.clean
-  pub down : has_drive memory.up host.home.drive ≡ false → (home_calls host calls).some
-  pub opened : IfSome memory.opened (λ newest. (home_calls host calls).none × (has_drive memory.up host.home.drive ≡ true))
+-- At least half of the places of a database are active that a boot opened; no call failed on the drive of any of them, and it is up.
+pub record IsOpenBy (calls : Outcomes) (up : Drives) (o : Opened) : Type 0 where
+  pub half : IsTrue (is_half_active o.seats)
+  pub calm : (drive : DriveNo) → Contains (drives_of o.seats) drive → (calls drive.0).none
+  pub are_up : (drive : DriveNo) → Contains (drives_of o.seats) drive → has_drive up drive ≡ true
 
--- one that isn't: it is lost only where a call on the database's drive failed, and ends for another cause only where none did there
+-- a boot that is answered, and left this in memory: which drives are up and whether it is clean, it tells by the calls that failed
+pub record IsAnsweredBy (calls : Outcomes) (host : Host) (memory : Memory) : Type 0 where
+  pub end : BootEnd
+  pub answer_is : answered_by end ≡ accepted
+  pub opened_is : memory.opened ≡ opened_by end
+  pub up : IsUpBy calls host end memory.up memory.clean
+  pub opened : IfSome memory.opened (IsOpenBy calls memory.up)
+
+-- a call failed on the drive of one of the slices where a boot looks for replicas
+pub record FailedOnSite (calls : Outcomes) (host : Host) : Type 0 where
+  pub line : SliceLine
+  pub one_of : Contains host.site.lines line
+  pub here : (calls line.at.drive.0).some
+
+-- so it did, and fewer than half of the listed places are active
+abbrev pub IsLostOnSite : Outcomes → Host → ℕ → ℕ → Type 0
+IsLostOnSite calls host active listed = FailedOnSite calls host × (2 * active < listed)
+
+-- one that isn't, by the calls that failed, and its numbers
 pub record IsEndedBy (calls : Outcomes) (host : Host) (end : Ended) : Type 0 where
-  pub own : AreOwnCalls host calls
-  pub cause : HasEndCause (home_calls host calls) end
+  pub came : BootEnd
+  pub answer_is : answered_by came ≡ Over end
+  pub up : (up : Drives) × (clean : Bool) × IsUpBy calls host came up clean
+  pub cause : HasEndCause (FailedOnSite calls host) end
 
 -- by which calls a boot came to its answer
 abbrev pub HasBootCause : {T : Type 0} → Outcomes → Host → Memory → Result T Ended → Type 0
@@ -66,17 +109,34 @@ HasReadCause calls host memory volume at count refusal =
 
 -- the table that the change makes of the open one, which says nothing against it
 pub record IsNextTable (host : Host) (memory : Memory) (change : Change) (next : Table) : Type 0 where
-  pub newest : Newest
-  pub opened : memory.opened ≡ Some newest
-  pub allowed : table.refusal_of host.drives newest.table.plan change ≡ None
-  pub is : next ≡ table_after host.drives change newest.table
-  pub placed : IsTableOf host newest.blocks next
+  pub o : Opened
+  pub opened : memory.opened ≡ Some o
+  pub allowed : table.refusal_of host.drives o.table.plan change ≡ None
+  pub is : next ≡ table_after host.drives change o.table
+  pub of_geometry : IsOfGeometry host.drives next
 
 -- why there is none: the first cause that refuses the change; or memory was wanting, where the open table says nothing against it
 abbrev pub HasChangeCause : Host → Memory → Change → Refusal → Type 0
 HasChangeCause host memory change refusal = (change_refusal host memory.opened change ≡ Some refusal) ⊎ (IsUnopposed host memory change × (refusal ≡ OutOfMemory))
 
+-- a table that may be committed to the open database: one of the host's table of drives, with the lists that it has
+pub record IsCommittable (host : Host) (o : Opened) (next : Table) : Type 0 where
+  pub of_geometry : IsOfGeometry host.drives next
+  pub lists : next.plan.lists ≡ o.table.plan.lists
+
 -- what refuses the change, or want of memory, where nothing does
 abbrev pub HasApplyFault : Option Refusal → ApplyFault → Type 0
 HasApplyFault refusal (Refused r) = refusal ≡ Some r
 HasApplyFault refusal ApplyMemory = refusal ≡ None
+
+-- what is answered where a database isn't made
+abbrev pub answer_of : CreateFault → Answer
+answer_of unmade.Failed = refusing IoFault
+answer_of (unmade.Lost active listed) = Over (ended.Lost active listed)
+answer_of unmade.Memory = refusing OutOfMemory
+
+-- and where a table isn't committed
+abbrev pub commit_answer : CommitFault → Answer
+commit_answer (unwritten.Lost active listed) = Over (ended.Lost active listed)
+commit_answer (unwritten.TooLong fault) = refusing (ReplicaFull fault.bytes fault.room)
+commit_answer unwritten.Spent = Over ended.Spent

@@ -1,111 +1,298 @@
-ghost use Rattle.std.specs.Prelude.{◌≡◌, ◌<◌, ◌≤◌, ◌+◌, ◌^◌, Bool, true, None};
-ghost use Rattle.mdv_base.specs.declared.drive.SliceName.{SliceName};
+ghost use Rattle.std.specs.Prelude.{◌≡◌, ◌<◌, ◌≤◌, ◌+◌, ◌*◌, ◌^◌, ◌&&◌, ◌||◌, not, Bool, nat_lt, is_some, length, IfOk};
+ghost use Rattle.std.specs.List.{list_any};
+ghost use Rattle.mdv_name.specs.SliceIndex.{same_slice as spec_same_slice, slice_at as spec_slice_at};
 ghost use Rattle.mdv_words.specs.declared.command.Command.TheVariants.{Create};
-ghost use Rattle.mdv_engine.specs.Counts.{IsCommandCounted};
-ghost use Rattle.mdv_words.specs.Line.{IsLength};
-ghost use Rattle.mdv_engine.specs.Engine.{IsWell, case_at};
-ghost use Rattle.mdv_shelf.specs.Shelves.{AtEachTale, AtEnd, DriveFailures};
-ghost use Rattle.mdv_engine_law.specs.Home.{IsReady, key_of};
-ghost use Rattle.mdv_engine_law.specs.Line.{ToMake};
-ghost use Rattle.mdv_engine_law.specs.Refusals.{refusal_of};
+ghost use Rattle.mdv_words.specs.Line.{IsCount, IsInForm, IsLength};
+ghost use Rattle.mdv_shelf.specs.Drives.{KeptAmong};
+ghost use Rattle.mdv_shelf.specs.Shelves.{DriveFailures};
+ghost use Rattle.mdv_store.specs.Create.{drives_asked};
 ghost use Rattle.mdv_table.specs.Slices.{IsSound};
-ghost use Rattle.mdv_engine_law.specs.Standing.{CarryMoment};
-ghost use Rattle.mdv_engine.specs.Ends.{CommandEnd, CreationEnds, HasAnswered, KeptOnOne};
+ghost use Rattle.mdv_engine_law.specs.Commands.{IsAllowed};
+ghost use Rattle.mdv_engine_law.specs.Hosts.{IsReady, lines_asked as spec_lines_asked};
+ghost use Rattle.mdv_engine_law.specs.Refusals.{has_replica as spec_has_replica, is_doubled as spec_is_doubled, is_missing as spec_is_missing, is_plain as spec_is_plain};
+ghost use Rattle.mdv_engine_law.specs.Refusals.{is_short as spec_is_short, is_taken as spec_is_taken, places_open as spec_places_open, refusal_of};
+ghost use Rattle.mdv_engine.specs.Counts.{IsCommandCounted};
+ghost use Rattle.mdv_engine.specs.Ends.{CreationEnds, CreationMoments, FreeEnds, HasAnswered};
+ghost use Rattle.mdv_engine.specs.Engine.{IsWell, answer_of, case_at};
 
 use crate::engine::Engine;
-use mdv_base::{Identity, Key, Refusal, SliceName, StateWord};
-use mdv_database::{CreateFault, create};
+use mdv_base::{Identity, Place, Refusal, SliceName, StateWord};
 use mdv_engine_law::{Answer, Ended, Outcome};
-use mdv_home::{FIRST_BLOCK, place_at};
+use mdv_name::SliceLine;
+use mdv_plan::{meets_db, same_slice, slice_at};
 use mdv_shelf::Shelf;
-use std::alloc::Global;
+use mdv_store::{CreateFault, create};
+use std::alloc::{AllocError, Global};
+
+// A database lists at most so many places.
+const MOST_PLACES: usize = 50;
+
+// On each slice so many blocks lie in front of its first replica.
+const FIRST_BLOCK: u64 = 16;
 
 impl Engine {
-    // `metadb -a SLICE`, or with `-f`, for a replica of so many blocks.
-    #[tactic(auto, using(mdv_engine_law::proofs::Kept::kept_on_itself))]
+    // `metadb -a SLICE ..`, or with `-f`, for so many replicas of so many blocks on each slice.
+    #[tactic(auto, using(mdv_shelf::proofs::Among::among_none))]
     pub(crate) fn make<S: Shelf>(
         &mut self,
         shelf: &mut S,
         alloc: Global,
-        slice: SliceName,
+        slices: &[SliceName],
         force: bool,
+        count: u8,
         blocks: u32,
     ) -> Answer
         requires ready { IsReady self.old.host (S.sizes shelf.old) }
-        requires form { IsLength blocks }
+        requires form { IsInForm (Create slices.now force count blocks) }
         requires well { IsWell self.old.host self.old.state }
         requires begun { self.old.state.begun + 1 < 2 ^ 32 }
-        ensures moments { AtEachTale S.Shelf (CarryMoment self.old.host (ToMake (key_of self.old.host) blocks) self.old.state) shelf.old shelf.new }
-        ensures end { AtEnd S.Shelf (CommandEnd (DriveFailures S.Shelf shelf.old shelf.new) self.old (Create slice force blocks) result self.new) shelf.old shelf.new }
-        ensures answer { HasAnswered (DriveFailures S.Shelf shelf.old shelf.new) (Create slice force blocks) self.old result self.new }
-        ensures counted { IsCommandCounted S.tale S.calls S.written shelf.old shelf.new (Create slice force blocks) result self.new.state.opened }
-        ensures kept { KeptOnOne S.Shelf shelf.old shelf.new }
+        ensures moments { CreationMoments S.Shelf shelf.old shelf.new self.old slices.now count blocks }
+        ensures end { CreationEnds S.Shelf shelf.old shelf.new self.old slices.now force count blocks result self.new }
+        ensures answer { HasAnswered (DriveFailures S.Shelf shelf.old shelf.new) (Create slices.now force count blocks) self.old result self.new }
+        ensures counted { IsCommandCounted S.Shelf shelf.old shelf.new self.old.host (Create slices.now force count blocks) result self.old.state.opened self.new.state.opened }
+        ensures kept { KeptAmong S.Shelf shelf.old shelf.new (drives_asked (spec_lines_asked self.old.host slices.now)) }
     {
-        match self.creation_refusal(slice, force, blocks) {
+        match self.creation_refusal(slices, force, count, blocks) {
             Some(refusal) => Answer::Said(Outcome::Refused(refusal)),
-            None => self.make_database(shelf, alloc, blocks),
+            None => self.make_database(shelf, alloc, slices, count, blocks),
         }
     }
 
     // The first cause that a creation is refused for before anything is done.
-    fn creation_refusal(&self, slice: SliceName, force: bool, blocks: u32) -> Option<Refusal>
+    fn creation_refusal(
+        &self,
+        slices: &[SliceName],
+        force: bool,
+        count: u8,
+        blocks: u32,
+    ) -> Option<Refusal>
         requires sound { IsSound self.now.host.drives }
-        ensures { result ≡ refusal_of (case_at self.now) (Create slice force blocks) }
+        requires count { IsCount count }
+        ensures { result ≡ refusal_of (case_at self.now) (Create slices.now force count blocks) }
     {
-        let Some(at) = self.host.drives.slices.find(slice) else {
+        if self.lack_one(slices) {
             return Some(Refusal::NoSuchSlice);
-        };
-        if !at.db {
+        }
+        if self.have_plain(slices) {
             return Some(Refusal::WrongKind);
         }
-        if !self.state.clean {
+        if self.is_down() {
             return Some(Refusal::WrongState(StateWord::Down));
         }
-        if self.state.database.is_some() {
-            return Some(Refusal::SliceInUse);
+        if self.are_too_many(slices.len(), count) {
+            return Some(Refusal::TooMany);
         }
-        if !force {
+        if self.needs_force(force) {
             return Some(Refusal::NeedForce);
         }
-        if self.host.home.blocks < u64::from(FIRST_BLOCK) + u64::from(blocks) {
+        if self.are_taken(slices) {
+            return Some(Refusal::SliceInUse);
+        }
+        if self.are_short(slices, count, blocks) {
             return Some(Refusal::TooSmall);
+        }
+        // To a database that is open nothing is added yet.
+        if self.state.database.is_some() {
+            return Some(Refusal::BadLine);
         }
         None
     }
 
-    // Makes the database. A failed format leaves none; a failed write of its table may leave one that nobody
-    // was told of, so the run ends.
-    fn make_database<S: Shelf>(&mut self, shelf: &mut S, alloc: Global, blocks: u32) -> Answer
+    // Whether one of the slices isn't there.
+    fn lack_one(&self, slices: &[SliceName]) -> bool
+        requires sound { IsSound self.now.host.drives }
+        ensures { result ≡ list_any (spec_is_missing self.now.host) slices.now }
+    {
+        slices.iter().any(|slice| self.is_missing(*slice))
+    }
+
+    // Whether one isn't set aside for replicas.
+    fn have_plain(&self, slices: &[SliceName]) -> bool
+        requires sound { IsSound self.now.host.drives }
+        ensures { result ≡ list_any (λ slice. spec_is_plain (spec_slice_at self.now.host.drives.slices slice)) slices.now }
+    {
+        slices.iter().any(|slice| self.is_plain(*slice))
+    }
+
+    // Whether a first database would be made though a call failed in the last boot.
+    fn is_down(&self) -> bool
+        ensures { result ≡ (not (is_some self.now.state.opened) && not self.now.state.clean) }
+    {
+        self.state.database.is_none() && !self.state.clean
+    }
+
+    fn needs_force(&self, force: bool) -> bool
+        ensures { result ≡ (not (is_some self.now.state.opened) && not force) }
+    {
+        self.state.database.is_none() && !force
+    }
+
+    // Whether one of the slices is taken, or stands twice among them.
+    fn are_taken(&self, slices: &[SliceName]) -> bool
+        requires sound { IsSound self.now.host.drives }
+        ensures { result ≡ (list_any (spec_is_taken (case_at self.now)) slices.now || spec_is_doubled slices.now) }
+    {
+        self.have_taken(slices) || is_doubled(slices)
+    }
+
+    fn have_taken(&self, slices: &[SliceName]) -> bool
+        requires sound { IsSound self.now.host.drives }
+        ensures { result ≡ list_any (spec_is_taken (case_at self.now)) slices.now }
+    {
+        slices.iter().any(|slice| self.is_taken(*slice))
+    }
+
+    // Whether one has too few blocks.
+    fn are_short(&self, slices: &[SliceName], count: u8, blocks: u32) -> bool
+        requires sound { IsSound self.now.host.drives }
+        ensures { result ≡ list_any (spec_is_short self.now.host count blocks) slices.now }
+    {
+        slices
+            .iter()
+            .any(|slice| self.is_short(*slice, count, blocks))
+    }
+
+    fn is_missing(&self, slice: SliceName) -> bool
+        requires sound { IsSound self.now.host.drives }
+        ensures { result ≡ spec_is_missing self.now.host slice }
+    {
+        slice_at(&self.host.drives, slice).is_none()
+    }
+
+    fn is_plain(&self, slice: SliceName) -> bool
+        requires sound { IsSound self.now.host.drives }
+        ensures { result ≡ spec_is_plain (spec_slice_at self.now.host.drives.slices slice) }
+    {
+        match slice_at(&self.host.drives, slice) {
+            Some(at) => !at.db,
+            None => false,
+        }
+    }
+
+    // More places than a database lists, with those that the open one has.
+    fn are_too_many(&self, slices: usize, count: u8) -> bool
+        requires { IsCount count }
+        ensures { result ≡ nat_lt 50 (length (spec_places_open self.now.state.opened) + slices * count) }
+    {
+        slices > MOST_PLACES || self.places_open().len() + slices * usize::from(count) > MOST_PLACES
+    }
+
+    // The places that the open database has already.
+    fn places_open(&self) -> &[Place]
+        ensures { result.now ≡ spec_places_open self.now.state.opened }
+    {
+        match &self.state.database {
+            Some(store) => store.table().plan.lists.places(),
+            None => &[],
+        }
+    }
+
+    // Another slice that is set aside for replicas has a block of it, or it has a replica of the open database.
+    fn is_taken(&self, slice: SliceName) -> bool
+        requires sound { IsSound self.now.host.drives }
+        ensures { result ≡ spec_is_taken (case_at self.now) slice }
+    {
+        meets_db(&self.host.drives, slice) || self.has_replica(slice)
+    }
+
+    fn has_replica(&self, slice: SliceName) -> bool
+        ensures { result ≡ spec_has_replica self.now.state.opened slice }
+    {
+        let places = self.places_open();
+        places.iter().any(|place| same_slice(place.slice, slice))
+    }
+
+    fn is_short(&self, slice: SliceName, count: u8, blocks: u32) -> bool
+        requires sound { IsSound self.now.host.drives }
+        ensures { result ≡ spec_is_short self.now.host count blocks slice }
+    {
+        let room = match slice_at(&self.host.drives, slice) {
+            Some(at) => at.blocks,
+            None => 0,
+        };
+        room < FIRST_BLOCK + u64::from(count) * u64::from(blocks)
+    }
+
+    // Makes the database. A failed format leaves none; where too few places took its table, some may have it though
+    // nobody was told of it, so the run ends.
+    fn make_database<S: Shelf>(
+        &mut self,
+        shelf: &mut S,
+        alloc: Global,
+        slices: &[SliceName],
+        count: u8,
+        blocks: u32,
+    ) -> Answer
         requires ready { IsReady self.old.host (S.sizes shelf.old) }
-        requires form { IsLength blocks }
+        requires form { (1 ≤ length slices.now) × IsCount count × IsLength blocks }
         requires begun { self.old.state.begun + 1 < 2 ^ 32 }
-        requires room { 16 + blocks ≤ self.old.host.home.blocks }
-        requires none { self.old.state.opened ≡ None }
-        requires clean { self.old.state.clean ≡ true }
-        ensures moments { AtEachTale S.Shelf (CarryMoment self.old.host (ToMake (key_of self.old.host) blocks) self.old.state) shelf.old shelf.new }
-        ensures end { CreationEnds S.Shelf shelf.old shelf.new self.old blocks result self.new }
-        ensures answer { (slice : SliceName) (force : Bool) → HasAnswered (DriveFailures S.Shelf shelf.old shelf.new) (Create slice force blocks) self.old result self.new }
-        ensures counted { (slice : SliceName) (force : Bool) → IsCommandCounted S.tale S.calls S.written shelf.old shelf.new (Create slice force blocks) result self.new.state.opened }
-        ensures kept { KeptOnOne S.Shelf shelf.old shelf.new }
+        requires allowed { (force : Bool) × IsAllowed (case_at self.old) (Create slices.now force count blocks) }
+        ensures moments { CreationMoments S.Shelf shelf.old shelf.new self.old slices.now count blocks }
+        ensures end { FreeEnds S.Shelf shelf.old shelf.new self.old slices.now count blocks result self.new }
+        ensures answer { (force : Bool) → HasAnswered (DriveFailures S.Shelf shelf.old shelf.new) (Create slices.now force count blocks) self.old result self.new }
+        ensures counted { (force : Bool) → IsCommandCounted S.Shelf shelf.old shelf.new self.old.host (Create slices.now force count blocks) result self.old.state.opened self.new.state.opened }
+        ensures kept { KeptAmong S.Shelf shelf.old shelf.new (drives_asked (spec_lines_asked self.old.host slices.now)) }
     {
         let identity = Identity {
             fresh: self.host.fresh,
             number: self.state.begun,
         };
         self.state.begun += 1;
-        let key = Key::Local(self.host.home.host);
-        let at = place_at(&self.host.home);
-        match create(shelf, alloc, at, blocks, &key, identity) {
-            Ok(database) => {
-                self.state.database = Some(database);
+        let Ok(lines) = self.lines_asked(alloc, slices) else {
+            return Answer::Said(Outcome::Refused(Refusal::OutOfMemory));
+        };
+        let key = &self.host.site.key;
+        match create(shelf, alloc, key, identity, lines.as_slice(), count, blocks) {
+            Ok(store) => {
+                self.state.database = Some(store);
                 Answer::Said(Outcome::Ok)
             }
-            Err(CreateFault::Failed) => Answer::Said(Outcome::Refused(Refusal::IoFault)),
-            Err(CreateFault::Lost) => Answer::Over(Ended::Lost {
-                active: 0,
-                listed: 1,
-            }),
-            Err(CreateFault::Memory) => Answer::Said(Outcome::Refused(Refusal::OutOfMemory)),
+            Err(fault) => unmade(fault),
         }
     }
+
+    // The lines of the slices, as the table of drives has them.
+    fn lines_asked(&self, alloc: Global, slices: &[SliceName]) -> Result<Vec<SliceLine>, AllocError>
+        requires sound { IsSound self.now.host.drives }
+        ensures { IfOk result (λ lines. lines.items ≡ spec_lines_asked self.now.host slices.now) }
+    {
+        let mut lines = Vec::new(alloc);
+        for slice in slices {
+            if let Some(at) = slice_at(&self.host.drives, *slice) {
+                lines.push(SliceLine { name: *slice, at })?;
+            }
+        }
+        Ok(lines)
+    }
+}
+
+// What is answered where the database isn't made.
+fn unmade(fault: CreateFault) -> Answer
+    ensures { result ≡ answer_of fault }
+{
+    match fault {
+        CreateFault::Failed => Answer::Said(Outcome::Refused(Refusal::IoFault)),
+        CreateFault::Lost { active, listed } => Answer::Over(Ended::Lost { active, listed }),
+        CreateFault::Memory => Answer::Said(Outcome::Refused(Refusal::OutOfMemory)),
+    }
+}
+
+// Whether a slice stands in the list twice.
+fn is_doubled(slices: &[SliceName]) -> bool
+    ensures { result ≡ spec_is_doubled slices.now }
+{
+    let mut rest = slices;
+    while let [first, behind @ ..] = rest {
+        if is_among(*first, behind) {
+            return true;
+        }
+        rest = behind;
+    }
+    false
+}
+
+fn is_among(slice: SliceName, slices: &[SliceName]) -> bool
+    ensures { result ≡ list_any (spec_same_slice slice) slices.now }
+{
+    slices.iter().any(|other| same_slice(slice, *other))
 }

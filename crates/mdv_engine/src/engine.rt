@@ -3,21 +3,21 @@ ghost use Rattle.mdv_shelf.specs.Calls.{OnReplies};
 ghost use Rattle.mdv_shelf.specs.Drives.{KeptAmong};
 ghost use Rattle.mdv_shelf.specs.Shelves.{AtEachTale, AtEnd, DriveFailures, GivingFailed, KeptOn, KeptInTime};
 ghost use Rattle.mdv_engine_law.specs.Answers.{accepted, refusing};
-ghost use Rattle.mdv_engine_law.specs.Home.{IsReady};
+ghost use Rattle.mdv_engine_law.specs.Hosts.{IsReady};
 ghost use Rattle.mdv_words.specs.Line.{IsInForm};
 ghost use Rattle.mdv_engine_law.specs.Line.{asked_by, unbooted, Nothing};
 ghost use Rattle.mdv_engine_law.specs.Replies.{IsPlain};
 ghost use Rattle.mdv_engine_law.specs.Standing.{BootMoment, CarryMoment, OnlyReplied};
 ghost use Rattle.mdv_engine.specs.Counts.{IsBootedCounted, IsCommandCounted};
-ghost use Rattle.mdv_engine.specs.Ends.{BootEndsAs, KeptOnOne, CarriesOut, CommandEnd, HasAnswered, HasBooted, HasBootedFrom, HasOnlyReplied, HasRebooted, HasReplied, IsReplyCounted, IsTurnCounted, LineMoments, OnlyAnswers, RefusalMoments, TurnEnds, kept_by, left_by};
-ghost use Rattle.mdv_engine.specs.Engine.{IsWell, boot_answer};
+ghost use Rattle.mdv_engine.specs.Ends.{BootEndsAs, CarriesOut, CommandEnd, HasAnswered, HasBooted, HasBootedFrom, HasOnlyReplied, HasRebooted, HasReplied, IsReplyCounted, IsTurnCounted, KeptAsAsked, LineMoments, OnlyAnswers, RefusalMoments, TurnEnds, kept_by, left_by};
+ghost use Rattle.mdv_engine.specs.Engine.{IsFitting, IsWell, boot_answer};
+ghost use Rattle.mdv_table.specs.Slices.{IsSound};
 
 use crate::state::State;
-use mdv_base::{Key, Refusal};
-use mdv_database::{BootEnd, Booted, boot};
+use mdv_base::Refusal;
 use mdv_engine_law::{Answer, Ended, Host, Outcome, Reply, tell};
-use mdv_home::place_at;
 use mdv_shelf::{Bench, Shelf};
+use mdv_store::{BootEnd, Booted, Store, boot};
 use mdv_words::Command;
 use std::alloc::Global;
 
@@ -29,15 +29,18 @@ pub struct Engine {
 }
 
 impl Engine {
-    /// Boots the host: it brings up each drive of its own, and adopts the database that its place shows, under a new
-    /// number. A place that shows none, or can't be read, gives an engine without a database.
+    /// Boots the host: it brings up each drive of its own, and adopts the database whose newest table is found at more
+    /// than half of its places, under a new number. Where no readable replica shows a table the engine has no database.
+    /// It isn't answered where not more than half of the places are found (`NoQuorum`), where two databases show tables
+    /// (`TwoDatabases`), where fewer than half of the places took the table anew (`Lost`), where a number would reach
+    /// 2^63 (`Spent`), and where memory is wanting (`Memory`).
     pub fn boot<S: Shelf>(shelf: &mut S, alloc: Global, host: Host) -> Result<Engine, Ended>
         requires { IsReady host (S.sizes shelf.old) }
         ensures moments { AtEachTale S.Shelf (BootMoment host) shelf.old shelf.new }
         ensures end { BootEndsAs S.Shelf shelf.old shelf.new host (unbooted 0) (boot_answer result) (left_by result) }
         ensures answer { HasBooted (DriveFailures S.Shelf shelf.old shelf.new) host result }
-        ensures counted { IsBootedCounted S.calls S.written shelf.old shelf.new host.own (boot_answer result) (left_by result) }
-        ensures kept { KeptAmong S.Shelf shelf.old shelf.new host.own }
+        ensures counted { IsBootedCounted S.Shelf shelf.old shelf.new host (boot_answer result) (left_by result) }
+        ensures kept { KeptAmong S.Shelf shelf.old shelf.new host.site.drives }
     {
         match boot_from(shelf, alloc, &host, 0) {
             Ok(state) => Ok(Engine { host, state }),
@@ -51,8 +54,8 @@ impl Engine {
         ensures moments { AtEachTale S.Shelf (BootMoment self.old.host) shelf.old shelf.new }
         ensures end { BootEndsAs S.Shelf shelf.old shelf.new self.old.host self.old.state (boot_answer result) self.new.state }
         ensures answer { HasRebooted (DriveFailures S.Shelf shelf.old shelf.new) self.old result self.new }
-        ensures counted { IsBootedCounted S.calls S.written shelf.old shelf.new self.old.host.own (boot_answer result) self.new.state }
-        ensures kept { KeptAmong S.Shelf shelf.old shelf.new self.old.host.own }
+        ensures counted { IsBootedCounted S.Shelf shelf.old shelf.new self.old.host (boot_answer result) self.new.state }
+        ensures kept { KeptAmong S.Shelf shelf.old shelf.new self.old.host.site.drives }
     {
         let begun = self.state.begun;
         self.state = State::unbooted(alloc, begun);
@@ -74,7 +77,7 @@ impl Engine {
         ensures moments { LineMoments B.Shelf self.old.host (asked_by self.old.host command.now) self.old.state (CarriesOut self.old.host command.now) bench.old bench.new }
         ensures end { TurnEnds B.Shelf bench.old bench.new self.old command.now result self.new }
         ensures answer { HasReplied (DriveFailures B.Shelf bench.old bench.new) (GivingFailed B.Shelf bench.old bench.new) self.old command.now result self.new }
-        ensures counted { IsTurnCounted B.Shelf bench.old bench.new command.now result self.new.state.opened }
+        ensures counted { IsTurnCounted B.Shelf bench.old bench.new self.old.host command.now result self.old.state.opened self.new.state.opened }
         ensures kept { KeptInTime B.Shelf bench.old bench.new }
     {
         let answer = self.carry_out(bench, alloc, command);
@@ -113,15 +116,16 @@ impl Engine {
         ensures moments { AtEachTale S.Shelf (CarryMoment self.old.host (asked_by self.old.host command.now) self.old.state) shelf.old shelf.new }
         ensures end { AtEnd S.Shelf (CommandEnd (DriveFailures S.Shelf shelf.old shelf.new) self.old command.now result self.new) shelf.old shelf.new }
         ensures answer { HasAnswered (DriveFailures S.Shelf shelf.old shelf.new) command.now self.old result self.new }
-        ensures counted { IsCommandCounted S.tale S.calls S.written shelf.old shelf.new command.now result self.new.state.opened }
-        ensures kept { KeptOnOne S.Shelf shelf.old shelf.new }
+        ensures counted { IsCommandCounted S.Shelf shelf.old shelf.new self.old.host command.now result self.old.state.opened self.new.state.opened }
+        ensures kept { KeptAsAsked S.Shelf shelf.old shelf.new self.old.host self.old.state command.now }
     {
         match command {
             Command::Create {
-                slice,
+                slices,
                 force,
+                count,
                 blocks,
-            } => self.make(shelf, alloc, *slice, *force, *blocks),
+            } => self.make(shelf, alloc, slices.as_slice(), *force, *count, *blocks),
             Command::MakeStripe { volume, slice } => self.make_stripe(
                 shelf, alloc, *volume, *slice,
             ),
@@ -143,26 +147,32 @@ fn boot_from<S: Shelf>(
     ensures moments { AtEachTale S.Shelf (BootMoment host.now) shelf.old shelf.new }
     ensures end { BootEndsAs S.Shelf shelf.old shelf.new host.now (unbooted begun) (boot_answer result) (kept_by begun result) }
     ensures answer { HasBootedFrom (DriveFailures S.Shelf shelf.old shelf.new) host.now begun result }
-    ensures counted { IsBootedCounted S.calls S.written shelf.old shelf.new host.now.own (boot_answer result) (kept_by begun result) }
-    ensures kept { KeptAmong S.Shelf shelf.old shelf.new host.now.own }
+    ensures counted { IsBootedCounted S.Shelf shelf.old shelf.new host.now (boot_answer result) (kept_by begun result) }
+    ensures kept { KeptAmong S.Shelf shelf.old shelf.new host.now.site.drives }
 {
-    let key = Key::Local(host.home.host);
-    let Booted { end, up, clean } = boot(
-        shelf,
-        alloc,
-        &host.drives,
-        host.own.as_slice(),
-        place_at(&host.home),
-        &key,
-    );
+    let Booted { end, up, clean } = boot(shelf, alloc, &host.drives, &host.site);
     match end {
-        BootEnd::Adopted(database) => Ok(State::booted(alloc, Some(database), up, clean, begun)),
-        BootEnd::Empty | BootEnd::Down => Ok(State::booted(alloc, None, up, clean, begun)),
-        BootEnd::Lost => Err(Ended::Lost {
-            active: 0,
-            listed: 1,
-        }),
+        BootEnd::Adopted(store) => {
+            let database = fitting(host, store);
+            Ok(State::booted(alloc, database, up, clean, begun))
+        }
+        BootEnd::Empty => Ok(State::booted(alloc, None, up, clean, begun)),
+        BootEnd::TwoDatabases { a, b } => Err(Ended::TwoDatabases { a, b }),
+        BootEnd::NoQuorum { readable, needed } => Err(Ended::NoQuorum { readable, needed }),
+        BootEnd::Lost { active, listed } => Err(Ended::Lost { active, listed }),
         BootEnd::Spent => Err(Ended::Spent),
         BootEnd::Memory => Err(Ended::Memory),
+    }
+}
+
+// The database whose table is one of the host's table of drives, as each is that a boot reads.
+fn fitting(host: &Host, store: Store) -> Option<Store>
+    requires { IsSound host.now.drives }
+    ensures { IsFitting host.now.drives store result }
+{
+    if store.table().is_of_geometry(&host.drives) {
+        Some(store)
+    } else {
+        None
     }
 }

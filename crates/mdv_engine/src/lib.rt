@@ -1,4 +1,4 @@
-//! The commands of one host: it boots the state database from its drive, carries lines out, and tells a
+//! The commands of one host: it boots the state database from its drives, carries lines out, and tells a
 //! reply to each.
 #![tactic(auto)]
 

@@ -17,10 +17,10 @@ impl Engine {
     pub(crate) fn print(&self, alloc: Global, names: &[Named]) -> Outcome
         ensures { HasPrinted self.now.state names.now result }
     {
-        let Some(database) = &self.state.database else {
+        let Some(store) = &self.state.database else {
             return Outcome::Refused(Refusal::NoDatabase);
         };
-        let table = database.table();
+        let table = store.table();
         match missing(&table.plan.volumes, names) {
             Some(refusal) => Outcome::Refused(refusal),
             None => printed(alloc, table, names),

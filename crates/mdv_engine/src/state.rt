@@ -2,7 +2,7 @@ ghost use Rattle.std.specs.Prelude.{◌≡◌};
 ghost use Rattle.mdv_engine_law.specs.Line.{booted_with, unbooted};
 
 use mdv_base::DriveSet;
-use mdv_database::Database;
+use mdv_store::Store;
 use mdv_tab::Entry;
 use std::alloc::Global;
 use std::marker::Model;
@@ -11,7 +11,7 @@ use std::marker::Model;
 #[derive(Drop)]
 pub struct State {
     /// The database that was adopted, or was made.
-    pub database: Option<Database>,
+    pub database: Option<Store>,
     /// The drives that the last boot brought up.
     pub up: DriveSet,
     /// No call failed in the last boot.
@@ -34,7 +34,7 @@ impl State {
     /// What a boot leaves that was answered, with the database that it adopted, if there was one.
     pub(crate) fn booted(
         alloc: Global,
-        database: Option<Database>,
+        database: Option<Store>,
         up: DriveSet,
         clean: bool,
         begun: u32,

@@ -12,7 +12,7 @@ ghost use Rattle.mdv_engine.specs.Counts.{HasReadCounts, IsCommandCounted};
 ghost use Rattle.mdv_engine.specs.Placed.{IsPlacedIn, IsRunIn, place_at};
 ghost use Rattle.mdv_engine.specs.Engine.{HasBlocksCause, HasReadCause, IsCount, IsWell};
 ghost use Rattle.mdv_shelf.specs.Shelves.{AtEachTale, AtEnd, DriveFailures};
-ghost use Rattle.mdv_engine_law.specs.Home.{IsReady, key_of};
+ghost use Rattle.mdv_engine_law.specs.Hosts.{IsReady, key_of};
 ghost use Rattle.mdv_engine_law.specs.Line.{AreBlocksAt, ToDo, ToSee};
 ghost use Rattle.mdv_engine_law.specs.Refusals.{blocks_refusal, read_refusal, size_of};
 ghost use Rattle.mdv_engine_law.specs.Standing.{CarryMoment};
@@ -98,7 +98,7 @@ impl Engine {
         ensures moments { AtEachTale S.Shelf (CarryMoment self.now.host (ToSee (key_of self.now.host) volume at count) self.now.state) shelf.old shelf.new }
         ensures end { AtEnd S.Shelf (CommandEnd (DriveFailures S.Shelf shelf.old shelf.new) self.now (Read volume at count) result self.now) shelf.old shelf.new }
         ensures answer { HasAnswered (DriveFailures S.Shelf shelf.old shelf.new) (Read volume at count) self.now result self.now }
-        ensures counted { IsCommandCounted S.tale S.calls S.written shelf.old shelf.new (Read volume at count) result self.now.state.opened }
+        ensures counted { IsCommandCounted S.Shelf shelf.old shelf.new self.now.host (Read volume at count) result self.now.state.opened self.now.state.opened }
         ensures kept { KeptOnOne S.Shelf shelf.old shelf.new }
     {
         match self.values(shelf, alloc, volume, at, count) {
@@ -122,7 +122,7 @@ impl Engine {
         ensures ok { IfOk result (λ text. AreRead S.Shelf shelf.old shelf.new self.now volume at count (λ blocks. text ≡ values_reply at blocks)) }
         ensures err { IfErr result (HasReadCause (DriveFailures S.Shelf shelf.old shelf.new) self.now.host self.now.state volume at count) }
         ensures same { S.tale shelf.new ≡ S.tale shelf.old }
-        ensures counted { HasReadCounts S.tale S.calls S.written shelf.old shelf.new volume at count result self.now.state.opened }
+        ensures counted { HasReadCounts S.Shelf shelf.old shelf.new self.now.host volume at count result self.now.state.opened }
         ensures kept { KeptOnOne S.Shelf shelf.old shelf.new }
     {
         let _place = self.read_place(volume, at, count)?;
@@ -150,7 +150,7 @@ impl Engine {
         ensures moments { AtEachTale S.Shelf (CarryMoment self.old.host (ToDo (Wrote (key_of self.old.host) volume at (block.now ∷ []))) self.old.state) shelf.old shelf.new }
         ensures end { AtEnd S.Shelf (CommandEnd (DriveFailures S.Shelf shelf.old shelf.new) self.old (Write volume at block.now) result self.new) shelf.old shelf.new }
         ensures answer { HasAnswered (DriveFailures S.Shelf shelf.old shelf.new) (Write volume at block.now) self.old result self.new }
-        ensures counted { IsCommandCounted S.tale S.calls S.written shelf.old shelf.new (Write volume at block.now) result self.new.state.opened }
+        ensures counted { IsCommandCounted S.Shelf shelf.old shelf.new self.old.host (Write volume at block.now) result self.old.state.opened self.new.state.opened }
         ensures kept { KeptOnOne S.Shelf shelf.old shelf.new }
     {
         let mut blocks = [*block];
@@ -187,10 +187,10 @@ impl Engine {
         ensures free { OnOk result (blocks_refusal self.now.state.opened volume (at + count) ≡ None) }
         ensures err { IfErr result (λ refusal. blocks_refusal self.now.state.opened volume (at + count) ≡ Some refusal) }
     {
-        let Some(database) = &self.state.database else {
+        let Some(store) = &self.state.database else {
             return Err(Refusal::NoDatabase);
         };
-        let Some(volume) = database.table().plan.volumes.find(volume) else {
+        let Some(volume) = store.table().plan.volumes.find(volume) else {
             return Err(Refusal::NoSuchVolume);
         };
         let run = self.run_of(volume);

@@ -1,60 +1,101 @@
 -- What is so where nothing refuses a creation.
-use Rattle.std.proofs.Common.{◌≡◌, ◌≤◌, ◌+◌, ◌++◌, ◌&&◌, not, ℕ, Bool, false, true, List, Option, Some, None, Contains, refl, arith}
+use Rattle.std.proofs.Common.{◌≡◌, ◌≤◌, ◌+◌, ◌&&◌, ◌||◌, ◌*◌, not, if◌then◌else◌, ℕ, Bool, false, true, List, [], ◌∷◌, length, Option, Some, None, Contains, refl, sym, ◌∙◌, ap, arith}
 use Rattle.std.specs.Prelude.{nat_lt, is_some}
-use Rattle.std.specs.List.{find}
+use Rattle.std.specs.List.{list_any}
+use Rattle.std.proofs.lemmas.Bool.{false≢true}
 use Rattle.std.proofs.lemmas.Bool.Decides.{nat_tests}
-use Rattle.mdv_base.specs.Order.{has_number, order, where_so}
-use Rattle.mdv_base.proofs.Order.{none_behind, none_found, none_here, none_last}
-use Rattle.mdv_engine_law.specs.Below.{SliceName, Refusal, NeedForce, NoSuchSlice, SliceInUse, TooSmall, WrongKind, WrongState, Down, Create, Newest}
+use Rattle.std.proofs.lemmas.List.Folds.{list_any_at}
+use Rattle.mdv_engine_law.specs.Below.{SliceName, Refusal, Create, Opened}
 use Rattle.mdv_engine_law.specs.Commands.{IsAllowed}
 use Rattle.mdv_name.specs.SliceIndex.{slice_at}
-use Rattle.mdv_engine_law.specs.Refusals.{Case, held_of_creation, is_plain}
+use Rattle.mdv_plan.specs.Slices.{meets_db}
+use Rattle.mdv_engine_law.specs.Refusals.{Case, blocks_at, has_replica, is_doubled, is_missing, is_plain, is_short, is_taken, places_open}
+use Rattle.mdv_engine_law.proofs.Judging.{causes_of, creation_is_told, told_of_more}
+use Rattle.mdv_engine_law.proofs.Ordered.{Held, first_told}
 
-is_none : (opened : Option Newest) → is_some opened ≡ false → opened ≡ None
+is_none : (opened : Option Opened) → is_some opened ≡ false → opened ≡ None
 is_none None is = refl
-is_none (Some newest) is = absurd (cc (is))
+is_none (Some o) is = absurd (cc (is))
 
-not_not : (b : Bool) → not b ≡ false → b ≡ true
+pub not_not : (b : Bool) → not b ≡ false → b ≡ true
 not_not true is = refl
 not_not false is = absurd (cc (is))
+
+pub either_left : (a b : Bool) → a || b ≡ false → a ≡ false
+either_left true b is = absurd (cc (is))
+either_left false b is = refl
+
+pub either_right : (a b : Bool) → a || b ≡ false → b ≡ false
+either_right true b is = absurd (cc (is))
+either_right false b is = is
 
 enough : (blocks least : ℕ) → nat_lt blocks least ≡ false → least ≤ blocks
 enough blocks least is = grind (arith, nat_tests)
 
-module _ (case : Case) (slice : SliceName) (force : Bool) (blocks : ℕ) (free : IsAllowed case (Create slice force blocks)) where
-  abbrev gone : List Refusal
-  gone = where_so (not (is_some (slice_at case.host.drives.slices slice))) NoSuchSlice
+-- none of them passes the test
+pub none_passes : {X : Type 0} (p : X → Bool) (xs : List X) → list_any p xs ≡ false → (x : X) → Contains xs x → p x ≡ false
+none_passes p xs none x has = by (p x) refl where
+  by : (b : Bool) → p x ≡ b → p x ≡ false
+  by false is = is
+  by true is = absurd (false≢true (sym none ∙ list_any_at p xs has.0 x has.1 (ap p has.2 ∙ is)))
 
-  abbrev plain : List Refusal
-  plain = where_so (is_plain (slice_at case.host.drives.slices slice)) WrongKind
+-- where none is told none holds
+none_more : (opened : Bool) (told : Option Refusal) → told_of_more opened told ≡ None → (opened ≡ false) × (told ≡ None)
+none_more true None is = absurd (cc (is))
+none_more true (Some r) is = absurd (cc (is))
+none_more false told is = (refl, is)
 
-  abbrev unread : List Refusal
-  unread = where_so (not case.memory.clean) (WrongState Down)
+abbrev NoneHold : List Held → Type 0
+NoneHold [] = Unit {0}
+NoneHold (c ∷ cs) = (c.holds ≡ false) × NoneHold cs
 
-  abbrev unforced : List Refusal
-  unforced = where_so (not (is_some case.memory.opened) && not force) NeedForce
+none_hold : (cs : List Held) → first_told cs ≡ None → NoneHold cs
+none_hold [] is = tt
+none_hold (c ∷ cs) is = by c.holds is (none_hold cs) where
+  by : (holds : Bool) → (if holds then Some c.refusal else first_told cs) ≡ None → (first_told cs ≡ None → NoneHold cs) → (holds ≡ false) × NoneHold cs
+  by true is rest = absurd (cc (is))
+  by false is rest = (refl, rest is)
 
-  abbrev used : List Refusal
-  used = where_so (is_some case.memory.opened) SliceInUse
+module _ (case : Case) (slices : List SliceName) (force : Bool) (count blocks : ℕ) (free : IsAllowed case (Create slices force count blocks)) where
+  abbrev opened : Bool
+  opened = is_some case.memory.opened
 
-  abbrev small : List Refusal
-  small = where_so (nat_lt case.host.home.blocks (16 + blocks)) TooSmall
+  abbrev causes : List Held
+  causes =
+      causes_of (list_any (is_missing case.host) slices) (list_any (λ slice. is_plain (slice_at case.host.drives.slices slice)) slices) (not opened && not case.memory.clean) (nat_lt 50 (length (places_open case.memory.opened) + length slices * count)) (not opened && not force)
+      (list_any (is_taken case) slices || is_doubled slices) (list_any (is_short case.host count blocks) slices)
 
-  -- none of the first two holds
-  from_third : (n : ℕ) → Contains order n → find (has_number n) (unread ++ (unforced ++ (used ++ small))) ≡ None
-  from_third n has =
-      none_behind n plain (unread ++ (unforced ++ (used ++ small))) (none_behind n gone (plain ++ (unread ++ (unforced ++ (used ++ small)))) (none_found (held_of_creation case slice force blocks) free n has))
+  both : (opened ≡ false) × NoneHold causes
+  both = (let is = none_more opened (first_told causes) (sym (creation_is_told case slices force count blocks) ∙ free) in (is.0, none_hold causes is.1))
 
-  -- nor of the first four
-  from_fifth : (n : ℕ) → Contains order n → find (has_number n) (used ++ small) ≡ None
-  from_fifth n has = none_behind n unforced (used ++ small) (none_behind n unread (unforced ++ (used ++ small)) (from_third n has))
-
-  -- no call failed in the last boot, no database is open, and the slice has room
-  pub allowed_clean : case.memory.clean ≡ true
-  allowed_clean = not_not case.memory.clean (none_here 13 (not case.memory.clean) (WrongState Down) (unforced ++ (used ++ small)) refl (from_third 13 (13, omega arith, refl)))
-
+  -- no database is open, no call failed in the last boot, and there are fifty places at most
   pub allowed_none : case.memory.opened ≡ None
-  allowed_none = is_none case.memory.opened (none_here 7 (is_some case.memory.opened) SliceInUse small refl (from_fifth 7 (19, omega arith, refl)))
+  allowed_none = is_none case.memory.opened both.0
 
-  pub allowed_room : 16 + blocks ≤ case.host.home.blocks
-  allowed_room = enough case.host.home.blocks (16 + blocks) (none_last 10 (nat_lt case.host.home.blocks (16 + blocks)) TooSmall refl (none_behind 10 used small (from_fifth 10 (23, omega arith, refl))))
+  pub allowed_clean : case.memory.clean ≡ true
+  allowed_clean = by opened case.memory.clean both.0 both.1.1.1.0 where
+    by : (a b : Bool) → a ≡ false → not a && not b ≡ false → b ≡ true
+    by true b none is = absurd (cc (none))
+    by false b none is = not_not b is
+
+  pub allowed_few : length slices * count ≤ 50
+  allowed_few = (let few = enough 50 (length (places_open case.memory.opened) + length slices * count) both.1.1.1.1.0 in omega (arith, few))
+
+  -- each of the slices is there, is set aside for replicas, and meets no other one that is; none is named twice
+  pub allowed_slice : (slice : SliceName) → Contains slices slice → is_some (slice_at case.host.drives.slices slice) ≡ true
+  allowed_slice slice has = not_not (is_some (slice_at case.host.drives.slices slice)) (none_passes (is_missing case.host) slices both.1.0 slice has)
+
+  pub allowed_aside : (slice : SliceName) → Contains slices slice → is_plain (slice_at case.host.drives.slices slice) ≡ false
+  allowed_aside slice has = none_passes (λ (s : SliceName). is_plain (slice_at case.host.drives.slices s)) slices both.1.1.0 slice has
+
+  pub allowed_clear : (slice : SliceName) → Contains slices slice → meets_db case.host.drives slice ≡ false
+  allowed_clear slice has =
+      let free_of = none_passes (is_taken case) slices (either_left (list_any (is_taken case) slices) (is_doubled slices) both.1.1.1.1.1.1.0) slice has in
+      either_left (meets_db case.host.drives slice) (has_replica case.memory.opened slice) free_of
+
+  pub allowed_once : is_doubled slices ≡ false
+  allowed_once = either_right (list_any (is_taken case) slices) (is_doubled slices) both.1.1.1.1.1.1.0
+
+  -- and has room
+  pub allowed_room : (slice : SliceName) → Contains slices slice → 16 + count * blocks ≤ blocks_at (slice_at case.host.drives.slices slice)
+  allowed_room slice has = enough (blocks_at (slice_at case.host.drives.slices slice)) (16 + count * blocks) (none_passes (is_short case.host count blocks) slices both.1.1.1.1.1.1.1.0 slice has)

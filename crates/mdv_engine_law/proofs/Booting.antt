@@ -1,31 +1,33 @@
 -- What a boot leaves of a host's history, and what is known then.
-use Rattle.std.proofs.Common.{◌≡◌, ◌<◌, ℕ, zero, suc, Bool, true, false, List, [], ◌∷◌, ◌++◌, Option, Some, None, Contains, refl, sym, ◌∙◌, ap, subst, arith}
+use Rattle.std.proofs.Common.{◌≡◌, ◌⊎◌, inl, inr, ◌<◌, ℕ, zero, suc, Bool, true, false, List, [], ◌∷◌, ◌++◌, Option, Some, None, Contains, refl, sym, ◌∙◌, ap, subst, arith}
 use Rattle.std.proofs.lemmas.List.Elements.{Contains-append_left, Contains-append_right, Contains-push}
-use Rattle.mdv_engine_law.specs.Below.{AreWoken, Boots, DriveNo, Drives, Event, History, Key, KeptOutside, Table, nowhere, IsSynced, Tale, told, Log, is_firm, log_of, Newest, area_of, has_drive, ShowsNothing, IsOpened, IsNewestIn, Anything, GoesOn, GoesOnTo, history_after, history_after_all}
-use Rattle.mdv_shelf.proofs.Frame.{kept_outside_same}
-use Rattle.mdv_store_law.specs.Log.{NoCreation, Version}
+use Rattle.mdv_databases.proofs.Lists.{key_itself}
+use Rattle.mdv_databases.specs.Booting.{IsBootedIn}
+use Rattle.mdv_databases.specs.Going.{GoOn, with_events}
+use Rattle.mdv_databases.specs.Standing.{Stand}
+use Rattle.mdv_engine_law.specs.Below.{AreWoken, Boots, Database, DriveNo, Drives, Event, HasNoTable, History, Identity, IsMapOf, IsOpenIn, IsOpenedAt, Key, KeptOutside, Map, MayLeave, Opened, Site, Table, Tale, VolId, area_of_map, told, last, log_of, has_drive, history_after, history_after_all, site_area, site_of}
+use Rattle.mdv_store.specs.Commit.{AnyLog, IsNewestWritten}
 use Rattle.mdv_store_law.specs.Log as log
 use Rattle.mdv_store_law.specs.Part.{IsPart}
 use Rattle.mdv_store_law.proofs.Parts.{part_of_part}
 use Rattle.mdv_store_law.specs.Machine.{AreAll}
 use Rattle.mdv_table.specs.Table.{IsOfGeometry}
-use Rattle.mdv_volumes.specs.Databases.{Database}
-use Rattle.mdv_volumes.proofs.Databases.{key_itself}
 use Rattle.mdv_volumes.specs.Happening.{IsIssue}
 use Rattle.mdv_volumes.specs.HistoryLaws.{IsBooted, Waking, wakings}
+use Rattle.mdv_volumes.proofs.Tables.{tables_lie}
 use Rattle.mdv_volumes.proofs.Waking.{boots_go}
+use Rattle.mdv_volumes.proofs.Standing.{frames_stand}
 use Rattle.mdv_engine_law.specs.Awake.{HasBooted, is_in}
 use Rattle.mdv_engine_law.specs.declared.host.Host.{Host}
-use Rattle.mdv_engine_law.specs.Home.{IsReady, key_of, site_of, sites_of}
+use Rattle.mdv_engine_law.specs.Hosts.{IsReady, key_of}
 use Rattle.mdv_engine_law.specs.Line.{booted_with}
-use Rattle.mdv_engine_law.specs.Standing.{StandsAt, Goes, IsOfRun, Knows, IsKnown, BootMoment, BootedTo}
-use Rattle.mdv_engine_law.proofs.Beside.{table_opened}
-use Rattle.mdv_engine_law.proofs.Going.{AllAwake, goes_more, goes_weaker, happened}
-use Rattle.mdv_engine_law.proofs.Knowing.{stands_kept}
+use Rattle.mdv_engine_law.specs.Standing.{AreOwn, StandsAt, Goes, IsOfRun, Knows, IsKnown, BootMoment, BootedTo}
+use Rattle.mdv_engine_law.proofs.Going.{AllAwake, goes_more, goes_none, happened}
 use Rattle.mdv_engine_law.proofs.Lifting.{lift_log, never_asked}
 use Rattle.mdv_engine_law.proofs.Ready.{own_drives_lie}
 use Rattle.mdv_engine_law.proofs.Refusing.{IsFree}
-use Rattle.mdv_engine_law.proofs.Sites.{own_site}
+use Rattle.mdv_engine_law.proofs.Owning.{own_gone, own_still}
+use Rattle.mdv_engine_law.proofs.Unused.{not_true, plain_outside}
 
 -- the first numbers, so many
 abbrev all_below : ℕ → Drives
@@ -38,7 +40,7 @@ is_below (suc n) zero less = refl
 is_below (suc n) (suc drive) less = is_below n drive (omega (arith, less))
 
 -- of a host that is ready some drives have all its own among them
-pub all_own : (host : Host) (sizes : List ℕ) → IsReady host sizes → (up : Drives) × ((drive : DriveNo) → Contains host.own drive → has_drive up drive ≡ true)
+pub all_own : (host : Host) (sizes : List ℕ) → IsReady host sizes → (up : Drives) × ((drive : DriveNo) → Contains host.site.drives drive → has_drive up drive ≡ true)
 all_own host sizes ready = (all_below 256, λ drive one_of. (let own = own_drives_lie host sizes ready in is_below 256 drive.0 (omega (arith, own.few, (own.each drive one_of).known))))
 
 -- a boot's beginning is among events one behind another
@@ -57,115 +59,166 @@ wakings_issue : (host : Host) (key : Key) (ws : List Waking) → AreAll (IsIssue
 wakings_issue host key [] = tt
 wakings_issue host key (w ∷ ws) = (tt, wakings_issue host key ws)
 
--- a boot of the host began that brings these drives up, and none since
-abbrev pub HasBegun : Host → Drives → List Event → History → Type 0
-HasBegun host up es h = HasBooted (key_of host) up es × (h.up (key_of host) ≡ up)
+-- a boot of the host began that brings these drives up, and none since; and the databases are the host's own that were
+abbrev pub HasBegun : Host → Drives → History → List Event → History → Type 0
+HasBegun host up before es h = HasBooted (key_of host) up es × (h.up (key_of host) ≡ up) × ((begun : ℕ) → AreOwn host begun before → AreOwn host begun h)
 
-module _ (host : Host) (t : Tale) (up : Drives) where
+-- how all databases go on while one boots: they stand as they did, or the key's current one goes on with nothing asked
+abbrev pub BootsOn : Host → Tale → Tale → Type 0
+BootsOn host t m = (all : List Database) → Stand host.drives all t → Stand host.drives all m ⊎ ((identity : Identity) × GoOn host.drives all (key_of host) identity [] AnyLog m)
+
+module _ (host : Host) (sizes : List ℕ) (ready : IsReady host sizes) (t : Tale) (up : Drives) where
   -- a boot begins, by which nothing is done
   begins : (h : History) → StandsAt host h t → StandsAt host (history_after h (Boots (key_of host) up)) t
   begins h stands = record { databases = stands.databases; laid = stands.laid; apart = stands.apart; volumes = stands.volumes }
 
-  has_begun : (h : History) → HasBegun host up (Boots (key_of host) up ∷ []) (history_after h (Boots (key_of host) up))
-  has_begun h = (Contains-push [] (Boots (key_of host) up), own_up) where
+  has_begun : (h : History) → HasBegun host up h (Boots (key_of host) up ∷ []) (history_after h (Boots (key_of host) up))
+  has_begun h = (Contains-push [] (Boots (key_of host) up), own_up, λ number its. own_still host number h its number (history_after h (Boots (key_of host) up)) (omega arith) refl) where
     own_up : (history_after h (Boots (key_of host) up)).up (key_of host) ≡ up
     own_up = let itself = key_itself (key_of host) in rw itself refl
 
-  begun : (h : History) → StandsAt host h t → Goes host [] [] (λ es g. HasBegun host up es g × (log_of g.databases (key_of host) ≡ log_of h.databases (key_of host))) t h
-  begun h stands = record { es = Boots (key_of host) up ∷ []; course = ((tt, tt), tt); come = record { tells = refl; issues = (tt, tt); begins = tt }; stands = begins h stands; after = (has_begun h, refl) }
+  begun : (h : History) → StandsAt host h t → Goes host [] [] (λ es g. HasBegun host up h es g) t h
+  begun h stands = record { es = Boots (key_of host) up ∷ []; course = ((tt, tt), tt); come = record { tells = refl; issues = (tt, tt); begins = tt }; stands = begins h stands; after = has_begun h }
 
-  -- the database goes on by what a boot does there
-  booting : (After : Log → Type 0) (Then : List Event → History → Type 0) (m : Tale) → KeptOutside (area_of (site_of host)) t m
-      → ((es : List Event) (g : History) → StandsAt host g m → HasBegun host up es g → After (log_of g.databases (key_of host)) → Then es g)
-      → GoesOnTo (site_of host) After t m → (h : History) → StandsAt host h t → Goes host [] [] Then m h
-  booting After Then m kept then goes h stands =
-      goes_more host [] [] [] [] [] (λ es g. HasBegun host up es g × (log_of g.databases (key_of host) ≡ log_of h.databases (key_of host))) Then t m h tt (begun h stands)
-      (λ es g there has. lift_log host [] (λ fs. Then (es ++ fs)) Anything NoCreation [] After t m kept (λ identity none. absurd none) tt g
-      (λ fs course within table asked. absurd (never_asked fs table (nothing fs within) asked))
-      (λ fs k now woken drives after. then (es ++ fs) k now (booted_first (key_of host) up es fs has.0.0, still g k drives has.0.1) after) goes there tt)
+  its_site : (m : Tale) → KeptOutside (site_area host.site) t m → KeptOutside (site_area (site_of host.drives (key_of host))) t m
+  its_site m kept = subst (λ (s : Site). KeptOutside (site_area s) t m) ready.site kept
+
+  -- where all databases stand still, and nothing is done but where replicas of the host's may lie, so does the history
+  stands_beside : (h : History) (m : Tale) → KeptOutside (site_area host.site) t m → StandsAt host h t → Stand host.drives h.databases m → StandsAt host h m
+  stands_beside h m kept stands databases = record {
+    databases = databases;
+    laid = stands.laid;
+    apart = stands.apart;
+    volumes = λ key volume v named.
+        let laid = stands.laid key named.version named.found in
+        frames_stand.outside v (site_area (site_of host.drives (key_of host))) (h.volumes key volume) t m (laid.disjoint volume v named.map) (λ drive block in_site in_map. laid.clear volume v named.map (key_of host) drive block in_map in_site) (its_site m kept)
+        (stands.volumes key volume v named);
+  }
+
+  nothing : (fs : List log.Event) → IsPart (log.begun_by fs) [] → IsPart (log.begun_by fs) (None ∷ [])
+  nothing fs within = part_of_part (log.begun_by fs) [] (None ∷ []) within tt
+
+  still : (g k : History) → k.up ≡ g.up → g.up (key_of host) ≡ up → k.up (key_of host) ≡ up
+  still g k same is = ap (λ (drives : Key → Drives). drives (key_of host)) same ∙ is
+
+  -- events of the log of the key's current one leave that
+  gone : (before g k : History) (es fs : List Event) (changes : List log.Event) → HasBegun host up before es g → k.databases ≡ with_events (key_of host) changes g.databases → k.up ≡ g.up → HasBegun host up before (es ++ fs) k
+  gone before g k es fs changes has databases drives =
+      (booted_first (key_of host) up es fs has.0, still g k drives has.1, λ number its. own_gone host number g (has.2 number its) (key_of host) changes number k (omega arith) databases)
+
+  -- the databases go on by what a boot does there
+  pub booting : (m : Tale) → KeptOutside (site_area host.site) t m → BootsOn host t m → (h : History) → StandsAt host h t → (Then : List Event → History → Type 0)
+      → ((es : List Event) (g : History) → StandsAt host g m → HasBegun host up h es g → Then es g) → Goes host [] [] Then m h
+  booting m kept goes h stands Then then =
+      goes_more host [] [] [] [] [] (λ es g. HasBegun host up h es g) Then t m h tt (begun h stands) (λ es g there has. by es g there has (goes g.databases there.databases))
     where
-      nothing : (fs : List log.Event) → IsPart (log.begun_by fs) [] → IsPart (log.begun_by fs) (None ∷ [])
-      nothing fs within = part_of_part (log.begun_by fs) [] (None ∷ []) within tt
+      by : (es : List Event) (g : History) → StandsAt host g t → HasBegun host up h es g → Stand host.drives g.databases m ⊎ ((identity : Identity) × GoOn host.drives g.databases (key_of host) identity [] AnyLog m) → Goes host [] [] (λ fs. Then (es ++ fs)) m g
+      by es g there has (inl databases) =
+          let now = stands_beside g m kept there databases in
+          goes_none host [] (λ fs. Then (es ++ fs)) m g now (then (es ++ []) g now (booted_first (key_of host) up es [] has.0, has.1, has.2))
+      by es g there has (inr (identity, on)) =
+          lift_log host [] (λ fs. Then (es ++ fs)) (key_of host) identity [] AnyLog t m (its_site m kept) tt g there on
+          (λ table asked. absurd (never_asked on.es table (nothing on.es on.come.begins) asked))
+          (λ fs k now databases woken drives. then (es ++ fs) k now (gone h g k es fs on.es has databases drives))
 
-      still : (g k : History) → k.up ≡ g.up → g.up (key_of host) ≡ up → k.up (key_of host) ≡ up
-      still g k same is = ap (λ (drives : Key → Drives). drives (key_of host)) same ∙ is
+  -- the key's current one is adopted
+  pub adopting : (o : Opened) (u : Tale) → KeptOutside (site_area host.site) t u → ((all : List Database) → Stand host.drives all t → IsBootedIn host.drives all (key_of host) o u) → (h : History) → StandsAt host h t
+      → (Then : List Event → History → Type 0) → ((es : List Event) (g : History) → StandsAt host g u → HasBegun host up h es g → IsOpenIn host.drives o g.databases u → Then es g) → Goes host [] [] Then u h
+  adopting o u kept goes h stands Then then =
+      goes_more host [] [] [] [] [] (λ es g. HasBegun host up h es g) Then t u h tt (begun h stands) (λ es g there has.
+      (let is = goes g.databases there.databases in
+      let on = is.goes in
+      lift_log host [] (λ fs. Then (es ++ fs)) (key_of host) o.identity [] (λ lg. IsNewestWritten lg o.mark o.table) t u (its_site u kept) tt g there on
+      (λ table asked. absurd (never_asked on.es table (nothing on.es on.come.begins) asked))
+      (λ fs k now databases woken drives. then (es ++ fs) k now (gone h g k es fs on.es has databases drives) (subst (λ (ds : List Database). IsOpenIn host.drives o ds u) (sym databases) is.is_open))))
 
-  -- nothing was done in it
-  pub booting_still : (u : Tale) → KeptOutside nowhere t u → (h : History) → StandsAt host h t → Goes host [] [] (λ es g. StandsAt host g u × HasBegun host up es g) u h
-  booting_still u kept h stands =
-      let there = stands_kept host t u kept (history_after h (Boots (key_of host) up)) (begins h stands) in
-      record { es = Boots (key_of host) up ∷ []; course = ((tt, tt), tt); come = record { tells = refl; issues = (tt, tt); begins = tt }; stands = there; after = (there, has_begun h) }
+  -- Behind it a crash leaves what a read gives of each block of the drives that it brought up, but for those where replicas may lie.
+  module _ (u : Tale) (kept : KeptOutside (site_area host.site) t u) (quiet : told u ≡ told t) (clean : Bool) (number : ℕ) where
+    free : ((drive : DriveNo) (block : ℕ) → has_drive up drive ≡ true → site_area host.site drive.0 block ≡ false → (x : List ℕ) → MayLeave u drive.0 block x → x ≡ last u drive.0 block)
+        → (opened : Option Opened) → IsFree host (booted_with opened up clean number) u
+    free rests opened drive block on unused x left = rests (record { 0 = drive }) block on (plain_outside host sizes ready drive block unused.plain) x left
 
-  pub booting_empty : (u : Tale) → KeptOutside (area_of (site_of host)) t u → GoesOnTo (site_of host) (λ lg. is_firm lg ≡ false) t u → (h : History) → StandsAt host h t → Goes host [] [] (λ es g. StandsAt host g u × HasBegun host up es g) u h
-  booting_empty u kept goes h stands = booting (λ lg. is_firm lg ≡ false) (λ es g. StandsAt host g u × HasBegun host up es g) u kept (λ es g there has is. (there, has)) goes h stands
-
-  -- a boot that leaves the drives that it brought up synced
-  module _ (u : Tale) (kept : KeptOutside (area_of (site_of host)) t u) (quiet : told u ≡ told t) (synced : (drive : DriveNo) → has_drive up drive ≡ true → IsSynced drive.0 u) (clean : Bool) (number : ℕ) where
-    free : (opened : Option Newest) → IsFree host (booted_with opened up clean number) u
-    free opened drive block on unused x left = synced (record { 0 = drive }) on block x left
-
-    -- it adopted a replica, whose newest table this is: each volume on those drives is woken
-    woken : (newest : Newest) → IsOfGeometry host.drives newest.table → (g : History) → StandsAt host g u → IsNewestIn newest (log_of g.databases (key_of host)) → g.up (key_of host) ≡ up
-        → Goes host [] [] (λ fs k. IsNewestIn newest (log_of k.databases (key_of host)) × (k.up (key_of host) ≡ up) × AreWoken (site_of host) newest.table (is_in up) k (key_of host)) u g
-    woken newest of_geometry g there is drives =
-        let found : IsBooted (sites_of host) g (key_of host) (site_of host) is.version (is_in up) u = record {
-          is_site = own_site host;
-          older = is.older;
-          family = is.family;
+    -- it adopted a database, whose newest table this is: each volume on those drives is woken
+    woken : ((drive : DriveNo) (block : ℕ) → has_drive up drive ≡ true → site_area host.site drive.0 block ≡ false → (x : List ℕ) → MayLeave u drive.0 block x → x ≡ last u drive.0 block) → (o : Opened) → o.key ≡ key_of host → IsOfGeometry host.drives o.table
+        → (g : History) → StandsAt host g u → IsOpenIn host.drives o g.databases u → g.up (key_of host) ≡ up
+        → Goes host [] [] (λ fs k. (k.databases ≡ g.databases) × (k.up (key_of host) ≡ up) × AreWoken host.drives o.table (is_in up) k (key_of host)) u g
+    woken rests o its of_geometry g there is_open drives =
+        let is : IsNewestWritten (log_of g.databases (key_of host)) o.mark o.table = subst (λ (k : Key). IsNewestWritten (log_of g.databases k) o.mark o.table) its is_open.newest in
+        let booted : IsBooted host.drives g (key_of host) is.newest.version (is_in up) u = record {
+          older = is.newest.older;
+          family = is.newest.family;
           written = is.written;
-          of_geometry = rw (is.table) of_geometry;
-          synced = λ drive on. synced (record { 0 = drive }) on;
+          of_geometry = subst (λ (x : Table). IsOfGeometry host.drives x) (sym is.newest.same) of_geometry;
+          still = λ volume v drive block lies has on. rests (record { 0 = drive }) block on (out (is.newest.version.table) (subst (λ (x : Table). IsOfGeometry host.drives x) (sym is.newest.same) of_geometry) volume v drive block lies has);
         } in
-        let all = boots_go.all (sites_of host) g (key_of host) (site_of host) is.version (is_in up) u found there in
+        let all = boots_go.all host.drives g (key_of host) is.newest.version (is_in up) u booted there in
         happened host [] [] [] u g (wakings (key_of host) all.0) all.1.happens (wakings_issue host (key_of host) all.0)
-        (λ fs k. IsNewestIn newest (log_of k.databases (key_of host)) × (k.up (key_of host) ≡ up) × AreWoken (site_of host) newest.table (is_in up) k (key_of host)) (wakings_awake host (key_of host) all.0 g) tt (
-          subst (λ (ds : List Database). IsNewestIn newest (log_of ds (key_of host))) (sym all.1.databases) is,
+        (λ fs k. (k.databases ≡ g.databases) × (k.up (key_of host) ≡ up) × AreWoken host.drives o.table (is_in up) k (key_of host)) (wakings_awake host (key_of host) all.0 g) tt (
+          all.1.databases,
           ap (λ (of : Key → Drives). of (key_of host)) all.1.up ∙ drives,
-          subst (λ (table : Table). AreWoken (site_of host) table (is_in up) (history_after_all g (wakings (key_of host) all.0)) (key_of host)) is.table all.2,
+          subst (λ (table : Table). AreWoken host.drives table (is_in up) (history_after_all g (wakings (key_of host) all.0)) (key_of host)) is.newest.same all.2,
         )
+      where
+        -- no slice where replicas may lie has a block of a volume
+        out : (table : Table) → IsOfGeometry host.drives table → (volume : VolId) (v : Map) (drive block : ℕ) → IsMapOf host.drives table volume v → area_of_map v drive block ≡ true → site_area host.site drive block ≡ false
+        out table listed volume v drive block lies has = not_true (site_area host.site drive block) (λ here.
+            (tables_lie.laid host.drives table ready.sound listed).clear volume v lies (key_of host) drive block has (subst (λ (s : Site). site_area s drive block ≡ true) ready.site here))
 
-    pub booted_adopted : (sizes : List ℕ) → IsReady host sizes → (newest : Newest) → IsOpened (site_of host) newest u → GoesOnTo (site_of host) (IsNewestIn newest) t u → BootedTo host (booted_with (Some newest) up clean number) t u
-    booted_adopted sizes ready newest opened goes =
-        let memory = booted_with (Some newest) up clean number in
-        let knows : Knows host memory u = record { nothing = λ none calm. absurd (cc (none)); opened = opened; unused = free (Some newest) } in
+    pub booted_adopted : ((drive : DriveNo) (block : ℕ) → has_drive up drive ≡ true → site_area host.site drive.0 block ≡ false → (x : List ℕ) → MayLeave u drive.0 block x → x ≡ last u drive.0 block)
+        → (o : Opened) → o.key ≡ key_of host → IsOpenedAt host.drives o u → ((all : List Database) → Stand host.drives all t → IsBootedIn host.drives all (key_of host) o u)
+        → BootedTo host (booted_with (Some o) up clean number) t u
+    booted_adopted rests o its opened goes =
+        let memory = booted_with (Some o) up clean number in
+        let knows : Knows host memory u = record { nothing = λ none calm. absurd (cc (none)); opened = (its, opened); unused = free rests (Some o) } in
         record {
           kept = kept;
           quiet = quiet;
           knows = knows;
-          goes = λ h stands.
-              goes_more host [] [] [] [] [] (λ es g. StandsAt host g u × HasBegun host up es g × IsNewestIn newest (log_of g.databases (key_of host))) (λ es g. IsKnown host memory g u × HasBooted (key_of host) up es) u u h tt
-              (booting (IsNewestIn newest) (λ es g. StandsAt host g u × HasBegun host up es g × IsNewestIn newest (log_of g.databases (key_of host))) u kept (λ es g there has is. (there, has, is)) goes h stands)
+          goes = λ h stands own.
+              goes_more host [] [] [] [] [] (λ es g. HasBegun host up h es g × IsOpenIn host.drives o g.databases u) (λ es g. IsKnown host memory g u × HasBooted (key_of host) up es) u u h tt
+              (adopting o u kept goes h stands (λ es g. HasBegun host up h es g × IsOpenIn host.drives o g.databases u) (λ es g there has is. (has, is)))
               (λ es g there before. (
-              let went = woken newest (table_opened host sizes ready newest u opened).of_geometry g there before.2 before.1.1 in
+              let went = woken rests o its opened.of_geometry g there before.1 before.0.1 in
               record {
                 es = went.es;
                 course = went.course;
                 come = went.come;
                 stands = went.stands;
-                after = (record { stands = went.stands; newest = went.after.0; up = went.after.1; woken = went.after.2; knows = knows }, booted_first (key_of host) up es went.es before.1.0);
+                after = (
+                  record {
+                    stands = went.stands;
+                    its = own_still host number g (before.0.2 number own) number (history_after_all g went.es) (omega arith) went.after.0;
+                    is_open = subst (λ (ds : List Database). IsOpenIn host.drives o ds u) (sym went.after.0) before.1;
+                    up = went.after.1;
+                    woken = went.after.2;
+                    knows = knows;
+                  },
+                  booted_first (key_of host) up es went.es before.0.0,
+                );
               }
               ));
         }
 
     -- it opened none: where no call failed, because there is nothing
-    pub booted_none : (clean ≡ true → ShowsNothing (site_of host) u) → ((h : History) → StandsAt host h t → Goes host [] [] (λ es g. StandsAt host g u × HasBegun host up es g) u h) → BootedTo host (booted_with None up clean number) t u
-    booted_none nothing goes =
+    pub booted_none : ((drive : DriveNo) (block : ℕ) → has_drive up drive ≡ true → site_area host.site drive.0 block ≡ false → (x : List ℕ) → MayLeave u drive.0 block x → x ≡ last u drive.0 block)
+        → (clean ≡ true → HasNoTable host.drives (key_of host) u) → BootsOn host t u → BootedTo host (booted_with None up clean number) t u
+    booted_none rests none goes =
         let memory = booted_with None up clean number in
-        let knows : Knows host memory u = record { nothing = λ none calm. nothing calm; opened = tt; unused = free None } in
+        let knows : Knows host memory u = record { nothing = λ closed calm. none calm; opened = tt; unused = free rests None } in
         record {
           kept = kept;
           quiet = quiet;
           knows = knows;
-          goes = λ h stands. goes_weaker host [] [] [] (λ es g. StandsAt host g u × HasBegun host up es g) (λ es g. IsKnown host memory g u × HasBooted (key_of host) up es) u u h tt (kept_outside_same nowhere u)
-              (λ es g after. (record { stands = after.0; newest = tt; up = after.1.1; woken = tt; knows = knows }, after.1.0)) (goes h stands);
+          goes = λ h stands own. booting u kept goes h stands (λ es g. IsKnown host memory g u × HasBooted (key_of host) up es)
+              (λ es g there has. (record { stands = there; its = has.2 number own; is_open = tt; up = has.1; woken = tt; knows = knows }, has.0));
         }
 
 -- a moment of a boot
-pub boot_moment : (host : Host) (sizes : List ℕ) → IsReady host sizes → (t m : Tale) → KeptOutside (area_of (site_of host)) t m → told m ≡ told t → GoesOn (site_of host) t m → BootMoment host t m
+pub boot_moment : (host : Host) (sizes : List ℕ) → IsReady host sizes → (t m : Tale) → KeptOutside (site_area host.site) t m → told m ≡ told t → BootsOn host t m → BootMoment host t m
 boot_moment host sizes ready t m kept quiet goes =
     let all = all_own host sizes ready in
     record {
       kept = kept;
       quiet = quiet;
-      goes = booting host t all.0 Anything (λ es g. (up : Drives) × HasBooted (key_of host) up es × ((drive : DriveNo) → Contains host.own drive → has_drive up drive ≡ true)) m kept (λ es g there has is. (all.0, has.0, all.1)) goes;
+      goes = λ h stands. booting host sizes ready t all.0 m kept goes h stands (λ es g. (up : Drives) × HasBooted (key_of host) up es × ((drive : DriveNo) → Contains host.site.drives drive → has_drive up drive ≡ true)) (λ es g there has. (all.0, has.0, all.1));
     }

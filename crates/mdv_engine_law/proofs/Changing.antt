@@ -1,106 +1,142 @@
 -- What a commit of a change leaves of a host's history.
-use Rattle.std.proofs.Common.{◌≡◌, ℕ, false, List, [], ◌∷◌, ◌++◌, Some, refl, sym, ◌∙◌, ap, subst}
-use Rattle.mdv_engine_law.specs.Below.{AreWoken, Drives, Key, KeptOutside, Tale, told, Change, Table, IsMapOf, IsTableAt, IsWithNewest, Log, IsNewestTellable, MakeStripe, Map, Newest, SliceName, VolId, area_of, area_of_map, IsOpened, IsNewestIn, Anything, GoesFrom, next_newest, History, Changed, Event, log_of, with_blocks}
+use Rattle.std.proofs.Common.{◌≡◌, ◌≤◌, ℕ, false, List, [], ◌∷◌, ◌++◌, Some, refl, sym, ◌∙◌, ap, subst}
+use Rattle.mdv_databases.proofs.Lists.{events_log}
+use Rattle.mdv_databases.specs.Committing.{IsCommit, IsCommittedIn}
+use Rattle.mdv_databases.specs.Going.{GoOn, IsCurrentOf, with_events}
+use Rattle.mdv_databases.specs.Standing.{Stand}
+use Rattle.mdv_engine_law.specs.Below.{AreWoken, Change, Changed, Database, Drives, Event, History, IsMapOf, IsOpenIn, IsOpenedAt, Key, KeptOutside, Log, MakeStripe, Map, Opened, SliceName, Table, Tale, VolId, area_of_map, log_of, seats_area, site_area, site_of, told}
+use Rattle.mdv_store.specs.Commit.{AnyLog, IsCommittedTo}
 use Rattle.mdv_store_law.specs.Log as log
-use Rattle.mdv_store_law.specs.Log.{IsMade, NoCreation}
-use Rattle.mdv_volumes.specs.Databases.{Database}
+use Rattle.mdv_store_law.specs.Log.{IsMade, IsNewestTellable}
+use Rattle.mdv_store_law.specs.Part.{IsPart}
+use Rattle.mdv_table.specs.Table.{IsOfGeometry}
+use Rattle.mdv_volumes.specs.Happening.{deed_of}
+use Rattle.mdv_volumes.specs.HistoryLaws.{IsReady as IsTableReady}
 use Rattle.mdv_volumes.proofs.Tables.{tables_lie}
+use Rattle.mdv_shelf.proofs.Frame.{kept_outside_wider}
 use Rattle.mdv_engine_law.specs.Awake.{is_in}
 use Rattle.mdv_engine_law.specs.declared.answer.Answer.TheVariants.{Said, Over}
 use Rattle.mdv_engine_law.specs.declared.answer.Ended.TheVariants as ended
 use Rattle.mdv_engine_law.specs.declared.answer.Outcome.TheVariants as outcome
 use Rattle.mdv_engine_law.specs.declared.host.Host.{Host}
-use Rattle.mdv_engine_law.specs.Home.{IsReady, key_of, replica_area, site_of}
+use Rattle.mdv_engine_law.specs.Hosts.{IsReady, key_of}
 use Rattle.mdv_engine_law.specs.Line.{Memory, ToDo}
 use Rattle.mdv_engine_law.specs.Standing.{StandsAt, Goes, IsUnused, Reached, Knows, IsKnown, IsKnownAfter, CarryMoment, CarriedTo, is_up}
 use Rattle.mdv_store_law.proofs.Parts.{part_itself}
 use Rattle.mdv_engine_law.proofs.Going.{goes_more, happened}
 use Rattle.mdv_engine_law.proofs.Growing.{IsGrown, are_woken, grown, grown_stands, only_asked, ready_grown}
 use Rattle.mdv_engine_law.proofs.Lifting.{lift_log}
-use Rattle.mdv_engine_law.proofs.Refusing.{of_opened, opened_has, knows_opened}
-use Rattle.mdv_engine_law.proofs.Sites.{own_site}
-use Rattle.mdv_engine_law.proofs.Staying.{stays_in_replica}
+use Rattle.mdv_engine_law.proofs.Owning.{own_gone}
+use Rattle.mdv_engine_law.proofs.Refusing.{known_open, knows_its, of_opened, opened_has, knows_opened}
+use Rattle.mdv_engine_law.proofs.Staying.{stays_on_site}
 use Rattle.mdv_engine_law.proofs.Unused.{free_kept}
-use Rattle.mdv_engine_law.proofs.Within.{opened_kept, replica_in_place}
+use Rattle.mdv_engine_law.proofs.Within.{opened_kept}
 
--- the newest table of the log is the next one, and the `ok` of its change may be told
-abbrev pub IsCommittedTo : Newest → Change → Table → Log → Type 0
-IsCommittedTo newest change table lg = IsNewestIn (next_newest newest table) lg × ((other : Change) → Some change ≡ Some other → IsNewestTellable lg (Some change))
-
--- how the log goes on from an open database by this change
-abbrev pub Commits : Host → Newest → Change → (Log → Type 0) → Tale → Tale → Type 0
-Commits host newest change After t m = IsOpened (site_of host) newest t → GoesFrom (site_of host) (IsWithNewest (site_of host) newest) NoCreation (Some change ∷ []) After t m
-
--- a change of the open database, and the table that it makes
-module _ (host : Host) (sizes : List ℕ) (ready : IsReady host sizes) (memory : Memory) (newest : Newest) (opened : memory.opened ≡ Some newest) (volume : VolId) (slice : SliceName) (table : Table)
-    (made : IsMade host.drives (Some (MakeStripe volume slice)) newest.table table) (placed : IsTableAt host.drives (with_blocks (site_of host).at newest.blocks).place table) (t m : Tale) (within : KeptOutside (replica_area (site_of host) newest.blocks) t m) where
-  kept : KeptOutside (area_of (site_of host)) t m
-  kept = replica_in_place (site_of host) t m newest.blocks within
-
+-- A change of the open database, and the table that it makes; of each of its seats the replica lies on a slice of the host's site.
+module _ (host : Host) (sizes : List ℕ) (ready : IsReady host sizes) (memory : Memory) (o : Opened) (opened : memory.opened ≡ Some o) (volume : VolId) (slice : SliceName) (table : Table)
+    (made : IsMade host.drives (Some (MakeStripe volume slice)) o.table table) (placed : IsOfGeometry host.drives table) (seated : (drive block : ℕ) → site_area host.site drive block ≡ false → seats_area o.seats drive block ≡ false)
+    (t m : Tale) (within : KeptOutside (seats_area o.seats) t m) where
   abbrev change : Change
   change = MakeStripe volume slice
 
-  is_opened : Knows host memory t → IsOpened (site_of host) newest t
-  is_opened knows = opened_has memory newest (λ n. IsOpened (site_of host) n t) opened knows.opened
+  kept : KeptOutside (site_area host.site) t m
+  kept = kept_outside_wider (seats_area o.seats) (site_area host.site) t m seated within
 
-  changing : (After : Log → Type 0) (Then : List Event → History → Type 0) → Commits host newest change After t m → (h : History) (known : IsKnown host memory h t)
-      → ((es : List Event) (g : History) → StandsAt host g m → g.up (key_of host) ≡ memory.up → AreWoken (site_of host) table (is_up memory) g (key_of host) → After (log_of g.databases (key_of host)) → Then es g) → Goes host (Changed (key_of host) change ∷ []) [] Then m h
-  changing After Then goes h known then =
+  is_commit : (h : History) → IsKnown host memory h t → IsCommit host.drives h.databases o (Some change) table t
+  is_commit h known = record { stand = known.stands.databases; is_open = known_open host memory o opened t h known; of_geometry = placed; made = made }
+
+  changing : (After : Log → Type 0) (Then : List Event → History → Type 0) (h : History) (known : IsKnown host memory h t) (goes : GoOn host.drives h.databases o.key o.identity (Some change ∷ []) After m)
+      → ((es : List Event) (g : History) → StandsAt host g m → g.up (key_of host) ≡ memory.up → AreWoken host.drives table (is_up memory) g (key_of host) → g.databases ≡ with_events o.key goes.es h.databases → Then es g)
+      → Goes host (Changed (key_of host) change ∷ []) [] Then m h
+  changing After Then h known goes then =
       let key = key_of host in
-      let grew = grown host sizes ready memory newest opened volume slice table made placed t h known in
-      let grows = grew.2 in
-      let own : IsNewestIn newest (log_of h.databases key) = opened_has memory newest (λ n. IsNewestIn n (log_of h.databases key)) opened known.newest in
-      let went : Goes host (Changed key change ∷ []) [] (λ es g. Then (grew.0 ++ es) g) m grew.1 =
-      lift_log host (Changed key change ∷ []) (λ es g. Then (grew.0 ++ es) g) (IsWithNewest (site_of host) newest) NoCreation (Some change ∷ []) After t m kept (λ identity none. absurd none) (part_itself (Changed key change ∷ [])) grew.1
-      (λ es fine within other asked. ready_grown host sizes ready memory newest opened volume slice table made placed t h known grew.0 grew.1 grows other
-      (only_asked host sizes ready memory newest opened volume slice table made placed t h known es (subst (λ (ds : List Database). log.IsCourse host.drives (log_of ds key) es) grows.databases fine) within other asked))
-      (λ es g there woken up after. then (grew.0 ++ es) g there (ap (λ (of : Key → Drives). of key) (up ∙ grows.up) ∙ known.up) (are_woken host sizes ready memory newest opened volume slice table made placed t h known grew.0 grew.1 grows g woken) after) (goes (is_opened known.knows))
-      (grown_stands host sizes ready memory newest opened volume slice table made placed t h known grew.0 grew.1 grows)
-      (subst (λ (ds : List Database). IsWithNewest (site_of host) newest (log_of ds key)) (sym grows.databases) (record { is_log = (known.stands.databases key (site_of host) (own_site host)).is_log; is_newest = own })) in
-      behind went grows
+      let grew = grown host sizes ready memory o opened volume slice table made placed t h known in
+      by grew.0 grew.1 grew.2
     where
-      behind : {es : List Event} {g : History} → Goes host (Changed (key_of host) change ∷ []) [] (λ fs k. Then (es ++ fs) k) m g → IsGrown host sizes ready memory newest opened volume slice table made placed t h known es g → Goes host (Changed (key_of host) change ∷ []) [] Then m h
-      behind {es} {g} went grows =
+      its : o.key ≡ key_of host
+      its = (knows_its host memory o opened t known.knows).0
+
+      here : site_area (site_of host.drives o.key) ≡ site_area host.site
+      here = ap (λ (k : Key). site_area (site_of host.drives k)) its ∙ ap site_area (sym ready.site)
+
+      asked : IsPart (deed_of o.key (Some change) ∷ []) (Changed (key_of host) change ∷ [])
+      asked = subst (λ (k : Key). IsPart (deed_of k (Some change) ∷ []) (Changed (key_of host) change ∷ [])) (sym its) (part_itself (Changed (key_of host) change ∷ []))
+
+      by : (es : List Event) (g : History) → IsGrown host sizes ready memory o opened volume slice table made placed t h known es g → Goes host (Changed (key_of host) change ∷ []) [] Then m h
+      by es g grows =
           goes_more host [] (Changed (key_of host) change ∷ []) (Changed (key_of host) change ∷ []) [] [] (λ fs k. (fs ≡ es) × (k ≡ g)) Then t m h (part_itself (Changed (key_of host) change ∷ []))
           (happened host [] [] [] t h es grows.happens grows.issues (λ fs k. (fs ≡ es) × (k ≡ g)) grows.awake tt (refl, sym grows.is))
           (λ fs k there is. subst (λ (w : List Event). Goes host (Changed (key_of host) change ∷ []) [] (λ more x. Then (w ++ more) x) m k) (sym is.0) (subst (λ (x : History). Goes host (Changed (key_of host) change ∷ []) [] (λ more y. Then (es ++ more) y) m x) (sym is.1) went))
+        where
+          on : GoOn host.drives g.databases o.key o.identity (Some change ∷ []) After m
+          on = record {
+            its = subst (λ (ds : List Database). IsCurrentOf ds o.key o.identity) (sym grows.databases) goes.its;
+            es = goes.es;
+            course = subst (λ (ds : List Database). log.IsCourse host.drives (log_of ds o.key) goes.es) (sym grows.databases) goes.course;
+            come = goes.come;
+            stand = subst (λ (ds : List Database). Stand host.drives (with_events o.key goes.es ds) m) (sym grows.databases) goes.stand;
+            after = subst (λ (ds : List Database). After (log.log_after_all (log_of ds o.key) goes.es)) (sym grows.databases) goes.after;
+          }
 
-  pub changing_moment : told m ≡ told t → Commits host newest change Anything t m → CarryMoment host (ToDo (Changed (key_of host) change)) memory t m
-  changing_moment quiet goes = record { home = stays_in_replica host t m kept; within = opened_kept (site_of host) t m memory.opened newest opened within; quiet = quiet; goes = λ h known. changing Anything Reached goes h known (λ es g there up woken is. tt) }
+          went : Goes host (Changed (key_of host) change ∷ []) [] (λ fs k. Then (es ++ fs) k) m g
+          went = lift_log host (Changed (key_of host) change ∷ []) (λ fs k. Then (es ++ fs) k) o.key o.identity (Some change ∷ []) After t m (subst (λ (area : ℕ → ℕ → _). KeptOutside area t m) (sym here) kept) asked g
+              (grown_stands host sizes ready memory o opened volume slice table made placed t h known es g grows) on
+              (λ other asks. subst (λ (k : Key). IsTableReady host.drives g k t other) (sym its)
+              (ready_grown host sizes ready memory o opened volume slice table made placed t h known es g grows other
+              (only_asked host sizes ready memory o opened volume slice table made placed t h known goes.es (subst (λ (k : Key). log.IsCourse host.drives (log_of h.databases k) goes.es) its goes.course) goes.come.begins other asks)))
+              (λ fs k there databases woken up. then (es ++ fs) k there (ap (λ (of : Key → Drives). of (key_of host)) (up ∙ grows.up) ∙ known.up)
+              (are_woken host sizes ready memory o opened volume slice table made placed t h known es g grows k woken) (databases ∙ ap (with_events o.key goes.es) grows.databases))
+
+  pub changing_moment : told m ≡ told t → ((all : List Database) → IsCommit host.drives all o (Some change) table t → GoOn host.drives all o.key o.identity (Some change ∷ []) AnyLog m) → CarryMoment host (ToDo (Changed (key_of host) change)) memory t m
+  changing_moment quiet goes = record { home = stays_on_site host t m kept; within = opened_kept t m memory.opened o opened within; quiet = quiet; goes = λ h known. changing AnyLog Reached h known (goes h.databases (is_commit h known)) (λ es g there up woken databases. tt) }
 
   -- it was committed, and its `ok` may be told
-  pub changed : (next : Memory) → next.up ≡ memory.up → next.opened ≡ Some (next_newest newest table) → (IsOpened (site_of host) newest t → IsOpened (site_of host) (next_newest newest table) m)
-      → Commits host newest change (IsCommittedTo newest change table) t m → CarriedTo host (ToDo (Changed (key_of host) change)) memory (Said outcome.Ok) next t m
-  changed next up is opens goes =
-      let knows : Knows host memory t → Knows host next m = λ known. knows_opened host next (next_newest newest table) m is (opens (is_opened known)) (free_kept host sizes ready memory next t m kept (λ drive on. same_up drive ∙ on) unused known.unused) in
+  pub changed : (new : Opened) (next : Memory) → next.up ≡ memory.up → memory.begun ≤ next.begun → next.opened ≡ Some new → new.key ≡ o.key → new.table ≡ table → (IsOpenedAt host.drives o t → IsOpenedAt host.drives new m)
+      → ((all : List Database) → IsCommit host.drives all o (Some change) table t → IsCommittedIn host.drives all o new (Some change) m) → CarriedTo host (ToDo (Changed (key_of host) change)) memory (Said outcome.Ok) next t m
+  changed new next up begun is same table_is opens goes =
+      let knows : Knows host memory t → Knows host next m = λ known.
+      (let its = knows_its host memory o opened t known in
+      knows_opened host next new m is (same ∙ its.0) (opens its.1) (free_kept host sizes ready memory next t m kept (λ drive on. same_up drive ∙ on) unused known.unused)) in
       record {
         done = Changed (key_of host) change ∷ [];
         acks = refl;
-        goes = λ h known. changing (IsCommittedTo newest change table) (λ es g. IsKnownAfter host (Changed (key_of host) change ∷ []) (Said outcome.Ok) next g m) goes h known (λ es g there drives woken committed. (
-          record {
-            stands = there;
-            up = drives ∙ sym up;
-            newest = of_opened next (next_newest newest table) (λ n. IsNewestIn n (log_of g.databases (key_of host))) is committed.0;
-            woken = of_opened next (next_newest newest table) (λ n. AreWoken (site_of host) n.table (is_up next) g (key_of host)) is (λ number v lies upon. woken number v lies (λ b drive block lt has. same_up drive ∙ upon b drive block lt has));
-            knows = knows known.knows;
-          },
-          record { site = site_of host; is_site = own_site host; may = committed.1 change refl },
-        ));
+        goes = λ h known.
+            (let done = goes h.databases (is_commit h known) in
+            let its = (knows_its host memory o opened t known.knows).0 in
+            changing (IsCommittedTo host.drives new (Some change)) (λ es g. IsKnownAfter host (Changed (key_of host) change ∷ []) (Said outcome.Ok) next g m) h known done.goes (λ es g there drives woken databases. (
+              record {
+                stands = there;
+                its = own_gone host memory.begun h known.its o.key done.goes.es next.begun g begun databases;
+                is_open = of_opened next new (λ n. IsOpenIn host.drives n g.databases m) is (subst (λ (ds : List Database). IsOpenIn host.drives new ds m) (sym databases) done.is_open);
+                up = drives ∙ sym up;
+                woken = of_opened next new (λ n. AreWoken host.drives n.table (is_up next) g (key_of host)) is
+                    (subst (λ (x : Table). AreWoken host.drives x (is_up next) g (key_of host)) (sym table_is) (λ number v lies upon. woken number v lies (λ b drive block lt has. same_up drive ∙ upon b drive block lt has)));
+                knows = knows known.knows;
+              },
+              record { may = tellable h g done its databases },
+            )));
         knows = knows;
       }
     where
       same_up : (drive : ℕ) → is_up memory drive ≡ is_up next drive
       same_up drive = ap (λ (of : Drives). is_in of drive) (sym up)
 
+      tellable : (h g : History) (done : IsCommittedIn host.drives h.databases o new (Some change) m) → o.key ≡ key_of host → g.databases ≡ with_events o.key done.goes.es h.databases → IsNewestTellable (log_of g.databases (key_of host)) (Some change)
+      tellable h g done its databases =
+          let own : log_of (with_events o.key done.goes.es h.databases) o.key ≡ log.log_after_all (log_of h.databases o.key) done.goes.es = events_log o.key done.goes.es h.databases done.goes.its.database done.goes.its.current in
+          subst (λ (k : Key). IsNewestTellable (log_of g.databases k) (Some change)) its
+          (subst (λ (l : Log). IsNewestTellable l (Some change)) (sym (ap (λ (ds : List Database). log_of ds o.key) databases ∙ own)) (done.goes.after.tellable change refl))
+
       unused : (drive block : ℕ) → IsUnused host next drive block → IsUnused host memory drive block
       unused drive block free = record {
         plain = free.plain;
-        free = of_opened memory newest (λ n. (number : VolId) (v : Map) → IsMapOf host.drives n.table number v → area_of_map v drive block ≡ false) opened (λ number v lies.
-            opened_has next (next_newest newest table) (λ n. (other : VolId) (w : Map) → IsMapOf host.drives n.table other w → area_of_map w drive block ≡ false) is free.free number v
-            (tables_lie.stays host.drives newest.table table volume slice number v made.0 lies));
+        free = of_opened memory o (λ n. (number : VolId) (v : Map) → IsMapOf host.drives n.table number v → area_of_map v drive block ≡ false) opened (λ number v lies.
+            opened_has next new (λ n. (other : VolId) (w : Map) → IsMapOf host.drives n.table other w → area_of_map w drive block ≡ false) is free.free number v
+            (subst (λ (x : Table). IsMapOf host.drives x number v) (sym table_is) (tables_lie.stays host.drives o.table table volume slice number v made.0 lies)));
       }
 
   -- whether it was committed isn't known
-  pub changed_or_lost : (active listed : ℕ) (next : Memory) → Commits host newest change Anything t m → CarriedTo host (ToDo (Changed (key_of host) change)) memory (Over (ended.Lost active listed)) next t m
+  pub changed_or_lost : (active listed : ℕ) (next : Memory) → ((all : List Database) → IsCommit host.drives all o (Some change) table t → GoOn host.drives all o.key o.identity (Some change ∷ []) AnyLog m)
+      → CarriedTo host (ToDo (Changed (key_of host) change)) memory (Over (ended.Lost active listed)) next t m
   changed_or_lost active listed next goes =
-      record { done = []; acks = refl; goes = λ h known. changing Anything (λ es g. IsKnownAfter host [] (Over (ended.Lost active listed)) next g m) goes h known (λ es g there up woken is. tt); knows = λ known. tt }
+      record { done = []; acks = refl; goes = λ h known. changing AnyLog (λ es g. IsKnownAfter host [] (Over (ended.Lost active listed)) next g m) h known (goes h.databases (is_commit h known)) (λ es g there up woken databases. tt); knows = λ known. tt }

@@ -1,25 +1,46 @@
--- Telling a deed is one event, which leaves the tables of the database as they are: what was known is known.
-use Rattle.std.proofs.Common.{◌≡◌, inl, inr, List, [], ◌∷◌, Option, Some, None, refl, sym, ◌∙◌, ap, subst}
-use Rattle.mdv_engine_law.specs.Below.{Acknowledges, CanTell, Changed, Created, Deed, Drives, Event, Happens, History, Key, KeptOutside, OfDatabase, Saw, Shows, Tale, VolId, Wrote, area_of, history_after, log_of, nowhere}
+-- Telling a deed is one event, which leaves the open database open: what was known is known.
+use Rattle.std.proofs.Common.{◌≡◌, inl, inr, List, [], ◌∷◌, Option, Some, None, refl, sym, ◌∙◌, ap, subst, arith}
+use Rattle.mdv_databases.proofs.Lists.{events_elsewhere, key_differs, key_is}
+use Rattle.mdv_databases.proofs.Telling.{told_open, told_stand}
+use Rattle.mdv_databases.specs.Going.{IsCurrentOf}
+use Rattle.mdv_engine_law.specs.Below.{Acknowledges, CanTell, Changed, Created, Database, Deed, Drives, Event, Geometry, Happens, History, IsOpenIn, Key, KeptOutside, OfDatabase, Opened, Saw, Shows, Tale, VolId, Wrote, history_after, nowhere, site_area, site_of}
+use Rattle.mdv_shelf.proofs.Blocks.{both_ways}
 use Rattle.mdv_shelf.proofs.Frame.{kept_outside_same}
 use Rattle.mdv_store_law.specs.Log as log
-use Rattle.mdv_store_law.proofs.Logs.{told_covers}
 use Rattle.mdv_table.specs.declared.change.Change.{Change}
 use Rattle.mdv_table.specs.declared.table.Table.{Table}
-use Rattle.mdv_volumes.specs.Databases.{current_of}
-use Rattle.mdv_volumes.specs.Happening.{deed_of}
+use Rattle.mdv_volumes.specs.Databases.{current_of, log_in, same_key, with_event}
+use Rattle.mdv_volumes.specs.Happening.{IsIssue, deed_of}
 use Rattle.mdv_volumes.specs.HistoryLaws.{IsAsked, IsTellable, identity_in}
+use Rattle.mdv_volumes.proofs.Databases.{current_some}
 use Rattle.mdv_volumes.proofs.Lifting.{databases_go}
 use Rattle.mdv_volumes.proofs.Telling.{one_deed}
 use Rattle.mdv_engine_law.specs.declared.host.Host.{Host}
 use Rattle.mdv_engine_law.specs.Awake.{IsAwakeAt}
-use Rattle.mdv_engine_law.specs.Home.{key_of, sites_of}
+use Rattle.mdv_engine_law.specs.Hosts.{key_of}
 use Rattle.mdv_engine_law.specs.Line.{Memory}
-use Rattle.mdv_engine_law.specs.Standing.{StandsAt, Goes, IsKnown, IsOfRun, CanTellAll}
+use Rattle.mdv_engine_law.specs.Standing.{AreOwn, StandsAt, Goes, IsKnown, IsOfRun, CanTellAll}
 use Rattle.mdv_engine_law.proofs.Going.{goes_none, happened, happened_stands}
 use Rattle.mdv_engine_law.proofs.Knowing.{stands_kept, known_kept, known_on}
-use Rattle.mdv_engine_law.proofs.Sites.{only_key, sites_apart}
-use Rattle.mdv_volumes.specs.Happening.{IsIssue}
+use Rattle.mdv_engine_law.proofs.Owning.{own_gone, own_still}
+
+-- an open database stays open where another one's log goes on
+open_beside : (g : Geometry) (all : List Database) (o : Opened) (key : Key) (e : log.Event) (m : Tale) → (key ≡ o.key → ⊥) → IsOpenIn g o all m → IsOpenIn g o (with_event key e all) m
+open_beside g all o key e m differ is =
+    let same = events_elsewhere key (e ∷ []) all o.key differ in
+    record {
+      its = record { database = is.its.database; current = same ∙ is.its.current; as_begun = is.its.as_begun };
+      newest = rw (ap log_in same) is.newest;
+      ready = rw (ap log_in same) is.ready;
+      opened = is.opened;
+    }
+
+-- and where it is told of
+open_told : (g : Geometry) (all : List Database) (o : Opened) (key : Key) (which before : List Change) (m : Tale) → IsOpenIn g o all m → IsOpenIn g o (with_event key (log.Told which before) all) m
+open_told g all o key which before m is = elim (both_ways (same_key key o.key)) [
+  | inl does ↦ subst (λ (k : Key). IsOpenIn g o (with_event k (log.Told which before) all) m) (sym (key_is key o.key does)) (told_open which before g all o m is)
+  | inr never ↦ open_beside g all o key (log.Told which before) m (key_differs key o.key never) is
+]
 
 module _ (host : Host) (memory : Memory) (u v : Tale) (kept : KeptOutside nowhere u v) (h : History) (known : IsKnown host memory h u) where
   abbrev pub Known : List Event → History → Type 0
@@ -29,45 +50,44 @@ module _ (host : Host) (memory : Memory) (u v : Tale) (kept : KeptOutside nowher
   here = stands_kept host u v kept h known.stands
 
   -- one event that tells a deed
-  tells : (deed : Deed) (e : Event) → Happens (sites_of host) h (e ∷ []) [] (deed ∷ []) v → IsAwakeAt (sites_of host) h e → IsIssue (IsOfRun host) e → (log_of (history_after h e).databases (key_of host)).family ≡ (log_of h.databases (key_of host)).family
+  tells : (deed : Deed) (e : Event) → Happens host.drives h (e ∷ []) [] (deed ∷ []) v → IsAwakeAt host.drives h e → IsIssue (IsOfRun host) e → AreOwn host memory.begun (history_after h e) → ((o : Opened) → IsOpenIn host.drives o h.databases v → IsOpenIn host.drives o (history_after h e).databases v)
       → (history_after h e).woken ≡ h.woken → (history_after h e).up ≡ h.up → Goes host [] (deed ∷ []) Known v h
-  tells deed e happens awake issue same woken up =
+  tells deed e happens awake issue its still woken up =
       happened host [] [] (deed ∷ []) v h (e ∷ []) happens (issue, tt) Known (awake, tt) tt
-      (known_on host memory h (history_after h e) v (happened_stands host [] [] (deed ∷ []) v h (e ∷ []) happens (issue, tt)) same (ap (λ (drives : Key → Drives). drives (key_of host)) up) (λ volume. ap (λ (w : Key → VolId → _). w (key_of host) volume) woken) (known_kept host u v kept memory h known))
+      (known_on host memory h (history_after h e) v (happened_stands host [] [] (deed ∷ []) v h (e ∷ []) happens (issue, tt)) its still (ap (λ (drives : Key → Drives). drives (key_of host)) up) (λ volume. ap (λ (w : Key → VolId → _). w (key_of host) volume) woken) (known_kept host u v kept memory h known))
 
-  -- what came to the newest table
-  newest_told : (asked : Option Change) → IsTellable (sites_of host) h (key_of host) asked → Goes host [] (deed_of (key_of host) asked ∷ []) Known v h
-  newest_told asked can =
+  -- what came to the newest table of some key
+  newest_told : (key : Key) (asked : Option Change) → IsTellable host.drives h key asked → Goes host [] (deed_of key asked ∷ []) Known v h
+  newest_told key asked can =
       let which = log.with_asked asked [] in
       let before = can.may.before in
-      let is = databases_go (sites_of host) h (key_of host) can.site (log.Told which before ∷ []) v v (sites_apart host) can.is_site here (kept_outside_same (area_of can.site) v) (can.may.may, tt)
-      (told_covers can.site (log_of h.databases (key_of host)) which before v (here.databases (key_of host) can.site can.is_site).covers) (λ table none. absurd (never which before table none)) in
-      tells (deed_of (key_of host) asked) (OfDatabase (key_of host) (identity_in (current_of h.databases (key_of host))) (log.Told which before)) (record { course = is.happens.course; begins = is.happens.begins; tells = is.happens.tells ∙ one_deed (key_of host) asked before; stands = is.happens.stands }) tt tt
-      (ap (λ (l : log.Log). l.family) is.own) is.woken is.up
+      let one = current_some h.databases key can.may.may.newest can.may.may.older can.may.may.family in
+      let its : IsCurrentOf h.databases key one.0.identity = record { database = one.0; current = one.1; as_begun = refl } in
+      let is = databases_go host.drives h key one.0.identity (log.Told which before ∷ []) v v here its (tt, tt) (can.may.may, tt) (told_stand which before host.drives h.databases key v one.0.identity here.databases its can.may.may)
+      (kept_outside_same (site_area (site_of host.drives key)) v) (λ table none. absurd (never which before table none)) in
+      tells (deed_of key asked) (OfDatabase key (identity_in (current_of h.databases key)) (log.Told which before)) (record { course = is.happens.course; begins = is.happens.begins; tells = is.happens.tells ∙ one_deed key asked before; stands = is.happens.stands }) tt tt
+      (own_gone host memory.begun h known.its key (log.Told which before ∷ []) memory.begun (history_after h (OfDatabase key (identity_in (current_of h.databases key)) (log.Told which before))) (omega arith) refl)
+      (λ o is_open. open_told host.drives h.databases o key which before v is_open) is.woken is.up
     where
       never : (which before : List Change) (table : Table) → IsAsked (log.Told which before ∷ []) table → ⊥
       never which before table (inl none) = none
       never which before table (inr none) = none
 
-  told_one : (deed : Deed) → CanTell (sites_of host) deed h → Goes host [] (deed ∷ []) Known v h
-  told_one (Created key) can =
-      let same = only_key host key can.site can.is_site in
-      subst (λ (k : Key). Goes host [] (Created k ∷ []) Known v h) (sym same) (newest_told None (subst (λ (k : Key). IsTellable (sites_of host) h k None) same can))
-  told_one (Changed key change) can =
-      let same = only_key host key can.site can.is_site in
-      subst (λ (k : Key). Goes host [] (Changed k change ∷ []) Known v h) (sym same) (newest_told (Some change) (subst (λ (k : Key). IsTellable (sites_of host) h k (Some change)) same can))
+  told_one : (deed : Deed) → CanTell host.drives deed h → Goes host [] (deed ∷ []) Known v h
+  told_one (Created key) can = newest_told key None can
+  told_one (Changed key change) can = newest_told key (Some change) can
   told_one (Wrote key volume at blocks) can = tells (Wrote key volume at blocks) (Acknowledges can.untold.0 key volume at blocks) (record {
     course = (((can.untold.1, can.untold.2), can.range, can.only), tt);
     begins = refl;
     tells = refl;
     stands = record { databases = here.databases; laid = here.laid; apart = here.apart; volumes = here.volumes };
-  }) tt tt refl refl refl
+  }) tt tt (own_still host memory.begun h known.its memory.begun (history_after h (Acknowledges can.untold.0 key volume at blocks)) (omega arith) refl) (λ o is_open. is_open) refl refl
   told_one (Saw key volume at blocks) can = tells (Saw key volume at blocks) (Shows can.0 key volume at blocks) (record {
     course = ((can.1, can.2), tt);
     begins = refl;
     tells = refl;
     stands = record { databases = here.databases; laid = here.laid; apart = here.apart; volumes = here.volumes };
-  }) tt tt refl refl refl
+  }) tt tt (own_still host memory.begun h known.its memory.begun (history_after h (Shows can.0 key volume at blocks)) (omega arith) refl) (λ o is_open. is_open) refl refl
 
   -- once all that was done was told, what was known is known
   pub told_all : (done : List Deed) → CanTellAll host done h → Goes host [] done Known v h

@@ -1,9 +1,10 @@
 -- The calls of a line, told of another stretch.
-use Rattle.std.proofs.Common.{Bool, true, false, Option, Some, None}
+use Rattle.std.proofs.Common.{ℕ, Option, Some, None}
 use Rattle.mdv_base.specs.declared.refusal.Refusal.TheVariants as refusal
-use Rattle.mdv_shelf.specs.Made.{Made, and_more}
+use Rattle.mdv_shelf.specs.Made.{Made}
 use Rattle.mdv_shelf.proofs.Made.{IsToo, more_too}
-use Rattle.mdv_engine_law.specs.Below.{has_drive, Image, Refusal, Command, Create, Print, Read, Write, Line, Newest}
+use Rattle.mdv_engine_law.specs.Below.{BootEnd, Image, Opened, Refusal, Command, Create, Print, Read, Write, Line}
+use Rattle.mdv_store.specs.declared.booting.BootEnd.TheVariants as end
 use Rattle.mdv_words.specs.declared.command.Command.TheVariants.{MakeStripe}
 use Rattle.mdv_words.specs.Line as words
 use Rattle.mdv_engine_law.specs.declared.answer.Answer.{Answer}
@@ -11,84 +12,83 @@ use Rattle.mdv_engine_law.specs.declared.answer.Answer.TheVariants.{Said, Over}
 use Rattle.mdv_engine_law.specs.declared.answer.Ended.TheVariants as ended
 use Rattle.mdv_engine_law.specs.declared.answer.Outcome.TheVariants as outcome
 use Rattle.mdv_engine_law.specs.declared.host.Host.{Host}
-use Rattle.mdv_engine_law.specs.Efforts.{BootCalls, CommandCalls, DoneCalls, FaultCalls, LineCalls, LossCalls, MakesJust, NoCalls, OpenedBy, PlaceCalls, replied_to}
+use Rattle.mdv_engine_law.specs.Efforts.{BootCalls, CommandCalls, EndCalls, FaultCalls, LineCalls, LossCalls, MadeCallsOf, NoCalls, replied_to}
 use Rattle.mdv_shelf.specs.Failing.{Outcomes}
 use Rattle.mdv_engine_law.specs.Line.{Kept, Memory}
-use Rattle.mdv_engine_law.proofs.Widening.{AreWithin, match_more}
+use Rattle.mdv_engine_law.proofs.Widening.{AreWithin, up_more}
 
 module _ (one other : Made) (too : IsToo one other) where
   pub none_too : NoCalls one → NoCalls other
   none_too none = too.within _ _ _ none
 
-  just_too : (command : Command) (opened : Option Newest) → MakesJust one command opened → MakesJust other command opened
-  just_too (Create slice force blocks) opened calls = too.exactly _ _ calls
-  just_too (MakeStripe volume slice) opened calls = too.exactly _ _ calls
-  just_too (Read volume at count) opened calls = too.exactly _ _ calls
-  just_too (Write volume at block) opened calls = too.exactly _ _ calls
-  just_too (Print names) opened calls = none_too calls
+  pub done_too : (command : Command) (host : Host) (old new : Option Opened) → MadeCallsOf one command host old new → MadeCallsOf other command host old new
+  done_too (Create slices force count blocks) host old (Some o) calls = record { all = λ as_many. too.exactly _ _ (calls.all as_many); some = too.within _ _ _ calls.some }
+  done_too (Create slices force count blocks) host old None calls = absurd calls
+  done_too (MakeStripe volume slice) host (Some before) (Some o) calls = record { all = λ as_many. too.exactly _ _ (calls.all as_many); some = too.within _ _ _ calls.some; wrote = too.wrote calls.wrote }
+  done_too (MakeStripe volume slice) host (Some before) None calls = absurd calls
+  done_too (MakeStripe volume slice) host None new calls = absurd calls
+  done_too (Read volume at count) host old new calls = too.exactly _ _ calls
+  done_too (Write volume at block) host old new calls = too.exactly _ _ calls
+  done_too (Print names) host old new calls = none_too calls
 
-  pub done_too : (command : Command) (opened : Option Newest) → DoneCalls one command opened → DoneCalls other command opened
-  done_too command opened done = record { exactly = just_too command opened done.exactly; few = done.few }
+  pub fault_too : (command : Command) (host : Host) → FaultCalls one command host → FaultCalls other command host
+  fault_too (Create slices force count blocks) host calls = too.within _ _ _ calls
+  fault_too (MakeStripe volume slice) host calls = absurd calls
+  fault_too (Read volume at count) host calls = too.within _ _ _ calls
+  fault_too (Write volume at block) host calls = too.within _ _ _ calls
+  fault_too (Print names) host calls = absurd calls
 
-  pub fault_too : (command : Command) → FaultCalls one command → FaultCalls other command
-  fault_too (Create slice force blocks) calls = too.within _ _ _ calls
-  fault_too (MakeStripe volume slice) calls = absurd calls
-  fault_too (Read volume at count) calls = too.within _ _ _ calls
-  fault_too (Write volume at block) calls = too.within _ _ _ calls
-  fault_too (Print names) calls = absurd calls
+  loss_too : (command : Command) (host : Host) (old : Option Opened) → LossCalls one command host old → LossCalls other command host old
+  loss_too (Create slices force count blocks) host old calls = too.within _ _ _ calls
+  loss_too (MakeStripe volume slice) host (Some o) calls = too.within _ _ _ calls
+  loss_too (MakeStripe volume slice) host None calls = absurd calls
+  loss_too (Read volume at count) host old calls = absurd calls
+  loss_too (Write volume at block) host old calls = absurd calls
+  loss_too (Print names) host old calls = absurd calls
 
-  loss_too : (command : Command) → LossCalls one command → LossCalls other command
-  loss_too (Create slice force blocks) calls = too.within _ _ _ calls
-  loss_too (MakeStripe volume slice) calls = too.within _ _ _ calls
-  loss_too (Read volume at count) calls = absurd calls
-  loss_too (Write volume at block) calls = absurd calls
-  loss_too (Print names) calls = absurd calls
+  refused_too : (command : Command) (r : Refusal) (host : Host) (old new : Option Opened) → CommandCalls one host command (Said (outcome.Refused r)) old new → CommandCalls other host command (Said (outcome.Refused r)) old new
+  refused_too command refusal.IoFault host old new calls = fault_too command host calls
+  refused_too command refusal.OutOfMemory host old new calls = too.within _ _ _ calls
+  refused_too command other_one host old new calls = none_too calls
 
-  refused_too : (command : Command) (r : Refusal) (opened : Option Newest) → CommandCalls one command (Said (outcome.Refused r)) opened → CommandCalls other command (Said (outcome.Refused r)) opened
-  refused_too command refusal.IoFault opened calls = fault_too command calls
-  refused_too command refusal.OutOfMemory opened calls = too.within _ _ _ calls
-  refused_too command other_one opened calls = none_too calls
+  pub command_too : (host : Host) (command : Command) (answer : Answer) (old new : Option Opened) → CommandCalls one host command answer old new → CommandCalls other host command answer old new
+  command_too host command (Said outcome.Ok) old new calls = done_too command host old new calls
+  command_too host command (Said (outcome.Values text)) old new calls = done_too command host old new calls
+  command_too host command (Said (outcome.Refused r)) old new calls = refused_too command r host old new calls
+  command_too host command (Over (ended.Lost active listed)) old new calls = loss_too command host old calls
+  command_too host command (Over ended.Spent) old new calls = none_too calls
+  command_too host command (Over ended.Memory) old new calls = none_too calls
+  command_too host command (Over (ended.NoQuorum readable needed)) old new calls = none_too calls
+  command_too host command (Over (ended.TwoDatabases a b)) old new calls = none_too calls
 
-  pub command_too : (command : Command) (answer : Answer) (opened : Option Newest) → CommandCalls one command answer opened → CommandCalls other command answer opened
-  command_too command (Said outcome.Ok) opened calls = done_too command opened calls
-  command_too command (Said (outcome.Values text)) opened calls = done_too command opened calls
-  command_too command (Said (outcome.Refused r)) opened calls = refused_too command r opened calls
-  command_too command (Over (ended.Lost active listed)) opened calls = loss_too command calls
-  command_too command (Over ended.Spent) opened calls = none_too calls
-  command_too command (Over ended.Memory) opened calls = none_too calls
+  end_too : (reads : ℕ) (e : BootEnd) → EndCalls one reads e → EndCalls other reads e
+  end_too reads (end.Adopted o) calls = too.exactly _ _ calls
+  end_too reads end.Empty calls = too.within _ _ _ calls
+  end_too reads (end.TwoDatabases a b) calls = too.within _ _ _ calls
+  end_too reads (end.NoQuorum readable needed) calls = too.within _ _ _ calls
+  end_too reads (end.Lost active listed) calls = tt
+  end_too reads end.Spent calls = too.within _ _ _ calls
+  end_too reads end.Memory calls = tt
 
-  opened_too : (host : Host) (content : Image) (opened : Option Newest) (read : Bool) → OpenedBy one host content opened read → OpenedBy other host content opened read
-  opened_too host content (Some newest) read by = record { head = by.head; replica = by.replica; shown = by.shown; calls = too.exactly _ _ by.calls }
-  opened_too host content None true by = record {
-    beyond = λ past. too.exactly _ _ (by.beyond past);
-    headless = λ some none. too.exactly _ _ (by.headless some none);
-    headed = λ headed. too.within _ _ _ (by.headed headed);
-  }
-  opened_too host content None false by = too.within _ _ _ by
-
-  place_too : (host : Host) (answer : Answer) (read : Bool) (memory : Memory) (content : Image) → PlaceCalls one host answer read memory content → PlaceCalls other host answer read memory content
-  place_too host (Said this) read memory content by = opened_too host content memory.opened read by
-  place_too host (Over (ended.Lost active listed)) read memory content by = record { head = by.head; replica = by.replica; shown = by.shown; calls = too.within _ _ _ by.calls; wrote = too.wrote by.wrote }
-  place_too host (Over ended.Spent) read memory content by = record { head = by.head; replica = by.replica; shown = by.shown; spent = by.spent; calls = too.exactly _ _ by.calls }
-  place_too host (Over ended.Memory) read memory content by = record { headed = by.headed; calls = too.within _ _ _ by.calls }
-
-module _ (calls more : Outcomes) (within : AreWithin calls more) (one other : Made) (too : IsToo one other) where
+-- of a stretch by which a call failed just where one did by the first
+module _ (calls more : Outcomes) (cause : AreWithin calls more) (one other : Made) (too : IsToo one other) where
   pub boot_too : (host : Host) (answer : Answer) (memory : Memory) (content : Image) → BootCalls calls one host answer memory content → BootCalls more other host answer memory content
   boot_too host answer memory content is = record {
+    most = too.within _ _ _ is.most;
+    end = is.end;
+    answer_is = is.answer_is;
     up = is.up;
-    brought = is.brought;
+    clean = is.clean;
+    by = up_more calls more cause host is.end is.up is.clean is.by;
     tied = is.tied;
-    own = λ drive one_of away. match_more (has_drive is.up drive) _ _ _ _ (within drive.0).none (within drive.0).some (is.own drive one_of away);
-    by = is.by;
-    read = is.read;
-    unread = λ so. (within host.home.drive.0).some (is.unread so);
-    place = place_too (and_more is.brought one) (and_more is.brought other) (more_too is.brought one other too) host answer is.read memory content is.place;
+    still = λ unwritten. too.within _ _ _ (is.still unwritten);
+    exactly = λ clean. (let by = is.exactly clean in (by.0, by.1, end_too one other too _ is.end by.2));
   }
 
   pub line_too : (host : Host) (kept : Kept) (line : Line) (answer : Answer) (next : Kept) → LineCalls calls one host kept line answer next → LineCalls more other host kept line answer next
   line_too host kept words.Boot answer next by = boot_too host answer next.memory kept.content by
   line_too host kept (words.Tab lines) answer next by = none_too one other too by
-  line_too host kept (words.Exec command) answer next by = command_too one other too command answer next.memory.opened by
+  line_too host kept (words.Exec command) answer next by = command_too one other too host command answer kept.memory.opened next.memory.opened by
 
 -- a stretch, told of itself
 pub too_itself : (one : Made) → IsToo one one

@@ -1,8 +1,7 @@
 -- What a command came to, told of the longer stretch that its reply ends.
-use Rattle.std.proofs.Common.{◌≡◌, inl, inr, ℕ, false, List, ◌++◌, sym, refl, ◌∙◌, ap, subst, rules}
-use Rattle.mdv_base.proofs.Causes.{IsWithin}
+use Rattle.std.proofs.Common.{◌≡◌, ◌⊎◌, inl, inr, ℕ, true, List, ◌++◌, sym, refl, ◌∙◌, ap, subst, rules}
 use Rattle.mdv_base.specs.declared.refusal.Refusal.TheVariants as refusal
-use Rattle.mdv_engine_law.specs.Below.{Image, Failures, Refusal, KeptOutside, nowhere, Tale, told, Command, Create, Print, Read, Write, Line}
+use Rattle.mdv_engine_law.specs.Below.{BootEnd, Drives, Image, Opened, Refusal, KeptOutside, Table, nowhere, Tale, told, Command, Create, Print, Read, Write, Line}
 use Rattle.mdv_words.specs.declared.command.Command.TheVariants.{MakeStripe}
 use Rattle.mdv_words.specs.Line as words
 use Rattle.mdv_engine_law.specs.declared.answer.Answer.{Answer}
@@ -15,15 +14,17 @@ use Rattle.mdv_engine_law.specs.declared.answer.Reply.{Reply}
 use Rattle.mdv_engine_law.specs.declared.answer.Reply.TheVariants as reply
 use Rattle.mdv_engine_law.specs.declared.host.Host.{Host}
 use Rattle.mdv_engine_law.specs.Commands as came
-use Rattle.mdv_engine_law.specs.Commands.{CameTo, ComesTo, Fault, GivesUp, IsLostPlace, KeepsTab}
+use Rattle.mdv_engine_law.specs.Commands.{CameTo, ComesTo, Effect, Fault, GivesUp, KeepsTab, LeavesTable}
 use Rattle.mdv_shelf.specs.Failing.{Outcomes}
-use Rattle.mdv_engine_law.specs.Line.{Memory, Kept, home_calls, kept_at, contents, IsRebooted, adopted, empty, down, lost, spent, wanting}
-use Rattle.mdv_engine_law.specs.Replies.{IsTold, HasAnswerCause, HasCommandCause, IsReplyTo, reply_at, reply_to}
+use Rattle.mdv_store.specs.Boot.{IsEndBy, is_memory}
+use Rattle.mdv_survey.specs.declared.replica.Survey.{Survey}
+use Rattle.mdv_engine_law.specs.Line.{Memory, Kept, kept_at, contents, IsReadOf, IsRebooted, WritesTo}
+use Rattle.mdv_engine_law.specs.Replies.{Blame, IsTold, HasAnswerCause, HasCommandCause, IsReplyTo, reply_at, reply_to}
 use Rattle.mdv_engine_law.specs.Efforts.{LineCalls, replied_to}
 use Rattle.mdv_shelf.specs.Made.{Made}
 use Rattle.mdv_engine_law.specs.Standing.{OnlyReplied, Executed}
 use Rattle.mdv_engine_law.proofs.Efforts.{line_too, too_itself}
-use Rattle.mdv_engine_law.proofs.Widening.{AreWithin, calm_more, on_more, own_more, up_more}
+use Rattle.mdv_engine_law.proofs.Widening.{AreWithin, IsBlamed, beside_more, calm_more, committed_more, end_more, left_more, made_more, now_more, on_more, read_more, unmade_more, up_more}
 
 -- a read of the drive gives what it gave
 pub content_kept : (u v : Tale) → KeptOutside nowhere u v → contents u ≡ contents v
@@ -33,42 +34,71 @@ content_kept u v kept = sym same where
 
 -- what came of the calls of a stretch came of those of the longer one
 module _ (failed more : Outcomes) (cause : AreWithin failed more) (host : Host) (kept next : Kept) (answer : Answer) where
-  abbrev home : IsWithin (home_calls host failed) (home_calls host more)
-  home = cause host.home.drive.0
+  by_more : (e : BootEnd) (up : Drives) → (is_memory e ≡ true) ⊎ ((survey : Survey) × IsReadOf failed host kept.content up survey × IsEndBy failed (λ hand table. WritesTo kept.content next.content hand.seats) host.site survey e)
+      → (is_memory e ≡ true) ⊎ ((survey : Survey) × IsReadOf more host kept.content up survey × IsEndBy more (λ hand table. WritesTo kept.content next.content hand.seats) host.site survey e)
+  by_more e up (inl memory) = inl memory
+  by_more e up (inr by) = inr (by.0, read_more failed more cause host kept.content up by.0 by.1, end_more failed more cause (WritesTo kept.content next.content) host.site by.0 e by.2)
 
   pub rebooted_more : IsRebooted failed host kept answer next → IsRebooted more host kept answer next
-  rebooted_more (adopted calm newest up clean ok memory by here is) = adopted (home.none calm) newest up clean ok memory (up_more failed more cause host up clean by) here is
-  rebooted_more (empty calm up clean ok memory by here is same) = empty (home.none calm) up clean ok memory (up_more failed more cause host up clean by) here is same
-  rebooted_more (down so up ok memory by same) = down (home.some so) up ok memory (up_more failed more cause host up false by) same
-  rebooted_more (lost so own found panic beside) = lost (home.some so) (own_more failed more cause host own) found panic beside
-  rebooted_more (spent calm own is used same) = spent (home.none calm) (own_more failed more cause host own) is used same
-  rebooted_more (wanting calm own headed is same) = wanting (home.none calm) (own_more failed more cause host own) headed is same
+  rebooted_more is = record {
+    end = is.end;
+    up = is.up;
+    clean = is.clean;
+    up_by = up_more failed more cause host is.end is.up is.clean is.up_by;
+    by = by_more is.end is.up is.by;
+    answer_is = is.answer_is;
+    memory = is.memory;
+    content = is.content;
+    beside = is.beside;
+  }
 
-  lost_more : (active listed : ℕ) → IsLostPlace failed host active listed → IsLostPlace more host active listed
-  lost_more active listed is = record { failed = on_more failed more cause host.home.drive.0 is.failed; active_is = is.active_is; listed_is = is.listed_is }
+  table_more : (o : Opened) (table : Table) (active listed : ℕ) → LeavesTable failed host o table active listed kept next → LeavesTable more host o table active listed kept next
+  table_more o table active listed is = (let lost = is.lost in record {
+    lost = record { new = lost.new; calm = beside_more failed more cause _ lost.calm; lost = now_more failed more cause o lost.new table lost.lost; active_is = lost.active_is; listed_is = lost.listed_is };
+    left = is.left;
+    beside = is.beside;
+  })
 
   gives_up_more : (command : Command) (end : Ended) → GivesUp failed host kept command end next → GivesUp more host kept command end next
-  gives_up_more (Create slice force blocks) (ended.Lost active listed) is = (lost_more active listed is.0, is.1)
-  gives_up_more (Create slice force blocks) ended.Spent is = absurd is
-  gives_up_more (Create slice force blocks) ended.Memory is = absurd is
-  gives_up_more (MakeStripe volume slice) (ended.Lost active listed) is = (lost_more active listed is.0, is.1)
+  gives_up_more (Create slices force count blocks) (ended.Lost active listed) is = (let lost = is.lost in record {
+    lost = record { now = lost.now; tried = left_more failed more cause _ _ _ lost.tried; few = lost.few; active_is = lost.active_is; listed_is = lost.listed_is };
+    calm = beside_more failed more cause _ is.calm;
+    formed = is.formed;
+    left = is.left;
+    beside = is.beside;
+  })
+  gives_up_more (Create slices force count blocks) ended.Spent is = absurd is
+  gives_up_more (Create slices force count blocks) ended.Memory is = absurd is
+  gives_up_more (Create slices force count blocks) (ended.NoQuorum readable needed) is = absurd is
+  gives_up_more (Create slices force count blocks) (ended.TwoDatabases a b) is = absurd is
+  gives_up_more (MakeStripe volume slice) (ended.Lost active listed) is = (is.0, is.1, table_more is.0 _ active listed is.2)
   gives_up_more (MakeStripe volume slice) ended.Spent is = (calm_more failed more cause is.0, is.1, is.2, is.3, is.4)
   gives_up_more (MakeStripe volume slice) ended.Memory is = absurd is
+  gives_up_more (MakeStripe volume slice) (ended.NoQuorum readable needed) is = absurd is
+  gives_up_more (MakeStripe volume slice) (ended.TwoDatabases a b) is = absurd is
   gives_up_more (Read volume at count) end is = absurd is
   gives_up_more (Write volume at block) end is = absurd is
   gives_up_more (Print names) end is = absurd is
 
   fault_more : (command : Command) → Fault failed host kept command next → Fault more host kept command next
-  fault_more (Create slice force blocks) is = (on_more failed more cause host.home.drive.0 is.0, is.1)
+  fault_more (Create slices force count blocks) is = record { failed = unmade_more failed more cause _ _ _ _ _ is.failed; memory = is.memory; content = is.content; beside = is.beside }
   fault_more (MakeStripe volume slice) is = absurd is
   fault_more (Read volume at count) is = (is.0, on_more failed more cause is.0.drive is.1, is.2, is.3)
   fault_more (Write volume at block) is = (is.0, on_more failed more cause is.0.drive is.1, is.2, is.3, is.4)
   fault_more (Print names) is = absurd is
 
+  effect_more : (command : Command) → Effect failed host kept command answer next → Effect more host kept command answer next
+  effect_more (Create slices force count blocks) is = (is.0, record { opened = is.1.opened; made = made_more failed more cause _ _ _ _ _ is.1.opened is.1.made; calm = beside_more failed more cause _ is.1.calm; memory = is.1.memory; formed = is.1.formed; content = is.1.content; beside = is.1.beside })
+  effect_more (MakeStripe volume slice) is =
+      (is.0, is.1, is.2, record { opened = is.3.opened; committed = committed_more failed more cause is.1 is.3.opened _ is.3.committed; calm = beside_more failed more cause _ is.3.calm; memory = is.3.memory; content = is.3.content; beside = is.3.beside })
+  effect_more (Read volume at count) is = (calm_more failed more cause is.0, is.1, is.2, is.3, is.4)
+  effect_more (Write volume at block) is = (calm_more failed more cause is.0, is.1, is.2, is.3, is.4, is.5)
+  effect_more (Print names) is = (calm_more failed more cause is.0, is.1, is.2, is.3, is.4)
+
   pub came_more : (command : Command) → CameTo failed host kept command answer next → CameTo more host kept command answer next
   came_more command (came.refused calm refusal is left) = came.refused (calm_more failed more cause calm) refusal is left
   came_more command (came.wanting calm is left) = came.wanting (calm_more failed more cause calm) is left
-  came_more command (came.done calm free effect) = came.done (calm_more failed more cause calm) free effect
+  came_more command (came.done free effect) = came.done free (effect_more command effect)
   came_more command (came.faulted free is fault) = came.faulted free is (fault_more command fault)
   came_more command (came.over end free is gives) = came.over end free is (gives_up_more command end gives)
 
@@ -89,26 +119,28 @@ module _ (failed more : Type 0) (piece : List ℕ) (cause : failed → more) whe
   told_more (Over end) r is = is
 
 -- why a reply came to a command
-module _ (drive failed : Failures) (loss over spends : Type 0) (replies more : Type 0) (piece : List ℕ) (one : IsWithin drive failed) (lose : loss → over) (other : replies → more) where
-  refused_cause : (r : Refusal) → HasAnswerCause drive loss spends (Said (outcome.Refused r)) → HasCommandCause failed over spends more (reply.Refused r)
-  refused_cause refusal.BadLine cause = one.none cause
-  refused_cause refusal.IoFault cause = one.some cause
+module _ (one all : Blame) (within : IsBlamed one all) (spends : Type 0) (replies more : Type 0) (piece : List ℕ) (other : replies → more) where
+  refused_cause : (r : Refusal) → HasAnswerCause one spends (Said (outcome.Refused r)) → HasCommandCause all spends more (reply.Refused r)
+  refused_cause refusal.BadLine cause = within.none cause
+  refused_cause refusal.IoFault cause = within.some cause
   refused_cause other cause = search rules
 
-  said_cause : (this : Outcome) → HasAnswerCause drive loss spends (Said this) → HasCommandCause failed over spends more (reply_to this)
-  said_cause outcome.Ok cause = one.none cause
-  said_cause (outcome.Values text) cause = one.none cause
+  said_cause : (this : Outcome) → HasAnswerCause one spends (Said this) → HasCommandCause all spends more (reply_to this)
+  said_cause outcome.Ok cause = within.done cause
+  said_cause (outcome.Values text) cause = within.done cause
   said_cause (outcome.Refused refusal) cause = refused_cause refusal cause
 
-  ended_cause : (end : Ended) → HasAnswerCause drive loss spends (Over end) → HasCommandCause failed over spends more (reply_at end)
-  ended_cause (ended.Lost active listed) cause = (lose cause.0, cause.1, cause.2)
-  ended_cause ended.Spent cause = (one.none cause.0, cause.1)
+  ended_cause : (end : Ended) → HasAnswerCause one spends (Over end) → HasCommandCause all spends more (reply_at end)
+  ended_cause (ended.Lost active listed) cause = within.lost active listed cause
+  ended_cause ended.Spent cause = (within.none cause.0, cause.1)
   ended_cause ended.Memory cause = absurd cause
+  ended_cause (ended.NoQuorum readable needed) cause = absurd cause
+  ended_cause (ended.TwoDatabases a b) cause = absurd cause
 
-  pub command_cause : (answer : Answer) (r : Reply) → HasAnswerCause drive loss spends answer → IsTold replies answer r piece → HasCommandCause failed over spends more r
-  command_cause (Said this) r cause (inl whole) = subst (HasCommandCause failed over spends more) (sym whole.0) (said_cause this cause)
-  command_cause (Said this) r cause (inr cut) = subst (HasCommandCause failed over spends more) (sym cut.given_is) (other cut.cause)
-  command_cause (Over end) r cause is = subst (HasCommandCause failed over spends more) (sym is.0) (ended_cause end cause)
+  pub command_cause : (answer : Answer) (r : Reply) → HasAnswerCause one spends answer → IsTold replies answer r piece → HasCommandCause all spends more r
+  command_cause (Said this) r cause (inl whole) = subst (HasCommandCause all spends more) (sym whole.0) (said_cause this cause)
+  command_cause (Said this) r cause (inr cut) = subst (HasCommandCause all spends more) (sym cut.given_is) (other cut.cause)
+  command_cause (Over end) r cause is = subst (HasCommandCause all spends more) (sym is.0) (ended_cause end cause)
 
 -- and to what is only said
 pub reply_cause : (failed : Type 0) (piece : List ℕ) (this : Outcome) (r : Reply) → IsTold failed (Said this) r piece → IsReplyTo failed this r

@@ -9,7 +9,6 @@ use Rattle.mdv_store_law.proofs.Machine.{adds_more, adds_weaker}
 use Rattle.mdv_store_law.proofs.Machine.{goes_more as machine_more, goes_weaker as machine_weaker}
 use Rattle.mdv_engine_law.specs.Awake.{Happening, IsAwakeAt}
 use Rattle.mdv_engine_law.specs.declared.host.Host.{Host}
-use Rattle.mdv_engine_law.specs.Home.{sites_of}
 use Rattle.mdv_engine_law.specs.Standing.{StandsAt, IsOfRun, Does, Goes}
 use Rattle.mdv_engine_law.proofs.Knowing.{stands_kept}
 
@@ -27,14 +26,14 @@ issue_weaker Which Any wider Crashes is = is
 
 -- blocks of volumes are read and written only where a boot has found what they hold
 abbrev pub AllAwake : Host → History → List Event → Type 0
-AllAwake host = machine.IsCourse history_after (IsAwakeAt (sites_of host))
+AllAwake host = machine.IsCourse history_after (IsAwakeAt host.drives)
 
 module _ (host : Host) where
-  pub both_courses : (h : History) (es : List Event) → IsCourse (sites_of host) h es → AllAwake host h es → machine.IsCourse history_after (Happening host) h es
+  pub both_courses : (h : History) (es : List Event) → IsCourse host.drives h es → AllAwake host h es → machine.IsCourse history_after (Happening host) h es
   both_courses h [] course awake = tt
   both_courses h (e ∷ es) course awake = ((course.0, awake.0), both_courses (history_after h e) es course.1 awake.1)
 
-  pub may_course : (h : History) (es : List Event) → machine.IsCourse history_after (Happening host) h es → IsCourse (sites_of host) h es
+  pub may_course : (h : History) (es : List Event) → machine.IsCourse history_after (Happening host) h es → IsCourse host.drives h es
   may_course h [] course = tt
   may_course h (e ∷ es) course = (course.0.0, may_course (history_after h e) es course.1)
 
@@ -64,7 +63,7 @@ goes_weaker host asks all done After Then u v h within kept less =
     (λ es does. does_wider host asks all done es within does) (λ g stands. stands_kept host u v kept g stands) (λ es g stands is. less es g is)
 
 -- what happens to a history that the drives stand with, by a law of histories
-module _ (host : Host) (asks begun done : List Deed) (m : Tale) (h : History) (es : List Event) (happens : Happens (sites_of host) h es begun done m) (issues : AreAll (IsIssue (IsOfRun host)) es) where
+module _ (host : Host) (asks begun done : List Deed) (m : Tale) (h : History) (es : List Event) (happens : Happens host.drives h es begun done m) (issues : AreAll (IsIssue (IsOfRun host)) es) where
   pub happened_stands : StandsAt host (history_after_all h es) m
   happened_stands = happens.stands
 

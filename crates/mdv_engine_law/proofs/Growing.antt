@@ -1,6 +1,6 @@
 -- A volume that a change makes begins with one value in each block, and then its table may be written.
 use Rattle.std.proofs.Common.{◌≡◌, ◌⊎◌, inl, inr, ◌+◌, ◌<◌, ℕ, true, false, List, [], ◌∷◌, Option, Some, IfSome, refl, sym, ◌∙◌, ap, subst, arith}
-use Rattle.mdv_engine_law.specs.Below.{Among, AreWoken, Begins, Event, Happens, History, IsMapOf, IsNamed, IsNewestIn, IsTableAt, Key, Log, MakeStripe, Map, MayLeave, Newest, OfVolume, Site, SliceName, Table, Tale, Version, VolId, VolumeKind, Base, Woke, area_of_map, history_after, history_after_all, last, log_of, next_newest, run_map, with_blocks}
+use Rattle.mdv_engine_law.specs.Below.{Among, AreWoken, Begins, Event, Happens, History, IsMapOf, IsNamed, Key, Log, MakeStripe, Map, MayLeave, OfVolume, Opened, SliceName, Table, Tale, Version, VolId, VolumeKind, Base, Woke, area_of_map, history_after, history_after_all, last, log_of, run_map}
 use Rattle.mdv_map.proofs.Covering.{areas_cover}
 use Rattle.mdv_map.specs.Logs.{Follows, VolumeLog, opening}
 use Rattle.mdv_shelf.proofs.Settled.{covered}
@@ -10,14 +10,16 @@ use Rattle.mdv_store_law.specs.Part.{IsPart}
 use Rattle.mdv_table.specs.declared.volume.Base.TheVariants.{Slice}
 use Rattle.mdv_table.specs.declared.volume.Component.{Component}
 use Rattle.mdv_table.specs.declared.volume.VolumeKind.TheVariants.{Stripe}
+use Rattle.mdv_store.specs.Commit.{IsNewestWritten}
 use Rattle.mdv_store_law.specs.Machine.{AreAll}
+use Rattle.mdv_table.specs.Table.{IsOfGeometry}
 use Rattle.mdv_volumes.specs.Databases.{Database, is_volume}
 use Rattle.mdv_volumes.specs.Happening.{IsIssue, MayBeFound}
 use Rattle.mdv_volumes.specs.Histories.{Stands}
 use Rattle.mdv_volumes.specs.HistoryLaws.{IsAsked, IsBegun, IsReady as IsTableReady, IsUpon}
 use Rattle.mdv_volumes.specs.Standing.{GoesBy, HaveOneValue}
 use Rattle.mdv_volumes.specs.Tables.{AreLaid, IsBaseMap, IsKindMap}
-use Rattle.mdv_volumes.proofs.Databases.{volume_itself, volume_number}
+use Rattle.mdv_volumes.proofs.Databases.{is_log_of, volume_itself, volume_number}
 use Rattle.mdv_volumes.proofs.Found.{newest_found, only_found}
 use Rattle.mdv_volumes.proofs.Standing.{boots_stand}
 use Rattle.mdv_volumes.proofs.Tables.{tables_lie}
@@ -25,26 +27,26 @@ use Rattle.mdv_volumes.proofs.Transfers.{noted}
 use Rattle.mdv_volumes.proofs.Volumes.{after_own}
 use Rattle.mdv_volumes.proofs.Waking.{beginnings_go}
 use Rattle.mdv_engine_law.specs.declared.host.Host.{Host}
-use Rattle.mdv_engine_law.specs.Home.{IsReady, key_of, site_of, sites_of}
+use Rattle.mdv_engine_law.specs.Hosts.{IsReady, key_of}
 use Rattle.mdv_engine_law.specs.Line.{Memory}
 use Rattle.mdv_engine_law.specs.Standing.{IsKnown, IsOfRun, IsUnused, Knows, StandsAt, is_up}
 use Rattle.mdv_engine_law.proofs.Asking.{Alone, asked_is}
-use Rattle.mdv_engine_law.proofs.Beside.{on_plain}
+use Rattle.mdv_engine_law.proofs.Beside.{lies_plain}
 use Rattle.mdv_engine_law.proofs.Going.{AllAwake}
-use Rattle.mdv_engine_law.proofs.Refusing.{opened_has}
-use Rattle.mdv_engine_law.proofs.Sites.{only_key, only_site, own_site, plain_sites}
+use Rattle.mdv_engine_law.proofs.Owning.{own_alone}
+use Rattle.mdv_engine_law.proofs.Refusing.{known_newest, opened_has}
 use Rattle.mdv_engine_law.proofs.Staying.{plain_has}
 use Rattle.mdv_engine_law.proofs.Unused.{not_true}
 use Rattle.mdv_shelf.proofs.Blocks.{both_ways}
 
 -- the table of a change
-module _ (host : Host) (sizes : List ℕ) (ready : IsReady host sizes) (memory : Memory) (newest : Newest) (opened : memory.opened ≡ Some newest) (volume : VolId) (slice : SliceName) (table : Table)
-    (made : IsMade host.drives (Some (MakeStripe volume slice)) newest.table table) (placed : IsTableAt host.drives (with_blocks (site_of host).at newest.blocks).place table) where
+module _ (host : Host) (sizes : List ℕ) (ready : IsReady host sizes) (memory : Memory) (newest : Opened) (opened : memory.opened ≡ Some newest) (volume : VolId) (slice : SliceName) (table : Table)
+    (made : IsMade host.drives (Some (MakeStripe volume slice)) newest.table table) (placed : IsOfGeometry host.drives table) where
   abbrev pub key : Key
   key = key_of host
 
-  laid : AreLaid (sites_of host) host.drives table
-  laid = tables_lie.laid (sites_of host) host.drives table ready.sound (plain_sites host sizes ready) placed.of_geometry
+  laid : AreLaid host.drives table
+  laid = tables_lie.laid host.drives table ready.sound placed
 
   -- a volume of it lies together on a drive
   as_base : (c : Component) (base : Base) (v : Map) → IsBaseMap host.drives c base v → (drive : ℕ) × (first : ℕ) × (v ≡ run_map drive first c.blocks)
@@ -62,7 +64,7 @@ module _ (host : Host) (sizes : List ℕ) (ready : IsReady host sizes) (memory :
 
   pub new_run : NewRun
   new_run =
-      let found = tables_lie.lies host.drives newest.table table volume slice made.0 placed.of_geometry in
+      let found = tables_lie.lies host.drives newest.table table volume slice made.0 placed in
       let run = as_kind found.1.of.kind found.0 found.1.kind in
       record { drive = run.0; first = run.1; count = run.2; lies = subst (λ (v : Map). IsMapOf host.drives table volume v) run.3 found.1 }
 
@@ -78,8 +80,8 @@ module _ (host : Host) (sizes : List ℕ) (ready : IsReady host sizes) (memory :
   -- its blocks are unused until then
   unused_block : (b : ℕ) → b < new_run.count → IsUnused host memory new_run.drive (new_run.first + b)
   unused_block b lt = record {
-    plain = plain_has host new_run.drive new_run.first new_run.count (on_plain host sizes ready (next_newest newest table) placed volume new_run.drive new_run.first new_run.count new_run.lies) new_run.first new_run.count new_run.drive (new_run.first + b) (omega arith) (omega arith) (covered new_run.drive new_run.first new_run.count b lt);
-    free = subst (λ (o : Option Newest). IfSome o (λ n. (other : VolId) (w : Map) → IsMapOf host.drives n.table other w → area_of_map w new_run.drive (new_run.first + b) ≡ false)) (sym opened) (λ other w lies.
+    plain = plain_has host new_run.drive new_run.first new_run.count (lies_plain host ready.sound table placed volume new_run.drive new_run.first new_run.count new_run.lies) new_run.first new_run.count new_run.drive (new_run.first + b) (omega arith) (omega arith) (covered new_run.drive new_run.first new_run.count b lt);
+    free = subst (λ (o : Option Opened). IfSome o (λ n. (other : VolId) (w : Map) → IsMapOf host.drives n.table other w → area_of_map w new_run.drive (new_run.first + b) ≡ false)) (sym opened) (λ other w lies.
         not_true (area_of_map w new_run.drive (new_run.first + b)) (λ has.
         let inside = areas_cover.inside w new_run.drive (new_run.first + b) has in
         laid.apart volume other map w (never_old other w lies) new_run.lies (tables_lie.stays host.drives newest.table table volume slice other w made.0 lies) b inside.0 new_run.drive (new_run.first + b) lt inside.1 (inl (refl, refl)) inside.2));
@@ -97,27 +99,26 @@ module _ (host : Host) (sizes : List ℕ) (ready : IsReady host sizes) (memory :
       by image b x lt left (inr none) = absurd none
 
   -- a boot finds the open table alone
-  alone_of : (lg : Log) → IsLog host.drives lg → IsNewestIn newest lg → Alone host.drives (MakeStripe volume slice) newest.table table made lg
+  alone_of : (lg : Log) → IsLog host.drives lg → IsNewestWritten lg newest.mark newest.table → Alone host.drives (MakeStripe volume slice) newest.table table made lg
   alone_of lg is newest_is = record {
-    some = subst log.IsBegun (sym newest_is.family) tt;
-    each = λ v found. ap (λ (w : Version). w.table) (only_found newest_is.version newest_is.older v (subst log.IsRising newest_is.family is.rising) newest_is.written (subst (λ (f : List Version). MayBeFound f v) newest_is.family found)) ∙ newest_is.table;
+    some = subst log.IsBegun (sym newest_is.newest.family) tt;
+    each = λ v found. ap (λ (w : Version). w.table) (only_found newest_is.newest.version newest_is.newest.older v (subst log.IsRising newest_is.newest.family is.rising) newest_is.written (subst (λ (f : List Version). MayBeFound f v) newest_is.newest.family found)) ∙ newest_is.newest.same;
   }
 
   module _ (t : Tale) (h : History) (known : IsKnown host memory h t) where
-    is_newest : IsNewestIn newest (log_of h.databases key)
-    is_newest = opened_has memory newest (λ n. IsNewestIn n (log_of h.databases key)) opened known.newest
+    is_newest : IsNewestWritten (log_of h.databases key) newest.mark newest.table
+    is_newest = known_newest host memory newest opened t h known
 
     is_log : IsLog host.drives (log_of h.databases key)
-    is_log = (known.stands.databases key (site_of host) (own_site host)).is_log
+    is_log = is_log_of host.drives h.databases t known.stands.databases key
 
     alone : Alone host.drives (MakeStripe volume slice) newest.table table made (log_of h.databases key)
     alone = alone_of (log_of h.databases key) is_log is_newest
 
     -- no table that a boot may find has the volume
-    unnamed : (w : Map) → IsNamed (sites_of host) h.databases key volume w → ⊥
+    unnamed : (w : Map) → IsNamed host.drives h.databases key volume w → ⊥
     unnamed w named =
-        let there : IsMapOf host.drives named.version.table volume w = subst (λ (s : Site). IsMapOf s.drives named.version.table volume w) (only_site host named.site named.is_site) named.map in
-        let lies = subst (λ (x : Table). IsMapOf host.drives x volume w) (alone.each named.version named.found) there in
+        let lies = subst (λ (x : Table). IsMapOf host.drives x volume w) (alone.each named.version named.found) named.map in
         never_old volume w lies refl
 
     abbrev begins : Event
@@ -133,14 +134,14 @@ module _ (host : Host) (sizes : List ℕ) (ready : IsReady host sizes) (memory :
     second = history_after first wakes
 
     -- its log begins
-    begun : IsBegun (sites_of host) h key volume 0 map t
-    begun = beginnings_go (sites_of host) h key volume 0 map t (λ w named. absurd (unnamed w named)) empty known.stands where
+    begun : IsBegun host.drives h key volume 0 map t
+    begun = beginnings_go host.drives h key volume 0 map t (λ w named. absurd (unnamed w named)) empty known.stands where
       empty : Follows (record map { blocks = 0 }) (h.volumes key volume) t
       empty = record { reads = λ b x lt. absurd (omega (arith, lt)); leaves = λ image b x is lt. absurd (omega (arith, lt)) }
 
     -- What is so once it has begun, and, where the last boot brought its drive up, is woken.
     pub record IsGrown (es : List Event) (g : History) : Type 0 where
-      pub happens : Happens (sites_of host) h es [] [] t
+      pub happens : Happens host.drives h es [] [] t
       pub is : g ≡ history_after_all h es
       pub awake : AllAwake host h es
       pub issues : AreAll (IsIssue (IsOfRun host)) es
@@ -168,7 +169,7 @@ module _ (host : Host) (sizes : List ℕ) (ready : IsReady host sizes) (memory :
     -- a volume has a block
     some_block : 0 < new_run.count
     some_block =
-        let plain = on_plain host sizes ready (next_newest newest table) placed volume new_run.drive new_run.first new_run.count new_run.lies in
+        let plain = lies_plain host ready.sound table placed volume new_run.drive new_run.first new_run.count new_run.lies in
         let each = ready.sound.each plain.name plain.at plain.has in
         let some = each.some in
         let count = plain.count_is in omega (arith, some, count)
@@ -176,7 +177,7 @@ module _ (host : Host) (sizes : List ℕ) (ready : IsReady host sizes) (memory :
     grown_up : is_up memory new_run.drive ≡ true → (es : List Event) × (g : History) × IsGrown es g
     grown_up up =
         let woke : GoesBy map (first.volumes key volume) (Woke new_run.count (content t) ∷ []) t = boots_stand.woken map (content t) (first.volumes key volume) t (one_value t up known.knows) begun.follows in
-        let stands : Stands (sites_of host) second t = noted (sites_of host) first key volume (Woke new_run.count (content t)) t begun.happens.stands (λ w named. absurd (unnamed w named)) in (
+        let stands : Stands host.drives second t = noted host.drives first key volume (Woke new_run.count (content t)) t begun.happens.stands (λ w named. absurd (unnamed w named)) in (
           begins ∷ wakes ∷ [],
           second,
           record {
@@ -186,7 +187,7 @@ module _ (host : Host) (sizes : List ℕ) (ready : IsReady host sizes) (memory :
             issues = (tt, (tt, tt));
             databases = refl;
             up = refl;
-            follows = subst (λ (l : VolumeLog). Follows map l t) (sym (after_own (sites_of host) first key volume (Woke new_run.count (content t)) t t begun.happens.stands)) woke.follows;
+            follows = subst (λ (l : VolumeLog). Follows map l t) (sym (after_own host.drives first key volume (Woke new_run.count (content t)) t t begun.happens.stands)) woke.follows;
             own = λ upon. own_count;
             others = other_count;
           },
@@ -212,39 +213,37 @@ module _ (host : Host) (sizes : List ℕ) (ready : IsReady host sizes) (memory :
     pub grown : (es : List Event) × (g : History) × IsGrown es g
     grown = elim (both_ways (is_up memory new_run.drive)) [ inl up ↦ grown_up up | inr down ↦ grown_down down ]
 
-    newest_of : (w : Map) (other : VolId) → IsMapOf host.drives newest.table other w → IsNamed (sites_of host) h.databases key other w
+    newest_of : (w : Map) (other : VolId) → IsMapOf host.drives newest.table other w → IsNamed host.drives h.databases key other w
     newest_of w other lies = record {
-      site = site_of host;
-      is_site = own_site host;
-      version = is_newest.version;
-      found = subst (λ (f : List Version). MayBeFound f is_newest.version) (sym is_newest.family) (newest_found is_newest.version is_newest.older (subst log.IsRising is_newest.family is_log.rising));
-      map = subst (λ (x : Table). IsMapOf host.drives x other w) (sym is_newest.table) lies;
+      version = is_newest.newest.version;
+      found = subst (λ (f : List Version). MayBeFound f is_newest.newest.version) (sym is_newest.newest.family) (newest_found is_newest.newest.version is_newest.newest.older (subst log.IsRising is_newest.newest.family is_log.rising));
+      map = subst (λ (x : Table). IsMapOf host.drives x other w) (sym is_newest.newest.same) lies;
     }
 
     module _ (es : List Event) (g : History) (grows : IsGrown es g) where
       pub grown_stands : StandsAt host g t
-      grown_stands = subst (λ (k : History). Stands (sites_of host) k t) (sym grows.is) grows.happens.stands
+      grown_stands = subst (λ (k : History). Stands host.drives k t) (sym grows.is) grows.happens.stands
 
       -- then the table may be written
-      pub ready_grown : (other : Table) → other ≡ table → IsTableReady (sites_of host) g key (site_of host) t other
-      ready_grown other same = subst (λ (x : Table). IsTableReady (sites_of host) g key (site_of host) t x) (sym same) (record {
+      pub ready_grown : (other : Table) → other ≡ table → IsTableReady host.drives g key t other
+      ready_grown other same = subst (λ (x : Table). IsTableReady host.drives g key t x) (sym same) (record {
         laid = laid;
-        apart = λ k beside number v w differ lies named. absurd (differ (sym (only_key host k named.site named.is_site)));
+        apart = λ k number beside v w differ lies named. absurd (own_alone host memory.begun h known.its k beside w differ (subst (λ (ds : List Database). IsNamed host.drives ds k beside w) grows.databases named));
         follows = λ number w lies. by number w lies (tables_lie.made host.drives newest.table table volume slice number w made.0 lies);
       })
         where
           by : (number : VolId) (w : Map) → IsMapOf host.drives table number w → IsMapOf host.drives newest.table number w ⊎ (number ≡ volume) → Follows w (g.volumes key number) t
-          by number w lies (inl old) = grown_stands.volumes key number w (subst (λ (ds : List Database). IsNamed (sites_of host) ds key number w) (sym grows.databases) (newest_of w number old))
+          by number w lies (inl old) = grown_stands.volumes key number w (subst (λ (ds : List Database). IsNamed host.drives ds key number w) (sym grows.databases) (newest_of w number old))
           by number w lies (inr same) =
               let here : IsMapOf host.drives table volume w = subst (λ (n : VolId). IsMapOf host.drives table n w) same lies in
               subst (λ (n : VolId). Follows w (g.volumes key n) t) (sym same) (subst (λ (v : Map). Follows v (g.volumes key volume) t) (laid.one volume map w new_run.lies here) grows.follows)
 
       -- what is woken then
-      pub are_woken : (k : History) → k.woken ≡ g.woken → AreWoken (site_of host) table (is_up memory) k key
+      pub are_woken : (k : History) → k.woken ≡ g.woken → AreWoken host.drives table (is_up memory) k key
       are_woken k same number w lies upon = ap (λ (f : _). f key number) same ∙ by (tables_lie.made host.drives newest.table table volume slice number w made.0 lies) where
         by : IsMapOf host.drives newest.table number w ⊎ (number ≡ volume) → g.woken key number ≡ w.blocks
         by (inl old) =
-            let were = opened_has memory newest (λ n. AreWoken (site_of host) n.table (is_up memory) h key) opened known.woken in
+            let were = opened_has memory newest (λ n. AreWoken host.drives n.table (is_up memory) h key) opened known.woken in
             grows.others number (λ same_number. never_old number w old (sym same_number)) ∙ were number w old upon
         by (inr same_number) =
             let here : IsMapOf host.drives table volume w = subst (λ (n : VolId). IsMapOf host.drives table n w) same_number lies in

@@ -1,12 +1,20 @@
 -- What a line leaves in memory and on the drive, where it did what was asked.
-use Rattle.std.proofs.Common.{◌≡◌, ⊎_elim, inl, inr, ◌+◌, ◌-◌, ◌<◌, ◌^◌, ℕ, suc, List, [], ◌∷◌, length, slice_index_or, Some, refl, sym, ◌∙◌, ap, subst, arith}
-use Rattle.mdv_engine_law.specs.Below.{Area, DriveBlock, KeptOutside, nowhere, Settling, IsSettled, Everywhere, Tale, last, with_blocks, created_head, created_newest, Newest, IsNewestOf, ShowsNothing, IsOpened, IsTheReplica, IsAdopted, next_newest, Head, Slot, First, Second, IsSpareSlot, greatest, values_reply, One, Table}
+use Rattle.std.proofs.Common.{◌≡◌, ⊎_elim, inl, inr, ◌+◌, ◌-◌, ℕ, suc, List, [], ◌∷◌, length, slice_index_or, Some, refl, sym, ◌∙◌, ap, arith}
+use Rattle.mdv_engine_law.specs.Below.{Area, DriveBlock, Geometry, HasNoTable, Identity, IsOpenedAt, IsSettled, KeptOutside, Opened, Settling, SliceLine, Table, Tale, active_of, last, nowhere, seats_area, values_reply}
+use Rattle.mdv_shelf.specs.Failing.{Outcomes}
+use Rattle.mdv_standing.specs.Creating.{first_mark}
+use Rattle.mdv_store.specs.Commit as commit
+use Rattle.mdv_store.specs.Create as create
+use Rattle.mdv_store.specs.Create.{drives_asked}
+use Rattle.mdv_store.specs.Seats.{AreTheirs, drives_of}
 use Rattle.mdv_shelf.specs.Calls.{Shows}
 use Rattle.mdv_shelf.proofs.Settled.{covered}
 use Rattle.mdv_shelf.proofs.Everywhere.{last_image}
 use Rattle.mdv_engine_law.specs.declared.host.Host.{Host}
-use Rattle.mdv_engine_law.specs.Home.{replica_area, site_of, identity_of}
-use Rattle.mdv_engine_law.specs.Line.{Memory, IsSame, IsSameBeside, Stays, IsCreated, IsUncreated, IsCommitted, IsRewritten, ArePut, MayBePut, blocks_of, contents, kept_at, on_site}
+use Rattle.mdv_engine_law.specs.Commands.{LeavesPlaces, LeavesTable}
+use Rattle.mdv_engine_law.specs.Hosts.{identity_of, key_of, opened_area, places_area}
+use Rattle.mdv_engine_law.specs.Line.{AreCalmBeside, AreFormedOn, Memory, IsSame, IsSameBeside, Stays, IsCreated, IsUncreated, IsCommitted, IsOpenOn, ArePut, MayBePut, blocks_of, contents, kept_at}
+use Rattle.mdv_engine_law.proofs.Within.{opened_kept}
 
 -- these blocks are what a read gives
 pub blocks_shown : (t : Tale) (drive block : ℕ) (blocks : List (List ℕ)) → Shows t drive block blocks → blocks_of (contents t) (record { drive = drive; block = block }) (length blocks) ≡ blocks
@@ -38,44 +46,62 @@ module _ (t u : Tale) where
 pub same_beside : (area : Area) (t u : Tale) → KeptOutside area t u → IsSameBeside area (contents t) (contents u)
 same_beside area t u kept drive block out = (kept drive block out).last
 
+-- a database is there
+pub open_on : (g : Geometry) (o : Opened) (u : Tale) → IsOpenedAt g o u → IsOpenOn g o (contents u)
+open_on g o u is = record {
+  each = λ r has. is.held.each r has (last u) (last_image u);
+  shown = λ r has. (let s = is.shown r has in (s.slot, s.each (last u) (last_image u)));
+}
+
+-- each of the places asked has a replica of the new database
+formed_on : (host : Host) (identity : Identity) (lines : List SliceLine) (count blocks : ℕ) (u : Tale) → AreTheirs host.drives (key_of host) identity (create.seats_asked (key_of host) identity lines count blocks) u → AreFormedOn host identity lines count blocks (contents u)
+formed_on host identity lines count blocks u formed r has = formed r has (last u) (last_image u)
+
 module _ (host : Host) (memory next : Memory) (t u : Tale) where
   pub stays : next ≡ memory → KeptOutside nowhere t u → Stays (kept_at memory t) (kept_at next u)
   stays same kept = record { memory = same; content = same_content t u kept }
 
-  pub created : (blocks : ℕ) (table : Table) → KeptOutside (replica_area (site_of host) blocks) t u → next ≡ record memory { opened = Some (created_newest blocks table); begun = memory.begun + 1 } → table.plan.lists ≡ One ((with_blocks (site_of host).at blocks).place ∷ []) → table.plan.volumes ≡ []
-      → Everywhere (λ image. IsNewestOf (site_of host) (on_site (site_of host) image) (created_head (site_of host) blocks (identity_of host memory.begun) table) (created_newest blocks table)) u → IsCreated host blocks (kept_at memory t) (kept_at next u)
-  created blocks table kept is lists volumes each = record {
-    newest = created_newest blocks table;
-    new = record { sized = refl; slot = refl; mark = refl; lists = lists; volumes = volumes };
+  pub created : (calls : Outcomes) (lines : List SliceLine) (count blocks : ℕ) (o : Opened) → create.IsMade calls (key_of host) (identity_of host memory.begun) lines count blocks o → AreCalmBeside (drives_asked lines) calls → KeptOutside (places_area lines count blocks) t u
+      → next ≡ record memory { opened = Some o; begun = memory.begun + 1 } → AreTheirs host.drives (key_of host) (identity_of host memory.begun) (create.seats_asked (key_of host) (identity_of host memory.begun) lines count blocks) u → IsOpenedAt host.drives o u → IsCreated calls host lines count blocks (kept_at memory t) (kept_at next u)
+  created calls lines count blocks o made calm kept is formed opened = record {
+    opened = o;
+    made = made;
+    calm = calm;
     memory = is;
-    head = created_head (site_of host) blocks (identity_of host memory.begun) table;
-    identity = refl;
-    content = each (last u) (last_image u);
-    beside = same_beside (replica_area (site_of host) blocks) t u kept;
+    formed = formed_on host (identity_of host memory.begun) lines count blocks u formed;
+    content = open_on host.drives o u opened;
+    beside = same_beside (places_area lines count blocks) t u kept;
   }
 
-  pub uncreated : (blocks : ℕ) → KeptOutside (replica_area (site_of host) blocks) t u → next ≡ record memory { begun = memory.begun + 1 } → ShowsNothing (site_of host) u → IsUncreated host blocks (kept_at memory t) (kept_at next u)
-  uncreated blocks kept is nothing = record { memory = is; content = nothing (last u) (last_image u); beside = same_beside (replica_area (site_of host) blocks) t u kept }
-
-  pub committed : (newest : Newest) (table : Table) → KeptOutside (replica_area (site_of host) newest.blocks) t u → next ≡ record memory { opened = Some (next_newest newest table) } → IsOpened (site_of host) (next_newest newest table) u → IsCommitted host newest table (kept_at memory t) (kept_at next u)
-  committed newest table kept is opened = record { memory = is; head = opened.head; content = opened.each (last u) (last_image u); beside = same_beside (replica_area (site_of host) newest.blocks) t u kept }
-
-  -- a boot adopted the one replica that was there, and its next number is one
-  pub rewritten_newest : (newest : Newest) (head : Head) (slot : Slot) (table : Table) → KeptOutside (replica_area (site_of host) newest.blocks) t u → (newest.slot ≡ Second → IsSpareSlot head First → ⊥) → IsTheReplica (site_of host) (on_site (site_of host) (contents t)) head slot table → greatest head + 1 < 2 ^ 63 → IsAdopted (site_of host) (on_site (site_of host) (contents t)) newest u
-      → IsRewritten (site_of host) (contents t) (contents u) newest
-  rewritten_newest newest head slot table kept tie the fits is = record {
-    head = is.head;
-    replica = is.replica;
-    shown = is.shown;
-    spare = is.spare;
-    tie = subst (λ (h : Head). newest.slot ≡ Second → IsSpareSlot h First → ⊥) (sym (the.only is.head is.replica)) tie;
-    mark = is.mark;
-    has = is.has;
-    is = is.is;
-    fits = subst (λ (h : Head). greatest h + 1 < 2 ^ 63) (sym (the.only is.head is.replica)) fits;
-    written = is.each (last u) (last_image u);
-    beside = same_beside (replica_area (site_of host) newest.blocks) t u kept;
+  -- a creation that gives up
+  pub leaves_places : (calls : Outcomes) (lines : List SliceLine) (count blocks active listed : ℕ) (lost : create.IsLost calls (key_of host) (identity_of host memory.begun) lines count blocks active listed) → AreCalmBeside (drives_asked lines) calls → KeptOutside (places_area lines count blocks) t u
+      → AreTheirs host.drives (key_of host) (identity_of host memory.begun) (create.seats_asked (key_of host) (identity_of host memory.begun) lines count blocks) u
+      → IsOpenedAt host.drives (record { key = key_of host; identity = identity_of host memory.begun; mark = first_mark; table = create.table_of (create.seats_asked (key_of host) (identity_of host memory.begun) lines count blocks); seats = lost.now }) u
+      → LeavesPlaces calls host lines count blocks active listed (kept_at memory t) (kept_at next u)
+  leaves_places calls lines count blocks active listed lost calm kept formed opened = record {
+    lost = lost;
+    calm = calm;
+    formed = formed_on host (identity_of host memory.begun) lines count blocks u formed;
+    left = open_on host.drives (record { key = key_of host; identity = identity_of host memory.begun; mark = first_mark; table = create.table_of (create.seats_asked (key_of host) (identity_of host memory.begun) lines count blocks); seats = lost.now }) u opened;
+    beside = same_beside (places_area lines count blocks) t u kept;
   }
+
+  -- and a change that does
+  pub leaves_table : (calls : Outcomes) (o new : Opened) (table : Table) → memory.opened ≡ Some o → commit.IsLostNow calls o new table → AreCalmBeside (drives_of o.seats) calls → KeptOutside (seats_area o.seats) t u
+      → IsOpenedAt host.drives (record new { mark = commit.next_mark o.mark; table = table }) u → LeavesTable calls host o table (active_of new.seats) (length new.seats) (kept_at memory t) (kept_at next u)
+  leaves_table calls o new table is lost calm kept opened = record {
+    lost = record { new = new; calm = calm; lost = lost; active_is = refl; listed_is = refl };
+    left = open_on host.drives (record new { mark = commit.next_mark o.mark; table = table }) u opened;
+    beside = same_beside (opened_area memory.opened) t u (opened_kept t u memory.opened o is kept);
+  }
+
+  pub uncreated : (calls : Outcomes) (lines : List SliceLine) (count blocks : ℕ) → create.HasFailed calls (key_of host) (identity_of host memory.begun) lines count blocks → KeptOutside (places_area lines count blocks) t u
+      → next ≡ record memory { begun = memory.begun + 1 } → HasNoTable host.drives (key_of host) u → IsUncreated calls host lines count blocks (kept_at memory t) (kept_at next u)
+  uncreated calls lines count blocks failed kept is nothing = record { failed = failed; memory = is; content = λ identity. nothing identity (last u) (last_image u); beside = same_beside (places_area lines count blocks) t u kept }
+
+  pub committed : (calls : Outcomes) (o new : Opened) (table : Table) → commit.IsCommitted calls o new table → AreCalmBeside (drives_of o.seats) calls → KeptOutside (seats_area o.seats) t u → next ≡ record memory { opened = Some new } → IsOpenedAt host.drives new u
+      → IsCommitted calls host o table (kept_at memory t) (kept_at next u)
+  committed calls o new table done calm kept is opened = record { opened = new; committed = done; calm = calm; memory = is; content = open_on host.drives new u opened; beside = same_beside (seats_area o.seats) t u kept }
 
 -- a read told what is there
 pub read_values : (t : Tale) (at drive block : ℕ) (blocks : List (List ℕ)) (text : List ℕ) → Shows t drive block blocks → text ≡ values_reply at blocks → text ≡ values_reply at (blocks_of (contents t) (record { drive = drive; block = block }) (length blocks))

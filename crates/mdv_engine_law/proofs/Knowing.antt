@@ -1,57 +1,61 @@
 -- What is known between lines stays where no block changes.
 use Rattle.std.proofs.Common.{◌≡◌, List, Option, Some, None, IfSome, refl, sym, ◌∙◌}
-use Rattle.mdv_engine_law.specs.Below.{AreWoken, Database, KeptOutside, nowhere, Tale, Log, Newest, IsFound, IsNewestOf, IsOpened, IsNewestIn, History, VolId, log_of}
-use Rattle.mdv_shelf.proofs.Everywhere.{everywhere_kept}
+use Rattle.mdv_databases.proofs.Lasting.{open_elsewhere, opened_elsewhere, tables_elsewhere}
+use Rattle.mdv_engine_law.specs.Below.{AreWoken, Database, Geometry, History, IsOpenIn, IsOpenedAt, KeptOutside, Opened, Tale, VolId, nowhere}
 use Rattle.mdv_volumes.specs.HistoryLaws.{IsElsewhere}
 use Rattle.mdv_volumes.proofs.Restarts.{restarts_go}
 use Rattle.mdv_engine_law.specs.declared.host.Host.{Host}
-use Rattle.mdv_engine_law.specs.Home.{key_of, site_of, sites_of}
-use Rattle.mdv_engine_law.specs.Line.{Memory, on_site}
-use Rattle.mdv_engine_law.specs.Standing.{StandsAt, Knows, IsKnown, is_up}
+use Rattle.mdv_engine_law.specs.Hosts.{key_of}
+use Rattle.mdv_engine_law.specs.Line.{Memory}
+use Rattle.mdv_engine_law.specs.Standing.{AreOwn, StandsAt, Knows, IsKnown, is_up}
 
 -- of the value in an option, where it is of the value in any
 pub some_more : {A : Type 0} (o : Option A) (P Q : A → Type 0) → ((x : A) → P x → Q x) → IfSome o P → IfSome o Q
 some_more None P Q more is = is
 some_more (Some x) P Q more is = more x is
 
--- the newest table is that of the family
-pub newest_same : (newest : Newest) (old new : Log) → new.family ≡ old.family → IsNewestIn newest old → IsNewestIn newest new
-newest_same newest old new same is = record {
-  version = is.version;
-  older = is.older;
-  family = same ∙ is.family;
-  mark = is.mark;
-  table = is.table;
-  written = is.written;
-}
+-- an open database stays so
+pub opened_kept : (g : Geometry) (o : Opened) (u v : Tale) → KeptOutside nowhere u v → IsOpenedAt g o u → IsOpenedAt g o v
+opened_kept g o u v kept is = opened_elsewhere g nowhere (λ key drive block here there. cc here) u v kept o is
 
 module _ (host : Host) (u v : Tale) (kept : KeptOutside nowhere u v) where
-  none_there : (databases : List Database) → IsElsewhere (sites_of host) databases nowhere
-  none_there databases = record { places = λ key site is drive block here there. cc there; volumes = λ key volume v named drive block here there. cc here }
+  none_there : (databases : List Database) → IsElsewhere host.drives databases nowhere
+  none_there databases = record { slices = λ key drive block here there. cc here; volumes = λ key volume v named drive block here there. cc here }
 
   pub stands_kept : (h : History) → StandsAt host h u → StandsAt host h v
-  stands_kept h stands = restarts_go.elsewhere (sites_of host) h nowhere u v (none_there h.databases) kept stands
+  stands_kept h stands = restarts_go.elsewhere host.drives h nowhere u v (none_there h.databases) kept stands
+
+  -- an open one of all
+  pub open_kept : (o : Opened) (all : List Database) → IsOpenIn host.drives o all u → IsOpenIn host.drives o all v
+  open_kept o all is = open_elsewhere host.drives nowhere (λ key drive block here there. cc here) u v kept o all is
 
   module _ (memory : Memory) where
     pub knows_kept : Knows host memory u → Knows host memory v
     knows_kept knows = record {
-      nothing = λ none up. everywhere_kept (λ image. IsFound (site_of host) (on_site (site_of host) image) None) u v kept (knows.nothing none up);
-      opened = some_more memory.opened (λ newest. IsOpened (site_of host) newest u) (λ newest. IsOpened (site_of host) newest v) (λ newest is. record { head = is.head; each = everywhere_kept (λ image. IsNewestOf (site_of host) (on_site (site_of host) image) is.head newest) u v kept is.each }) knows.opened;
+      nothing = λ none up. tables_elsewhere host.drives nowhere (λ key drive block here there. cc here) u v kept (key_of host) (knows.nothing none up);
+      opened = some_more memory.opened (λ o. (o.key ≡ key_of host) × IsOpenedAt host.drives o u) (λ o. (o.key ≡ key_of host) × IsOpenedAt host.drives o v) (λ o is. (is.0, opened_kept host.drives o u v kept is.1)) knows.opened;
       unused = λ drive block up free x left. (let is = kept drive block refl in knows.unused drive block up free x (is.left x left) ∙ sym is.last);
     }
 
     pub known_kept : (h : History) → IsKnown host memory h u → IsKnown host memory h v
-    known_kept h known = record { stands = stands_kept h known.stands; newest = known.newest; up = known.up; woken = known.woken; knows = knows_kept known.knows }
+    known_kept h known = record {
+      stands = stands_kept h known.stands;
+      its = known.its;
+      is_open = some_more memory.opened (λ o. IsOpenIn host.drives o h.databases u) (λ o. IsOpenIn host.drives o h.databases v) (λ o is. open_kept o h.databases is) known.is_open;
+      up = known.up;
+      woken = known.woken;
+      knows = knows_kept known.knows;
+    }
 
--- a history that goes on with the same tables, the same drives up, and as many blocks woken, is known as the first was
-pub known_on : (host : Host) (memory : Memory) (h after : History) (t : Tale) → StandsAt host after t → (log_of after.databases (key_of host)).family ≡ (log_of h.databases (key_of host)).family
+-- a history that goes on with the same database open, the same drives up, and as many blocks woken, is known as the first was
+pub known_on : (host : Host) (memory : Memory) (h after : History) (t : Tale) → StandsAt host after t → AreOwn host memory.begun after → ((o : Opened) → IsOpenIn host.drives o h.databases t → IsOpenIn host.drives o after.databases t)
     → after.up (key_of host) ≡ h.up (key_of host) → ((volume : VolId) → after.woken (key_of host) volume ≡ h.woken (key_of host) volume) → IsKnown host memory h t → IsKnown host memory after t
-known_on host memory h after t stands same up counts known = record {
+known_on host memory h after t stands its still up counts known = record {
   stands = stands;
-  newest = some_more memory.opened (λ newest. IsNewestIn newest (log_of h.databases (key_of host))) (λ newest. IsNewestIn newest (log_of after.databases (key_of host)))
-      (λ newest is. newest_same newest (log_of h.databases (key_of host)) (log_of after.databases (key_of host)) same is) known.newest;
+  its = its;
+  is_open = some_more memory.opened (λ o. IsOpenIn host.drives o h.databases t) (λ o. IsOpenIn host.drives o after.databases t) still known.is_open;
   up = up ∙ known.up;
-  woken = some_more memory.opened (λ newest. AreWoken (site_of host) newest.table (is_up memory) h (key_of host)) (λ newest. AreWoken (site_of host) newest.table (is_up memory) after (key_of host))
-      (λ newest are volume v map upon. counts volume ∙ are volume v map upon) known.woken;
+  woken = some_more memory.opened (λ o. AreWoken host.drives o.table (is_up memory) h (key_of host)) (λ o. AreWoken host.drives o.table (is_up memory) after (key_of host))
+      (λ o are volume v map upon. counts volume ∙ are volume v map upon) known.woken;
   knows = known.knows;
 }

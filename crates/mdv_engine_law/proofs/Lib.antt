@@ -4,8 +4,8 @@ pub mod Writing
 pub mod Executing
 pub mod Widening
 pub mod Plain
+pub mod Owning
 pub mod Knowing
-pub mod Sites
 pub mod Longer
 pub mod Fronts
 pub mod Going
@@ -17,6 +17,11 @@ pub mod Refusing
 pub mod Beside
 pub mod Unused
 pub mod Within
+mod Ordered
+pub mod Judging
+pub mod Allowed
+pub mod Places
+pub mod Placing
 pub mod Asking
 pub mod Booting
 pub mod Making
@@ -24,9 +29,7 @@ pub mod Growing
 pub mod Changing
 pub mod Transfer
 pub mod Keeping
+pub mod Rebooting
 pub mod Staying
 pub mod Kept
-pub mod Allowed
 pub mod Volumes
-mod Ordered
-pub mod Judging

@@ -34,12 +34,16 @@ pub never_ended : (end : Ended) → IsReplied (reply_at end) → ⊥
 never_ended (ended.Lost active listed) on = on
 never_ended ended.Spent on = on
 never_ended ended.Memory on = on
+never_ended (ended.NoQuorum readable needed) on = on
+never_ended (ended.TwoDatabases a b) on = on
 
 -- such a reply says that the run is lost
 pub ended_lost : (end : Ended) → IsLost (reply_at end)
 ended_lost (ended.Lost active listed) = tt
 ended_lost ended.Spent = tt
 ended_lost ended.Memory = tt
+ended_lost (ended.NoQuorum readable needed) = tt
+ended_lost (ended.TwoDatabases a b) = tt
 
 reply_more : (failed : Type 0) (answer : Answer) → IsPlainAnswer answer → (given : Reply) → IsReplied given → (t u : Tale) → Replied failed answer given t u → length (told t) < length (told u)
 reply_more failed (Said this) plain given on t u is = elim is.as_told [

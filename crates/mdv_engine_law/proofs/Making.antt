@@ -1,98 +1,164 @@
 -- What a creation leaves of a host's history.
-use Rattle.std.proofs.Common.{◌≡◌, ℕ, true, false, List, [], ◌∷◌, Contains, Option, Some, None, IfSome, refl, sym, ◌∙◌, ap, subst, arith}
-use Rattle.mdv_engine_law.specs.Below.{AreWoken, Drives, Identity, Key, IoFault, KeptOutside, Map, area_of_map, IsMapOf, VolId, Volume, Tale, told, Table, IsCreated, created_newest, Log, IsThis, is_firm, Newest, area_of, ShowsNothing, IsOpened, IsNewestIn, Anything, GoesMaking, History, Created, Event, log_of}
+use Rattle.std.proofs.Common.{◌≡◌, ◌+◌, ◌*◌, ◌<◌, ◌≤◌, ℕ, true, false, List, [], ◌∷◌, ◌++◌, Contains, Option, Some, None, IfSome, refl, sym, ◌∙◌, ap, subst, arith}
+use Rattle.mdv_databases.proofs.Creating.{begun_stand}
+use Rattle.mdv_databases.proofs.Lists.{events_log}
+use Rattle.mdv_databases.proofs.Nothing.{nothing_told}
+use Rattle.mdv_databases.specs.Creating.{IsCreation, IsMadeIn, IsUnmadeIn}
+use Rattle.mdv_databases.specs.Going.{GoOn, with_events}
+use Rattle.mdv_engine_law.specs.Below.{AreWoken, Created, Creation, Database, Drives, Event, HasNoTable, History, Identity, IoFault, IsMapOf, IsNewestTellable, IsOpenIn, IsOpenedAt, Key, KeptOutside, Log, Map, Opened, Site, SliceLine, Tale, VolId, Volume, area_of_map, history_after, is_firm, log_of, site_area, told}
+use Rattle.mdv_store.specs.Commit.{AnyLog}
+use Rattle.mdv_shown.specs.Site.{size_on}
+use Rattle.mdv_store.specs.Create.{IsCreatedTo, seats_asked, table_of}
+use Rattle.mdv_store_law.specs.Log as log
+use Rattle.mdv_store_law.specs.Part.{IsPart}
+use Rattle.mdv_store_law.proofs.Parts.{part_itself, part_of_part}
+use Rattle.mdv_table.specs.Table.{IsOfGeometry}
+use Rattle.mdv_volumes.specs.Databases.{with_creation}
+use Rattle.mdv_volumes.proofs.Lifting.{creations_go}
 use Rattle.mdv_engine_law.specs.Awake.{is_in}
 use Rattle.mdv_engine_law.specs.declared.answer.Answer.TheVariants.{Said, Over}
 use Rattle.mdv_engine_law.specs.declared.answer.Ended.TheVariants as ended
 use Rattle.mdv_engine_law.specs.declared.answer.Outcome.TheVariants as outcome
 use Rattle.mdv_engine_law.specs.declared.host.Host.{Host}
-use Rattle.mdv_engine_law.specs.Home.{IsReady, identity_of, key_of, plain_area, replica_area, site_of}
+use Rattle.mdv_engine_law.specs.Hosts.{IsReady, identity_of, key_of, places_area}
 use Rattle.mdv_engine_law.specs.Line.{Memory, ToMake}
-use Rattle.mdv_engine_law.specs.Standing.{StandsAt, IsOfRun, IsUnused, Goes, Reached, Knows, IsKnown, IsKnownAfter, CarryMoment, CarriedTo, is_up}
-use Rattle.mdv_store_law.proofs.Parts.{part_itself}
+use Rattle.mdv_engine_law.specs.Standing.{StandsAt, Goes, Reached, Knows, IsKnown, IsKnownAfter, CarryMoment, CarriedTo, is_up}
+use Rattle.mdv_engine_law.proofs.Going.{goes_more, happened}
 use Rattle.mdv_engine_law.proofs.Lifting.{lift_log, never_asked}
+use Rattle.mdv_engine_law.proofs.Owning.{own_begun, own_fresh}
 use Rattle.mdv_engine_law.proofs.Unused.{free_kept}
 use Rattle.mdv_engine_law.proofs.Refusing.{IsFree, of_opened, knows_opened}
-use Rattle.mdv_engine_law.proofs.Sites.{own_site}
-use Rattle.mdv_engine_law.proofs.Staying.{stays_in_replica}
-use Rattle.mdv_engine_law.proofs.Within.{replica_in_place}
+use Rattle.mdv_engine_law.proofs.Staying.{stays_on_site}
+use Rattle.mdv_engine_law.proofs.Within.{places_on_site}
 
--- how the log goes on by the creation of this number, where nothing was there
-abbrev pub Makes : Host → Memory → (Log → Type 0) → Tale → Tale → Type 0
-Makes host memory After t m = ShowsNothing (site_of host) t → GoesMaking (site_of host) (identity_of host memory.begun) After t m
+-- A creation of this run, where no database is open and no call failed in the last boot, on slices of the host's site that have room; its first table is one of the table of drives.
+module _ (host : Host) (sizes : List ℕ) (ready : IsReady host sizes) (memory : Memory) (none : memory.opened ≡ None) (clean : memory.clean ≡ true) (lines : List SliceLine) (count blocks : ℕ)
+    (sites : (line : SliceLine) → Contains lines line → Contains host.site.lines line) (room : (line : SliceLine) → Contains lines line → 16 + count * blocks ≤ line.at.blocks)
+    (placed : IsOfGeometry host.drives (table_of (seats_asked (key_of host) (identity_of host memory.begun) lines count blocks))) (t m : Tale) (within : KeptOutside (places_area lines count blocks) t m) where
+  abbrev identity : Identity
+  identity = identity_of host memory.begun
 
--- a creation of this run, where no database is open and no call failed in the last boot
-module _ (host : Host) (sizes : List ℕ) (ready : IsReady host sizes) (memory : Memory) (none : memory.opened ≡ None) (clean : memory.clean ≡ true) (blocks : ℕ) (t m : Tale)
-    (within : KeptOutside (replica_area (site_of host) blocks) t m) where
-  kept : KeptOutside (area_of (site_of host)) t m
-  kept = replica_in_place (site_of host) t m blocks within
+  -- it may begin in each history that is known
+  may : (h : History) → IsKnown host memory h t → IsCreation host.drives h.databases (key_of host) identity lines count blocks t
+  may h known = record {
+    sound = ready.sound;
+    stand = known.stands.databases;
+    none = known.knows.nothing none clean;
+    fresh = own_fresh host memory.begun h known.its;
+    sites = λ line has. subst (λ (s : Site). Contains s.lines line) ready.site (sites line has);
+    within = λ line has. subst (λ (s : Site). line.at.start + line.at.blocks ≤ size_on s line) ready.site (ready.on_shelf.within line (sites line has));
+    others = λ d line has differ. absurd (differ (known.its.own d has));
+    of_geometry = placed;
+  }
 
-  mine : (other : Identity) → IsThis (identity_of host memory.begun) other → IsOfRun host other
-  mine other same = subst (λ (i : Identity). IsOfRun host i) (sym same) refl
+  -- and nothing was told of the key's database, nor is its table written
+  free : (h : History) → IsKnown host memory h t → is_firm (log_of h.databases (key_of host)) ≡ false
+  free h known = (nothing_told host.drives h.databases (key_of host) t known.stands.databases (known.knows.nothing none clean)).0
 
-  making : (After : Log → Type 0) (Then : List Event → History → Type 0) → Makes host memory After t m → (h : History) → IsKnown host memory h t → ((es : List Event) (g : History) → StandsAt host g m → g.up (key_of host) ≡ memory.up → After (log_of g.databases (key_of host)) → Then es g)
-      → Goes host (Created (key_of host) ∷ []) [] Then m h
-  making After Then goes h known then =
-      lift_log host (Created (key_of host) ∷ []) Then Anything (IsThis (identity_of host memory.begun)) (None ∷ []) After t m kept mine (part_itself (Created (key_of host) ∷ [])) h
-      (λ es course within table asked. absurd (never_asked es table within asked)) (λ es g there woken drives after. then es g there (ap (λ (up : Key → Drives). up (key_of host)) drives ∙ known.up) after) (goes (known.knows.nothing none clean)) known.stands tt
+  abbrev now : List Database → List Database
+  now all = with_creation (key_of host) identity all
 
-  pub making_moment : told m ≡ told t → Makes host memory Anything t m → CarryMoment host (ToMake (key_of host) blocks) memory t m
-  making_moment quiet goes = record { home = stays_in_replica host t m kept; within = within; quiet = quiet; goes = λ h known. making Anything Reached goes h known (λ es g there up is. tt) }
+  kept : KeptOutside (site_area host.site) t m
+  kept = places_on_site t m host.site lines count blocks sites room within
 
-  abbrev Frees : Newest → ℕ → ℕ → Type 0
-  Frees n drive block = (volume : VolId) (v : Map) → IsMapOf host.drives n.table volume v → area_of_map v drive block ≡ false
+  making : (After : Log → Type 0) (Then : List Event → History → Type 0) (h : History) (known : IsKnown host memory h t) (on : GoOn host.drives (now h.databases) (key_of host) identity [] After m)
+      → ((es : List Event) (g : History) → StandsAt host g m → g.up (key_of host) ≡ memory.up → g.databases ≡ with_events (key_of host) on.es (now h.databases) → Then es g) → Goes host (Created (key_of host) ∷ []) [] Then m h
+  making After Then h known on then =
+      let newly = creations_go host.drives h (key_of host) identity t known.stands (record { fresh = (may h known).fresh; free = free h known }) (begun_stand host.drives h.databases (key_of host) identity lines count blocks t (may h known)) in
+      goes_more host (Created (key_of host) ∷ []) [] (Created (key_of host) ∷ []) [] [] (λ es g. (es ≡ first ∷ []) × (g ≡ history_after h first)) Then t m h (part_itself (Created (key_of host) ∷ []))
+      (happened host (Created (key_of host) ∷ []) (Created (key_of host) ∷ []) [] t h (first ∷ []) newly.happens (refl, tt) (λ es g. (es ≡ first ∷ []) × (g ≡ history_after h first)) (tt, tt) (part_itself (Created (key_of host) ∷ [])) (refl, refl))
+      (λ es g there is. subst (λ (w : List Event). Goes host [] [] (λ more. Then (w ++ more)) m g) (sym is.0)
+      (subst (λ (x : History). Goes host [] [] (λ more. Then (first ∷ more)) m x) (sym is.1) (went (subst (λ (x : History). StandsAt host x t) is.1 there))))
+    where
+      first : Event
+      first = Creation (key_of host) identity
+
+      nothing : (fs : List log.Event) → IsPart (log.begun_by fs) [] → IsPart (log.begun_by fs) (None ∷ [])
+      nothing fs part = part_of_part (log.begun_by fs) [] (None ∷ []) part tt
+
+      went : StandsAt host (history_after h first) t → Goes host [] [] (λ more. Then (first ∷ more)) m (history_after h first)
+      went there =
+          lift_log host [] (λ more. Then (first ∷ more)) (key_of host) identity [] After t m (subst (λ (s : Site). KeptOutside (site_area s) t m) ready.site kept) tt (history_after h first) there on
+          (λ table asked. absurd (never_asked on.es table (nothing on.es on.come.begins) asked))
+          (λ es g stands databases woken up. then (first ∷ es) g stands (ap (λ (of : Key → Drives). of (key_of host)) up ∙ known.up) databases)
+
+  -- how all databases go on by then
+  pub making_moment : told m ≡ told t → ((all : List Database) → IsCreation host.drives all (key_of host) identity lines count blocks t → GoOn host.drives (now all) (key_of host) identity [] AnyLog m)
+      → CarryMoment host (ToMake (key_of host) lines count blocks) memory t m
+  making_moment quiet goes =
+      record { home = stays_on_site host t m kept; within = (kept, within); quiet = quiet; goes = λ h known. making AnyLog Reached h known (goes h.databases (may h known)) (λ es g there up databases. tt) }
+
+  abbrev Frees : Opened → ℕ → ℕ → Type 0
+  Frees o drive block = (volume : VolId) (v : Map) → IsMapOf host.drives o.table volume v → area_of_map v drive block ≡ false
 
   -- unused blocks stay so
-  freed : (next : Memory) → next.up ≡ memory.up → ((drive block : ℕ) → IsUnused host next drive block → plain_area host.drives.slices drive block ≡ true) → Knows host memory t → IsFree host next m
-  freed next up plain known = free_kept host sizes ready memory next t m kept still (λ drive block is. record { plain = plain drive block is; free = subst (λ (o : Option Newest). IfSome o (λ n. Frees n drive block)) (sym none) tt }) known.unused
+  freed : (next : Memory) → next.up ≡ memory.up → Knows host memory t → IsFree host next m
+  freed next up known = free_kept host sizes ready memory next t m kept still (λ drive block is. record { plain = is.plain; free = subst (λ (x : Option Opened). IfSome x (λ o. Frees o drive block)) (sym none) tt }) known.unused
     where
       still : (drive : ℕ) → is_up next drive ≡ true → is_up memory drive ≡ true
       still drive on = subst (λ (drives : Drives). is_in drives drive ≡ true) up on
 
   -- it was made, and its `ok` may be told
-  pub made : (table : Table) (next : Memory) → next.up ≡ memory.up → table.plan.volumes ≡ [] → next.opened ≡ Some (created_newest blocks table) → (ShowsNothing (site_of host) t → IsOpened (site_of host) (created_newest blocks table) m)
-      → Makes host memory (IsCreated blocks (identity_of host memory.begun) table) t m → CarriedTo host (ToMake (key_of host) blocks) memory (Said outcome.Ok) next t m
-  made table next same_up empty opened is goes =
-      let newest : Newest = created_newest blocks table in
-      let knows : Knows host memory t → Knows host next m = λ known. knows_opened host next newest m opened (is (known.nothing none clean)) (freed next same_up (λ drive block unused. unused.plain) known) in
+  pub made : (o : Opened) (next : Memory) → next.up ≡ memory.up → memory.begun < next.begun → o.key ≡ key_of host → o.table.plan.volumes ≡ [] → next.opened ≡ Some o → IsOpenedAt host.drives o m
+      → ((all : List Database) → IsCreation host.drives all (key_of host) identity lines count blocks t → IsMadeIn host.drives (now all) (key_of host) identity o m) → CarriedTo host (ToMake (key_of host) lines count blocks) memory (Said outcome.Ok) next t m
+  made o next same_up begun its empty opened is goes =
+      let knows : Knows host memory t → Knows host next m = λ known. knows_opened host next o m opened its is (freed next same_up known) in
       record {
         done = Created (key_of host) ∷ [];
         acks = refl;
-        goes = λ h known. making (IsCreated blocks (identity_of host memory.begun) table) (λ es g. IsKnownAfter host (Created (key_of host) ∷ []) (Said outcome.Ok) next g m) goes h known (λ es g there up created. (
-          record {
-            stands = there;
-            newest = of_opened next newest (λ n. IsNewestIn n (log_of g.databases (key_of host))) opened created.newest;
-            up = up ∙ sym same_up;
-            woken = of_opened next newest (λ n. AreWoken (site_of host) n.table (is_up next) g (key_of host)) opened (λ volume v map upon. absurd (no_map volume v map));
-            knows = knows known.knows;
-          },
-          record { site = site_of host; is_site = own_site host; may = created.tellable },
-        ));
+        goes = λ h known.
+            (let done = goes h.databases (may h known) in
+            making (IsCreatedTo o) (λ es g. IsKnownAfter host (Created (key_of host) ∷ []) (Said outcome.Ok) next g m) h known done.goes (λ es g there up databases. (
+              record {
+                stands = there;
+                its = own_begun host memory.begun h known.its done.goes.es next.begun g begun databases;
+                is_open = of_opened next o (λ n. IsOpenIn host.drives n g.databases m) opened (subst (λ (ds : List Database). IsOpenIn host.drives o ds m) (sym databases) done.is_open);
+                up = up ∙ sym same_up;
+                woken = of_opened next o (λ n. AreWoken host.drives n.table (is_up next) g (key_of host)) opened (λ volume v map upon. absurd (no_map volume v map));
+                knows = knows known.knows;
+              },
+              record { may = tellable h g done databases },
+            )));
         knows = knows;
       }
     where
-      no_map : (volume : VolId) (v : Map) → IsMapOf host.drives table volume v → ⊥
+      no_map : (volume : VolId) (v : Map) → IsMapOf host.drives o.table volume v → ⊥
       no_map volume v map = let has = subst (λ (l : List Volume). Contains l map.of) empty map.has.0 in omega (arith, has.1)
 
+      tellable : (h g : History) (done : IsMadeIn host.drives (now h.databases) (key_of host) identity o m) → g.databases ≡ with_events (key_of host) done.goes.es (now h.databases) → IsNewestTellable (log_of g.databases (key_of host)) None
+      tellable h g done databases =
+          let own = events_log (key_of host) done.goes.es (now h.databases) done.goes.its.database done.goes.its.current in
+          subst (λ (l : Log). IsNewestTellable l None) (sym (ap (λ (ds : List Database). log_of ds (key_of host)) databases ∙ own)) done.goes.after.tellable
+
   -- it failed, and nothing is there
-  pub unmade : (next : Memory) → next.up ≡ memory.up → next.opened ≡ None → (ShowsNothing (site_of host) t → ShowsNothing (site_of host) m) → Makes host memory (λ lg. is_firm lg ≡ false) t m
-      → CarriedTo host (ToMake (key_of host) blocks) memory (Said (outcome.Refused IoFault)) next t m
-  unmade next same_up closed nothing goes =
-      let empty : (P : Newest → Type 0) → IfSome next.opened P = λ P. subst (λ (o : Option Newest). IfSome o P) (sym closed) tt in
-      let knows : Knows host memory t → Knows host next m = λ known. record { nothing = λ free read. nothing (known.nothing none clean); opened = empty (λ n. IsOpened (site_of host) n m); unused = freed next same_up (λ drive block unused. unused.plain) known } in
+  pub unmade : (next : Memory) → next.up ≡ memory.up → memory.begun < next.begun → next.opened ≡ None → (HasNoTable host.drives (key_of host) t → HasNoTable host.drives (key_of host) m)
+      → ((all : List Database) → IsCreation host.drives all (key_of host) identity lines count blocks t → IsUnmadeIn host.drives (now all) (key_of host) identity m)
+      → CarriedTo host (ToMake (key_of host) lines count blocks) memory (Said (outcome.Refused IoFault)) next t m
+  unmade next same_up begun closed nothing goes =
+      let empty : (P : Opened → Type 0) → IfSome next.opened P = λ P. subst (λ (x : Option Opened). IfSome x P) (sym closed) tt in
+      let knows : Knows host memory t → Knows host next m = λ known. record { nothing = λ free read. nothing (known.nothing none clean); opened = empty (λ o. (o.key ≡ key_of host) × IsOpenedAt host.drives o m); unused = freed next same_up known } in
       record {
         done = [];
         acks = refl;
-        goes = λ h known. making (λ lg. is_firm lg ≡ false) (λ es g. IsKnown host next g m) goes h known (λ es g there up after. record {
-          stands = there;
-          up = up ∙ sym same_up;
-          newest = empty (λ n. IsNewestIn n (log_of g.databases (key_of host)));
-          woken = empty (λ n. AreWoken (site_of host) n.table (is_up next) g (key_of host));
-          knows = knows known.knows;
-        });
+        goes = λ h known.
+            (let done = goes h.databases (may h known) in
+            making (λ lg. lg.family ≡ []) (λ es g. IsKnown host next g m) h known done.goes (λ es g there up databases. record {
+              stands = there;
+              its = own_begun host memory.begun h known.its done.goes.es next.begun g begun databases;
+              up = up ∙ sym same_up;
+              is_open = empty (λ o. IsOpenIn host.drives o g.databases m);
+              woken = empty (λ o. AreWoken host.drives o.table (is_up next) g (key_of host));
+              knows = knows known.knows;
+            }));
         knows = knows;
       }
 
   -- whether it is there isn't known
-  pub made_or_lost : (active listed : ℕ) (next : Memory) → Makes host memory Anything t m → CarriedTo host (ToMake (key_of host) blocks) memory (Over (ended.Lost active listed)) next t m
-  made_or_lost active listed next goes = record { done = []; acks = refl; goes = λ h known. making Anything (λ es g. IsKnownAfter host [] (Over (ended.Lost active listed)) next g m) goes h known (λ es g there up is. tt); knows = λ known. tt }
+  pub made_or_lost : (active listed : ℕ) (next : Memory) → ((all : List Database) → IsCreation host.drives all (key_of host) identity lines count blocks t → GoOn host.drives (now all) (key_of host) identity [] AnyLog m)
+      → CarriedTo host (ToMake (key_of host) lines count blocks) memory (Over (ended.Lost active listed)) next t m
+  made_or_lost active listed next goes = record {
+    done = [];
+    acks = refl;
+    goes = λ h known. making AnyLog (λ es g. IsKnownAfter host [] (Over (ended.Lost active listed)) next g m) h known (goes h.databases (may h known)) (λ es g there up databases. tt);
+    knows = λ known. tt;
+  }

@@ -1,5 +1,5 @@
 -- The texts of replies: which refusals are plain, and that of each text one line answers.
-use Rattle.std.proofs.Common.{◌≡◌, ◌⊎◌, ⊎_elim, inl, inr, ℕ, zero, suc, ◌≤◌, ◌<◌, Bool, true, false, ◌&&◌, ◌||◌, if◌then◌else◌, not, List, [], ◌∷◌, ◌++◌, ◌+◌, length, take, Option, Some, None, All, refl, sym, ◌∙◌, ap, subst, append_assoc, length-append, arith}
+use Rattle.std.proofs.Common.{◌≡◌, ◌⊎◌, ⊎_elim, inl, inr, ℕ, zero, suc, ◌≤◌, ◌<◌, Bool, true, false, ◌&&◌, ◌||◌, if◌then◌else◌, not, List, [], ◌∷◌, ◌++◌, ◌+◌, ◌*◌, length, take, Option, Some, None, All, refl, sym, ◌∙◌, ap, subst, append_assoc, length-append, arith}
 use Rattle.std.proofs.Math.Bool.{or-true}
 use Rattle.std.proofs.lemmas.List.{append-nil, length-take, take_all, take-append-le, take_min}
 use Rattle.std.proofs.lemmas.List.Elements.{All-append, All-nil, All-cons}
@@ -8,7 +8,7 @@ use Rattle.std.specs.List.{find, list_any}
 use Rattle.std.specs.Option.{is_none}
 use Rattle.std.specs.Prelude.{is_some, nat_lt}
 use Rattle.std.specs.Fmt.{digits, decimal}
-use Rattle.mdv_engine_law.specs.Below.{refusal_text, SliceName, VolId, Refusal, BadLine, NoDatabase, NeedForce, NoSuchVolume, NoSuchPool, Named, NameTaken, NoSuchSlice, SliceInUse, TooSmall, TooMany, WrongKind, WrongState, ReplicaFull, OutOfRange, IoFault, OutOfMemory, LineTooLong, Down, Change, Newest, Command, Create, Print, Read, Write, Volume, lacks, one_reply, refused, replies_in, said_in, unsaid, with_reply, Deed, MakeStripe}
+use Rattle.mdv_engine_law.specs.Below.{refusal_text, SliceName, VolId, Refusal, BadLine, NoDatabase, NeedForce, NoSuchVolume, NoSuchPool, Named, NameTaken, NoSuchSlice, SliceInUse, TooSmall, TooMany, WrongKind, WrongState, ReplicaFull, OutOfRange, IoFault, OutOfMemory, LineTooLong, Down, Change, Opened, Command, Create, Print, Read, Write, Volume, lacks, one_reply, refused, replies_in, said_in, unsaid, with_reply, Deed, MakeStripe}
 use Rattle.mdv_base.specs.Order.{order, where_so}
 use Rattle.mdv_base.proofs.Order.{first_holds}
 use Rattle.mdv_status.specs.Telling.{Said as SaidBytes}
@@ -22,8 +22,9 @@ use Rattle.mdv_engine_law.specs.declared.answer.Ended.TheVariants as ended
 use Rattle.mdv_engine_law.specs.declared.answer.Outcome.TheVariants as outcome
 use Rattle.mdv_engine_law.specs.declared.host.Host.{Host}
 use Rattle.mdv_engine_law.specs.Line.{Ask, Nothing, ToBoot, ToDo, ToMake, ToSee, deeds, record_room}
-use Rattle.mdv_engine_law.specs.Refusals.{Case, bytes_after, held, held_of_blocks, held_of_change, held_of_print, held_of_read, held_past, names_no_volume, names_pool, has_number, is_plain, refusal_of, size_of}
+use Rattle.mdv_engine_law.specs.Refusals.{Case, bytes_after, held, held_of_blocks, held_of_change, held_of_more, held_of_print, held_of_read, held_of_replicas, held_past, names_no_volume, names_pool, has_number, is_doubled, is_missing, is_plain, is_short, is_taken, places_open, refusal_of, size_of}
 use Rattle.mdv_name.specs.SliceIndex.{slice_at}
+use Rattle.mdv_table.specs.Below.{meets_db}
 use Rattle.mdv_table.specs.Change as table
 use Rattle.mdv_table.specs.Change.{is_db}
 use Rattle.mdv_table.specs.Plan.{is_in_use, used_slices}
@@ -69,20 +70,23 @@ where_plain : (holds : Bool) (r : Refusal) → IsPlain r → All IsPlain (where_
 where_plain true r plain = All-cons IsPlain r [] plain (All-nil IsPlain)
 where_plain false r plain = All-nil IsPlain
 
--- those of a creation
-module _ (gone plain unread unforced used small : Bool) where
+-- those of replicas on slices
+module _ (gone plain unread many unforced used small : Bool) where
   abbrev from_used : List Refusal
   from_used = where_so used SliceInUse ++ where_so small TooSmall
 
-  abbrev from_unread : List Refusal
-  from_unread = where_so unread (WrongState Down) ++ (where_so unforced NeedForce ++ from_used)
+  abbrev from_many : List Refusal
+  from_many = where_so many TooMany ++ (where_so unforced NeedForce ++ from_used)
 
-  creation_plain : All IsPlain (where_so gone NoSuchSlice ++ (where_so plain WrongKind ++ from_unread))
+  abbrev from_unread : List Refusal
+  from_unread = where_so unread (WrongState Down) ++ from_many
+
+  replicas_plain : All IsPlain (where_so gone NoSuchSlice ++ (where_so plain WrongKind ++ from_unread))
   unfolding digits
-  creation_plain =
+  replicas_plain =
       and_plain gone NoSuchSlice (where_so plain WrongKind ++ from_unread) (plainly NoSuchSlice refl refl) (and_plain plain WrongKind from_unread (plainly WrongKind refl refl)
-      (and_plain unread (WrongState Down) (where_so unforced NeedForce ++ from_used) (plainly (WrongState Down) refl refl) (and_plain unforced NeedForce from_used (plainly NeedForce refl refl)
-      (and_plain used SliceInUse (where_so small TooSmall) (plainly SliceInUse refl refl) (where_plain small TooSmall (plainly TooSmall refl refl))))))
+      (and_plain unread (WrongState Down) from_many (plainly (WrongState Down) refl refl) (and_plain many TooMany (where_so unforced NeedForce ++ from_used) too_many_plain (and_plain unforced NeedForce from_used (plainly NeedForce refl refl)
+      (and_plain used SliceInUse (where_so small TooSmall) (plainly SliceInUse refl refl) (where_plain small TooSmall (plainly TooSmall refl refl)))))))
 
 -- those of a stripe, by its table
 module _ (gone taken db used : Bool) where
@@ -99,16 +103,21 @@ module _ (gone taken db used : Bool) where
 one_plain : (r : Refusal) → IsPlain r → All IsPlain (r ∷ [])
 one_plain r plain = All-cons IsPlain r [] plain (All-nil IsPlain)
 
+more_plain : (opened : Option Opened) (held : List Refusal) → All IsPlain held → All IsPlain (held_of_more opened held)
+more_plain None held plain = plain
+more_plain (Some o) [] plain = one_plain BadLine bad_line_plain
+more_plain (Some o) (r ∷ held) plain = plain
+
 no_database_plain : All IsPlain (NoDatabase ∷ [])
 unfolding digits
 no_database_plain = one_plain NoDatabase (plainly NoDatabase refl refl)
 
-change_plain : (host : Host) (opened : Option Newest) (volume : VolId) (slice : SliceName) → All IsPlain (held_of_change host opened (MakeStripe volume slice))
+change_plain : (host : Host) (opened : Option Opened) (volume : VolId) (slice : SliceName) → All IsPlain (held_of_change host opened (MakeStripe volume slice))
 change_plain host None volume slice = no_database_plain
 change_plain host (Some newest) volume slice =
     let change : Change = MakeStripe volume slice in
     All-append IsPlain (table.held host.drives newest.table.plan change) (where_so (nat_lt (record_room newest) (bytes_after host newest change)) (ReplicaFull (bytes_after host newest change) (record_room newest)))
-    (stripe_plain (is_none (slice_at host.drives.slices slice)) (has_volume newest.table.plan.volumes volume) (is_db (slice_at host.drives.slices slice)) (is_in_use host.drives.slices (used_slices newest.table.plan) slice))
+    (stripe_plain (is_none (slice_at host.drives.slices slice)) (has_volume newest.table.plan.volumes volume) (is_db (slice_at host.drives.slices slice)) (is_in_use host.drives.slices (used_slices newest.table.plan) slice || meets_db host.drives slice))
     (where_plain (nat_lt (record_room newest) (bytes_after host newest change)) (ReplicaFull (bytes_after host newest change) (record_room newest)) (numbers_plain (bytes_after host newest change) (record_room newest)))
 
 past_plain : (volume : Option Volume) (end : ℕ) → All IsPlain (held_past volume end)
@@ -116,16 +125,16 @@ unfolding digits
 past_plain None end = one_plain NoSuchVolume (plainly NoSuchVolume refl refl)
 past_plain (Some volume) end = where_plain (nat_lt (size_of volume.kind) end) OutOfRange (plainly OutOfRange refl refl)
 
-pub blocks_plain : (opened : Option Newest) (volume : VolId) (end : ℕ) → All IsPlain (held_of_blocks opened volume end)
+pub blocks_plain : (opened : Option Opened) (volume : VolId) (end : ℕ) → All IsPlain (held_of_blocks opened volume end)
 blocks_plain None volume end = no_database_plain
 blocks_plain (Some newest) volume end = past_plain (find (has_number volume) newest.table.plan.volumes) end
 
-read_plain : (opened : Option Newest) (volume : VolId) (at count : ℕ) → All IsPlain (held_of_read opened volume at count)
+read_plain : (opened : Option Opened) (volume : VolId) (at count : ℕ) → All IsPlain (held_of_read opened volume at count)
 unfolding digits
 read_plain opened volume at count =
     All-append IsPlain (held_of_blocks opened volume (at + count)) (where_so (nat_lt 1024 count) TooMany) (blocks_plain opened volume (at + count)) (where_plain (nat_lt 1024 count) TooMany (plainly TooMany refl refl))
 
-print_plain : (opened : Option Newest) (names : List Named) → All IsPlain (held_of_print opened names)
+print_plain : (opened : Option Opened) (names : List Named) → All IsPlain (held_of_print opened names)
 unfolding digits
 print_plain None names = no_database_plain
 print_plain (Some newest) names =
@@ -133,10 +142,11 @@ print_plain (Some newest) names =
     All-append IsPlain (where_so missing NoSuchVolume) (where_so (list_any names_pool names) NoSuchPool) (where_plain missing NoSuchVolume (plainly NoSuchVolume refl refl)) (where_plain (list_any names_pool names) NoSuchPool (plainly NoSuchPool refl refl))
 
 held_plain : (case : Case) (command : Command) → All IsPlain (held case command)
-held_plain case (Create slice force blocks) =
-    let at = slice_at case.host.drives.slices slice in
+held_plain case (Create slices force count blocks) =
     let opened = is_some case.memory.opened in
-    creation_plain (not (is_some at)) (is_plain at) (not case.memory.clean) (not opened && not force) opened (nat_lt case.host.home.blocks (16 + blocks))
+    more_plain case.memory.opened (held_of_replicas case slices force count blocks)
+    (replicas_plain (list_any (is_missing case.host) slices) (list_any (λ slice. is_plain (slice_at case.host.drives.slices slice)) slices) (not opened && not case.memory.clean) (nat_lt 50 (length (places_open case.memory.opened) + length slices * count))
+    (not opened && not force) (list_any (is_taken case) slices || is_doubled slices) (list_any (is_short case.host count blocks) slices))
 held_plain case (command.MakeStripe volume slice) = change_plain case.host case.memory.opened volume slice
 held_plain case (Read volume at count) = read_plain case.memory.opened volume at count
 held_plain case (Write volume at block) = blocks_plain case.memory.opened volume (at + 1)
@@ -238,7 +248,7 @@ module _ (ask : Ask) where
     by : (a : Ask) → AcksFront a bytes []
     by Nothing = refl
     by ToBoot = refl
-    by (ToMake key blocks) = refl
+    by (ToMake key lines count blocks) = refl
     by (ToDo deed) = refl
     by (ToSee key volume at count) = inl (is, refl)
 
@@ -267,7 +277,7 @@ module _ (ask : Ask) where
     by : (a : Ask) → AcksBy a (refusal_line r) []
     by Nothing = refl
     by ToBoot = refl
-    by (ToMake key blocks) = refl
+    by (ToMake key lines count blocks) = refl
     by (ToDo deed) = refl
     by (ToSee key volume at count) = inl ((r, refl), refl)
 
@@ -280,6 +290,8 @@ module _ (ask : Ask) where
   issued_asked (Over (ended.Lost active listed)) = part_itself (deeds ask)
   issued_asked (Over ended.Spent) = tt
   issued_asked (Over ended.Memory) = tt
+  issued_asked (Over (ended.NoQuorum readable needed)) = tt
+  issued_asked (Over (ended.TwoDatabases a b)) = tt
 
   -- and no more than its reply says
   let_refusal : (r : Refusal) → IsPart (issued_by ask (Said (outcome.Refused r))) (issuable ask (refusal_line r))
@@ -351,7 +363,7 @@ module _ (ask : Ask) where
     by : (a : Ask) → AcksBy a reply done → (told : List Deed) × AcksFront a (b ∷ bytes) told × TellsAll answer done told
     by Nothing acks = ([], refl, inl refl)
     by ToBoot acks = ([], refl, inl refl)
-    by (ToMake key blocks) acks = ([], refl, inl refl)
+    by (ToMake key lines count blocks) acks = ([], refl, inl refl)
     by (ToDo deed) acks = ([], refl, inl refl)
     by (ToSee key volume at count) (inl (refusal, none)) = ([], inl ((refusal.0, size, is ∙ ap (take size) refusal.1), refl), inl refl)
     by (ToSee key volume at count) (inr tells) = (done, inr (record { some = λ empty. absurd (cc (empty)); reply = reply; size = size; front = is; tells = tells }), inr (on, refl))

@@ -2,7 +2,12 @@
 use Rattle.std.proofs.Common.{◌≡◌, inl, inr, ◌+◌, ◌<◌, ◌≤◌, ℕ, false, List, [], ◌∷◌, length, refl, sym, ◌∙◌, ap, subst, arith}
 use Rattle.std.proofs.lemmas.Bool.Decides.{nat_tests}
 use Rattle.std.proofs.lemmas.List.FromFn.{length-map-range_with_len, get_or-map-range_with_len}
-use Rattle.mdv_engine_law.specs.Below.{Answers, AreApart, AreWoken, Deed, DriveBlock, Drives, Event, Flushes, HasRange, IsThere, Site, Version, History, IoFault, Issues, IsMapOf, IsNewestIn, IsOpened, IsSettled, IsTableAt, Key, Map, Newest, OfVolume, Reads, Saw, Settling, Table, Tale, VolId, Wrote, area_of_map, history_after, history_after_all, log_of, range, run_map, values_reply, with_blocks}
+use Rattle.mdv_engine_law.specs.Below.{Answers, AreWoken, Deed, DriveBlock, Drives, Event, Flushes, HasRange, IsThere, Version, History, IoFault, Issues, IsMapOf, IsOpenIn, IsOpenedAt, IsSettled, Key, Map, OfVolume, Opened, Reads, Saw, Settling, Table, Tale, VolId, Wrote, area_of_map, history_after, history_after_all, log_of, range, run_map, values_reply}
+use Rattle.mdv_databases.proofs.Lasting.{open_elsewhere, opened_elsewhere}
+use Rattle.mdv_databases.specs.Lasting.{IsElsewhere}
+use Rattle.mdv_store.specs.Commit.{IsNewestWritten}
+use Rattle.mdv_table.specs.Table.{IsOfGeometry}
+use Rattle.mdv_volumes.specs.Databases.{Database}
 use Rattle.mdv_map.specs.Requests.{AllOnDisk, AllRead, Rewriting}
 use Rattle.mdv_map.proofs.Covering.{runs_lie}
 use Rattle.mdv_shelf.specs.Calls.{Shows}
@@ -18,14 +23,14 @@ use Rattle.mdv_engine_law.specs.Awake.{AreFound, is_in}
 use Rattle.mdv_engine_law.specs.declared.answer.Answer.TheVariants.{Said}
 use Rattle.mdv_engine_law.specs.declared.answer.Outcome.TheVariants as outcome
 use Rattle.mdv_engine_law.specs.declared.host.Host.{Host}
-use Rattle.mdv_engine_law.specs.Home.{IsReady, StaysHome, key_of, site_of, sites_of}
+use Rattle.mdv_engine_law.specs.Hosts.{IsReady, StaysHome, key_of}
 use Rattle.mdv_engine_law.specs.Line.{Memory, ToDo, ToSee, AreBlocksAt, blocks_of, contents}
 use Rattle.mdv_engine_law.specs.Standing.{Goes, IsUnused, StandsAt, Reached, Knows, IsKnown, IsKnownAfter, CarryMoment, CarriedTo, is_up}
-use Rattle.mdv_engine_law.proofs.Beside.{IsPlain, of_home, on_plain, replica_within, opened_beside, table_opened}
+use Rattle.mdv_engine_law.proofs.Beside.{IsPlain, lies_plain, run_beside}
 use Rattle.mdv_engine_law.proofs.Going.{happened, happened_stands}
-use Rattle.mdv_engine_law.proofs.Knowing.{known_on, newest_same, some_more}
-use Rattle.mdv_engine_law.proofs.Refusing.{IsFree, opened_has, knows_opened}
-use Rattle.mdv_engine_law.proofs.Sites.{only_site, own_site, plain_sites}
+use Rattle.mdv_engine_law.proofs.Knowing.{known_on, some_more}
+use Rattle.mdv_engine_law.proofs.Owning.{own_still}
+use Rattle.mdv_engine_law.proofs.Refusing.{IsFree, known_newest, knows_its, opened_has, knows_opened}
 use Rattle.mdv_engine_law.proofs.Writing.{put_by}
 use Rattle.mdv_shelf.proofs.Blocks.{both_ways}
 
@@ -38,63 +43,61 @@ count_kept h key volume e keeps other beside = elim (both_ways (is_volume key vo
 
 -- blocks of a volume of the open database
 module _ (host : Host) (sizes : List ℕ) (ready : IsReady host sizes) (memory : Memory) (volume : VolId) (at count : ℕ) (place : DriveBlock) (some : 0 < count) (there : AreBlocksAt host memory volume at count place) where
-  abbrev newest : Newest
+  abbrev newest : Opened
   newest = there.lies.0
 
   abbrev map : Map
   map = run_map place.drive there.first there.blocks
 
-  is_opened : (t : Tale) → Knows host memory t → IsOpened (site_of host) newest t
-  is_opened t knows = opened_has memory newest (λ n. IsOpened (site_of host) n t) there.lies.1 knows.opened
+  is_opened : (t : Tale) → Knows host memory t → IsOpenedAt host.drives newest t
+  is_opened t knows = (knows_its host memory newest there.lies.1 t knows).1
 
   -- they are all of them on a slice that isn't set aside for replicas, where the table is one of the table of drives
-  pub plain_listed : IsTableAt host.drives (with_blocks (site_of host).at newest.blocks).place newest.table → IsPlain host place.drive there.first there.blocks
-  plain_listed listed = on_plain host sizes ready newest listed volume place.drive there.first there.blocks there.lies.2
+  pub plain_listed : IsOfGeometry host.drives newest.table → IsPlain host place.drive there.first there.blocks
+  plain_listed listed = lies_plain host ready.sound newest.table listed volume place.drive there.first there.blocks there.lies.2
 
   -- and where the database is open
   pub plain_blocks : (t : Tale) → Knows host memory t → IsPlain host place.drive there.first there.blocks
-  plain_blocks t knows = plain_listed (table_opened host sizes ready newest t (is_opened t knows))
+  plain_blocks t knows = plain_listed (is_opened t knows).of_geometry
 
-  apart_from : (t : Tale) (size : ℕ) → Knows host memory t → 16 + size ≤ host.home.blocks → AreApart (range place.drive place.block count) (range host.home.drive.0 (host.home.start + 16) size)
-  apart_from t size knows room =
+  -- so no boot looks there for replicas
+  pub blocks_beside : (t : Tale) → Knows host memory t → IsElsewhere host.drives (range place.drive place.block count)
+  blocks_beside t knows =
       let from : there.first ≤ place.block = (let is = there.block_is in omega arith) in
       let to : place.block + count ≤ there.first + there.blocks = (let is = there.block_is in let within = there.within in omega arith) in
-      of_home host sizes ready place.drive there.first there.blocks (plain_blocks t knows) place.block count size from to room
+      run_beside host ready.sound place.drive there.first there.blocks (plain_blocks t knows) place.block count from to
 
   -- the history has them
-  pub has_range : (h : History) (t : Tale) → IsKnown host memory h t → HasRange (sites_of host) h.databases (key_of host) volume at count
+  pub has_range : (h : History) (t : Tale) → IsKnown host memory h t → HasRange host.drives h.databases (key_of host) volume at count
   has_range h t known =
-      let is : IsNewestIn newest (log_of h.databases (key_of host)) = opened_has memory newest (λ n. IsNewestIn n (log_of h.databases (key_of host))) there.lies.1 known.newest in
+      let is : IsNewestWritten (log_of h.databases (key_of host)) newest.mark newest.table = known_newest host memory newest there.lies.1 t h known in
       record {
         map = map;
         there = record {
-          site = site_of host;
-          is_site = own_site host;
-          newest = is.version;
-          older = is.older;
-          family = is.family;
+          newest = is.newest.version;
+          older = is.newest.older;
+          family = is.newest.family;
           written = is.written;
-          map = subst (λ (table : Table). IsMapOf host.drives table volume map) (sym is.table) there.lies.2;
+          map = subst (λ (table : Table). IsMapOf host.drives table volume map) (sym is.newest.same) there.lies.2;
         };
         some = some;
         within = there.within;
       }
 
   -- the history has no other map of the volume
-  map_is : (h : History) (t : Tale) → IsKnown host memory h t → (v : Map) → IsThere (sites_of host) h.databases (key_of host) volume v → v ≡ map
+  map_is : (h : History) (t : Tale) → IsKnown host memory h t → (v : Map) → IsThere host.drives h.databases (key_of host) volume v → v ≡ map
   map_is h t known v is =
-      let newest_is : IsNewestIn newest (log_of h.databases (key_of host)) = opened_has memory newest (λ n. IsNewestIn n (log_of h.databases (key_of host))) there.lies.1 known.newest in
-      let families : is.newest ∷ is.older ≡ newest_is.version ∷ newest_is.older = sym is.family ∙ newest_is.family in
-      let version : is.newest ≡ newest_is.version = cc (families) in
-      let table : is.newest.table ≡ newest.table = ap (λ (w : Version). w.table) version ∙ newest_is.table in
-      let lies : IsMapOf host.drives is.newest.table volume v = subst (λ (s : Site). IsMapOf s.drives is.newest.table volume v) (only_site host is.site is.is_site) is.map in
-      let placed = table_opened host sizes ready newest t (is_opened t known.knows) in
-      (tables_lie.laid (sites_of host) host.drives newest.table ready.sound (plain_sites host sizes ready) placed.of_geometry).one volume v map (subst (λ (x : Table). IsMapOf host.drives x volume v) table lies) there.lies.2
+      let newest_is : IsNewestWritten (log_of h.databases (key_of host)) newest.mark newest.table = known_newest host memory newest there.lies.1 t h known in
+      let families : is.newest ∷ is.older ≡ newest_is.newest.version ∷ newest_is.newest.older = sym is.family ∙ newest_is.newest.family in
+      let version : is.newest ≡ newest_is.newest.version = cc (families) in
+      let table : is.newest.table ≡ newest.table = ap (λ (w : Version). w.table) version ∙ newest_is.newest.same in
+      let placed = is_opened t known.knows in
+      (tables_lie.laid host.drives newest.table ready.sound placed.of_geometry).one volume v map (subst (λ (x : Table). IsMapOf host.drives x volume v) table is.map) there.lies.2
 
   -- and one value of each was found, where the last boot brought its drive up
-  pub are_found : (h : History) (t : Tale) → IsKnown host memory h t → AreFound (sites_of host) h (key_of host) volume at count
+  pub are_found : (h : History) (t : Tale) → IsKnown host memory h t → AreFound host.drives h (key_of host) volume at count
   are_found h t known v is upon =
-      let woken : AreWoken (site_of host) newest.table (is_up memory) h (key_of host) = opened_has memory newest (λ n. AreWoken (site_of host) n.table (is_up memory) h (key_of host)) there.lies.1 known.woken in
+      let woken : AreWoken host.drives newest.table (is_up memory) h (key_of host) = opened_has memory newest (λ n. AreWoken host.drives n.table (is_up memory) h (key_of host)) there.lies.1 known.woken in
       let on : IsUpon (is_up memory) map = subst (λ (w : Map). IsUpon (is_up memory) w) (map_is h t known v is) (subst (λ (up : Drives). IsUpon (is_in up) v) known.up upon) in
       let all : h.woken (key_of host) volume ≡ there.blocks = woken volume map there.lies.2 on in
       let within = there.within in omega (arith, all, within)
@@ -106,12 +109,12 @@ module _ (host : Host) (sizes : List ℕ) (ready : IsReady host sizes) (memory :
     done = Saw (key_of host) volume at blocks ∷ [];
     acks = inr (record { blocks = blocks; counted = counted; told = is; seen = refl });
     goes = λ h known.
-        (let read = reads_go (sites_of host) h (key_of host) volume at blocks t (range_of h known) known.stands (runs_stand.copies place.drive there.first there.blocks at (length blocks)) (runs_stand.read place.drive there.first there.blocks at blocks t shown) in
+        (let read = reads_go host.drives h (key_of host) volume at blocks t (range_of h known) known.stands (runs_stand.copies place.drive there.first there.blocks at (length blocks)) (runs_stand.read place.drive there.first there.blocks at blocks t shown) in
         let event : Event = Reads (key_of host) volume at blocks in
         let stands = happened_stands host [] [] [] t h (event ∷ []) read.happens (tt, tt) in
         happened host [] [] [] t h (event ∷ []) read.happens (tt, tt) (λ es g. IsKnownAfter host (Saw (key_of host) volume at blocks ∷ []) (Said (outcome.Values text)) memory g t)
-        (subst (λ (n : ℕ). AreFound (sites_of host) h (key_of host) volume at n) (sym counted) (are_found h t known), tt) tt (
-          known_on host memory h (history_after h event) t stands refl refl (λ other. refl) known,
+        (subst (λ (n : ℕ). AreFound host.drives h (key_of host) volume at n) (sym counted) (are_found h t known), tt) tt (
+          known_on host memory h (history_after h event) t stands (own_still host memory.begun h known.its memory.begun (history_after h event) (omega arith) refl) (λ o is_open. is_open) refl (λ other. refl) known,
           read.untold,
         ));
     knows = λ knows. knows;
@@ -123,8 +126,8 @@ module _ (host : Host) (sizes : List ℕ) (ready : IsReady host sizes) (memory :
       counted : length blocks ≡ count
       counted = length-map-range_with_len (contents t place.drive) place.block count
 
-      range_of : (h : History) → IsKnown host memory h t → HasRange (sites_of host) h.databases (key_of host) volume at (length blocks)
-      range_of h known = subst (λ (n : ℕ). HasRange (sites_of host) h.databases (key_of host) volume at n) (sym counted) (has_range h t known)
+      range_of : (h : History) → IsKnown host memory h t → HasRange host.drives h.databases (key_of host) volume at (length blocks)
+      range_of h known = subst (λ (n : ℕ). HasRange host.drives h.databases (key_of host) volume at n) (sym counted) (has_range h t known)
 
       shown : Shows t place.drive (there.first + at) blocks
       shown k lt =
@@ -158,29 +161,32 @@ module _ (host : Host) (sizes : List ℕ) (ready : IsReady host sizes) (memory :
           within : (number block first count drive b : ℕ) → range number first count drive b ≡ false → block ≡ first + at → at + length blocks ≤ count → range number block (length blocks) drive b ≡ false
           within number block first count drive b away is fits = grind (arith, nat_tests)
 
+  elsewhere : Knows host memory t → IsElsewhere host.drives (range place.drive place.block (length blocks))
+  elsewhere knows = blocks_beside host sizes ready memory volume at (length blocks) place some there t knows
+
   -- what is known of the open database stays
   knows_written : Knows host memory t → Knows host memory m
   knows_written knows =
       let n = there.lies.0 in
-      let opened = is_opened host sizes ready memory volume at (length blocks) place some there t knows in
-      let within = replica_within host sizes ready n (table_opened host sizes ready n t opened) in
-      let apart = apart_from host sizes ready memory volume at (length blocks) place some there t n.blocks knows within in
-      knows_opened host memory n m there.lies.1 (opened_beside (site_of host) n (range place.drive place.block (length blocks)) t m apart settling.outside opened) (free_written knows.unused)
+      let its = knows_its host memory n there.lies.1 t knows in
+      knows_opened host memory n m there.lies.1 its.0 (opened_elsewhere host.drives (range place.drive place.block (length blocks)) (elsewhere knows) t m settling.outside n its.1) (free_written knows.unused)
 
   module _ (h : History) (known : IsKnown host memory h t) where
-    abbrev own : HasRange (sites_of host) h.databases (key_of host) volume at (length blocks)
+    abbrev own : HasRange host.drives h.databases (key_of host) volume at (length blocks)
     own = has_range host sizes ready memory volume at (length blocks) place some there h t known
 
-    found : AreFound (sites_of host) h (key_of host) volume at (length blocks)
+    found : AreFound host.drives h (key_of host) volume at (length blocks)
     found = are_found host sizes ready memory volume at (length blocks) place some there h t known
 
     -- what was known is known
-    still : (g : History) → StandsAt host g m → (log_of g.databases (key_of host)).family ≡ (log_of h.databases (key_of host)).family → g.up ≡ h.up → ((other : VolId) → g.woken (key_of host) other ≡ h.woken (key_of host) other) → IsKnown host memory g m
+    still : (g : History) → StandsAt host g m → g.databases ≡ h.databases → g.up ≡ h.up → ((other : VolId) → g.woken (key_of host) other ≡ h.woken (key_of host) other) → IsKnown host memory g m
     still g stands same drives counts = record {
       stands = stands;
+      its = own_still host memory.begun h known.its memory.begun g (omega arith) same;
       up = ap (λ (up : Key → Drives). up (key_of host)) drives ∙ known.up;
-      newest = some_more memory.opened (λ n. IsNewestIn n (log_of h.databases (key_of host))) (λ n. IsNewestIn n (log_of g.databases (key_of host))) (λ n is. newest_same n (log_of h.databases (key_of host)) (log_of g.databases (key_of host)) same is) known.newest;
-      woken = some_more memory.opened (λ n. AreWoken (site_of host) n.table (is_up memory) h (key_of host)) (λ n. AreWoken (site_of host) n.table (is_up memory) g (key_of host))
+      is_open = some_more memory.opened (λ o. IsOpenIn host.drives o h.databases t) (λ o. IsOpenIn host.drives o g.databases m)
+          (λ o is. subst (λ (ds : List Database). IsOpenIn host.drives o ds m) (sym same) (open_elsewhere host.drives (range place.drive place.block (length blocks)) (elsewhere known.knows) t m settling.outside o h.databases is)) known.is_open;
+      woken = some_more memory.opened (λ n. AreWoken host.drives n.table (is_up memory) h (key_of host)) (λ n. AreWoken host.drives n.table (is_up memory) g (key_of host))
           (λ n are other v lies upon. counts other ∙ are other v lies upon) known.woken;
       knows = knows_written known.knows;
     }
@@ -189,7 +195,7 @@ module _ (host : Host) (sizes : List ℕ) (ready : IsReady host sizes) (memory :
     issued_known : IsKnown host memory (history_after h (OfVolume (key_of host) volume (Issues at blocks))) m
     unfolding has_range
     issued_known =
-        let issued = writes_go.issued (sites_of host) h (key_of host) volume at blocks t m own known.stands rewriting in
+        let issued = writes_go.issued host.drives h (key_of host) volume at blocks t m own known.stands rewriting in
         let stands = happened_stands host [] (wrote ∷ []) [] m h (OfVolume (key_of host) volume (Issues at blocks) ∷ []) issued (tt, tt) in
         still (history_after h (OfVolume (key_of host) volume (Issues at blocks))) stands refl refl (λ other. count_kept h (key_of host) volume (Issues at blocks) (λ n. refl) (key_of host) other)
 
@@ -197,7 +203,7 @@ module _ (host : Host) (sizes : List ℕ) (ready : IsReady host sizes) (memory :
         → Goes host (wrote ∷ []) [] After m h
     unfolding has_range
     issued_by After then =
-        let issued = writes_go.issued (sites_of host) h (key_of host) volume at blocks t m own known.stands rewriting in
+        let issued = writes_go.issued host.drives h (key_of host) volume at blocks t m own known.stands rewriting in
         happened host (wrote ∷ []) (wrote ∷ []) [] m h (OfVolume (key_of host) volume (Issues at blocks) ∷ []) issued (tt, tt) After (found, tt) (part_itself (wrote ∷ [])) (then issued_known)
 
     -- they are on the disk
@@ -205,7 +211,7 @@ module _ (host : Host) (sizes : List ℕ) (ready : IsReady host sizes) (memory :
         → Goes host (wrote ∷ []) [] (λ es g. IsKnownAfter host (wrote ∷ []) (Said outcome.Ok) memory g m) m h
     unfolding has_range
     written_by read on =
-        let done = writes_go.done (sites_of host) h (key_of host) volume at blocks t m own known.stands rewriting read on in
+        let done = writes_go.done host.drives h (key_of host) volume at blocks t m own known.stands rewriting read on in
         let es = write_of (key_of host) volume at blocks in
         let first = history_after h (OfVolume (key_of host) volume (Issues at blocks)) in
         let second = history_after first (OfVolume (key_of host) volume (Answers at blocks)) in

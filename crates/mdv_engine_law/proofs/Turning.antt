@@ -14,7 +14,7 @@ use Rattle.mdv_engine_law.specs.declared.answer.Outcome.TheVariants as outcome
 use Rattle.mdv_engine_law.specs.declared.answer.Outcome.{Outcome}
 use Rattle.mdv_engine_law.specs.declared.answer.Reply.{Reply}
 use Rattle.mdv_engine_law.specs.declared.host.Host.{Host}
-use Rattle.mdv_engine_law.specs.Home.{key_of}
+use Rattle.mdv_engine_law.specs.Hosts.{key_of}
 use Rattle.mdv_engine_law.specs.Line.{Ask, Nothing, ToBoot, ToDo, ToMake, ToSee, deeds, Memory}
 use Rattle.mdv_engine_law.specs.Replies.{AcksAnswer, AcksBy, IsPlain, IsPlainAnswer, IsPlainOutcome, outcome_text, IsAccepted, IsReply, IsReplied, IsLost, issuable, issuable_of, issued_by, ok_line, refusal_line, text_of}
 use Rattle.mdv_engine_law.specs.Standing.{Goes, IsBare, Reached, Knows, IsKnown, CarryMoment, CarriedTo, CanTellAll, IsKnownAfter, TellMoment, TurnMoment, Turned, OnlyReplied}
@@ -41,7 +41,7 @@ of_ok key deed reply done acks has = by (bytes_eq reply ok_line) (subst (λ (l :
 pub created_by : (key : Key) (ask : Ask) (reply : List ℕ) (done : List Deed) → AcksBy ask reply done → Contains done (Created key) → Contains (deeds ask) (Created key)
 created_by key Nothing reply done acks has = absurd (never_among done (Created key) acks has)
 created_by key ToBoot reply done acks has = absurd (never_among done (Created key) acks has)
-created_by key (ToMake other blocks) reply done acks has = of_ok key (Created other) reply done acks has
+created_by key (ToMake other lines count blocks) reply done acks has = of_ok key (Created other) reply done acks has
 created_by key (ToDo deed) reply done acks has = of_ok key deed reply done acks has
 created_by key (ToSee other volume at count) reply done (inl (refused, none)) has = absurd (never_among done (Created key) none has)
 created_by key (ToSee other volume at count) reply done (inr tells) has = elim (first_or_behind (Saw other volume at tells.blocks) (Created key) [] (subst (λ (l : List Deed). Contains l (Created key)) tells.seen has)) [
@@ -204,7 +204,7 @@ pub entered_none : (host : Host) (memory : Memory) (entries : List Entry) (text 
 entered_none host memory entries text t = record {
   done = [];
   acks = refl;
-  goes = λ h known. goes_none host [] (λ es after. IsKnownAfter host [] (Said (outcome.Values text)) (record memory { entries = entries }) after t) t h known.stands (record { stands = known.stands; newest = known.newest; up = known.up; woken = known.woken; knows = still known.knows }, tt);
+  goes = λ h known. goes_none host [] (λ es after. IsKnownAfter host [] (Said (outcome.Values text)) (record memory { entries = entries }) after t) t h known.stands (record { stands = known.stands; its = known.its; is_open = known.is_open; up = known.up; woken = known.woken; knows = still known.knows }, tt);
   knows = still;
 }
   where

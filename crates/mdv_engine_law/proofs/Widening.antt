@@ -1,12 +1,23 @@
 -- What came of the calls of a stretch, told of a longer one by which no further call failed.
-use Rattle.std.proofs.Common.{◌⊎◌, inl, inr, ℕ, Bool, true, false}
+use Rattle.std.proofs.Common.{◌≡◌, ◌⊎◌, inl, inr, ℕ, Bool, true, false, List, Contains}
 use Rattle.std.specs.Bool.{MatchBool}
 use Rattle.mdv_base.proofs.Causes.{IsWithin}
-use Rattle.mdv_engine_law.specs.Below.{Drives, has_drive, Command, Create, Print, Read, Write}
+use Rattle.mdv_engine_law.specs.Below.{BootEnd, DriveNo, Drives, Identity, Key, Opened, Site, SliceLine, Table, Command, Create, Print, Read, Write}
+use Rattle.mdv_store.proofs.Passes.{left_as}
+use Rattle.mdv_store.specs.Boot.{IsEndBy, IsOnce, is_memory}
+use Rattle.mdv_store.specs.Commit as commit
+use Rattle.mdv_store.specs.Create as create
+use Rattle.mdv_store.specs.Seats.{AreLeft, drive_of}
+use Rattle.mdv_store.specs.declared.booting.BootEnd.TheVariants as end
+use Rattle.mdv_store.specs.declared.seats.Seat.{Seat}
+use Rattle.mdv_survey.specs.declared.replica.Replica.{Replica}
+use Rattle.mdv_survey.specs.declared.replica.Survey.{Survey}
 use Rattle.mdv_words.specs.declared.command.Command.TheVariants as command
+use Rattle.mdv_shelf.specs.Everywhere.{Image}
 use Rattle.mdv_shelf.specs.Failing.{AreCalm, FailedOn, Outcomes}
-use Rattle.mdv_engine_law.specs.Commands.{MayLose, blamed}
-use Rattle.mdv_engine_law.specs.Line.{AreOwnCalls, IsUpBy, Memory, home_calls}
+use Rattle.mdv_engine_law.specs.Commands.{FailedBlocks, IsLostCommit, blame_of}
+use Rattle.mdv_engine_law.specs.Line.{AreCalmBeside, IsReadOf, IsUpBy, Memory}
+use Rattle.mdv_engine_law.specs.Replies.{Blame}
 use Rattle.mdv_engine_law.specs.declared.host.Host.{Host}
 
 -- one failed on a drive of the one just where one did on that of the other
@@ -18,47 +29,101 @@ pub match_more : (b : Bool) (P Q R S : Type 0) → (P → R) → (Q → S) → M
 match_more true P Q R S one other is = one is
 match_more false P Q R S one other is = other is
 
+-- what is so by the one is so by the other, whatever a command is answered
+pub record IsBlamed (one other : Blame) : Type 0 where
+  pub done : one.done → other.done
+  pub none : one.none → other.none
+  pub some : one.some → other.some
+  pub lost : (active listed : ℕ) → one.lost active listed → other.lost active listed
+
 module _ (failed more : Outcomes) (cause : AreWithin failed more) where
   pub calm_more : AreCalm failed → AreCalm more
   calm_more calm drive = (cause drive).none (calm drive)
 
+  pub beside_more : (drives : List DriveNo) → AreCalmBeside drives failed → AreCalmBeside drives more
+  beside_more drives calm drive away = (cause drive.0).none (calm drive away)
+
   pub on_more : (drive : ℕ) → FailedOn drive failed → FailedOn drive more
   on_more drive on = record { here = (cause drive).some on.here; others = λ other differs. (cause other).none (on.others other differs) }
 
-  -- what may excuse a command
-  pub blamed_more : (host : Host) (memory : Memory) (command : Command) → IsWithin (blamed failed host memory command) (blamed more host memory command)
-  blamed_more host memory (Create slice force blocks) = record { some = on_more host.home.drive.0; none = calm_more }
-  blamed_more host memory (command.MakeStripe volume slice) = record { some = on_more host.home.drive.0; none = calm_more }
-  blamed_more host memory (Read volume at count) = record { some = λ of. record { place = of.place; there = of.there; failed = on_more of.place.drive of.failed }; none = calm_more }
-  blamed_more host memory (Write volume at block) = record { some = λ of. record { place = of.place; there = of.there; failed = on_more of.place.drive of.failed }; none = calm_more }
-  blamed_more host memory (Print names) = record { some = λ of. of; none = calm_more }
+  -- which seats are left
+  pub left_more : (Took : Replica → Replica → Type 0) (old new : List Seat) → AreLeft failed Took old new → AreLeft more Took old new
+  left_more Took old new left = left_as failed more Took Took old new (λ r has is. (cause (drive_of r)).some is) (λ r has is. (cause (drive_of r)).none is) (λ r m took. took) left
 
-  pub lose_more : (host : Host) (command : Command) → MayLose failed host command → MayLose more host command
-  lose_more host (Create slice force blocks) on = on_more host.home.drive.0 on
-  lose_more host (command.MakeStripe volume slice) on = on_more host.home.drive.0 on
-  lose_more host (Read volume at count) on = on
-  lose_more host (Write volume at block) on = on
-  lose_more host (Print names) on = on
+  -- what a creation says
+  module _ (key : Key) (identity : Identity) (lines : List SliceLine) (count blocks : ℕ) where
+    pub made_more : (o : Opened) → create.IsMade failed key identity lines count blocks o → create.IsMade more key identity lines count blocks o
+    made_more o made = record { tried = left_more _ _ _ made.tried; half = made.half; is = made.is }
+
+    pub unmade_more : create.HasFailed failed key identity lines count blocks → create.HasFailed more key identity lines count blocks
+    unmade_more is = record { drive = is.drive; one_of = is.one_of; here = (cause is.drive.0).some is.here; elsewhere = λ other differs. (cause other.0).none (is.elsewhere other differs) }
+
+    pub lost_more : (active listed : ℕ) → create.IsLost failed key identity lines count blocks active listed → create.IsLost more key identity lines count blocks active listed
+    lost_more active listed is = record { now = is.now; tried = left_more _ _ _ is.tried; few = is.few; active_is = is.active_is; listed_is = is.listed_is }
+
+  -- and a commit
+  module _ (old new : Opened) (table : Table) where
+    tried_more : commit.IsTried failed old new table → commit.IsTried more old new table
+    tried_more is = record { half = is.half; fits = is.fits; small = is.small; left = left_more _ _ _ is.left }
+
+    pub committed_more : commit.IsCommitted failed old new table → commit.IsCommitted more old new table
+    committed_more is = record { tried = tried_more is.tried; enough = is.enough; is = is.is }
+
+    pub now_more : commit.IsLostNow failed old new table → commit.IsLostNow more old new table
+    now_more is = record { tried = tried_more is.tried; few = is.few; is = is.is }
+
+  pub lost_commit_more : (old : Opened) (table : Table) (active listed : ℕ) → IsLostCommit failed old table active listed → IsLostCommit more old table active listed
+  lost_commit_more old table active listed is = record { new = is.new; calm = beside_more _ is.calm; lost = now_more old is.new table is.lost; active_is = is.active_is; listed_is = is.listed_is }
+
+  -- and a boot's end
+  pub end_more : (Wrote : List Seat → Type 0) (site : Site) (survey : Survey) (e : BootEnd) → IsEndBy failed (λ hand table. Wrote hand.seats) site survey e → IsEndBy more (λ hand table. Wrote hand.seats) site survey e
+  end_more Wrote site survey (end.Adopted o) is = record { newest = is.newest; replica = is.replica; seats = is.seats; number = is.number; drawn = is.drawn; written = is.written; left = left_more _ _ _ is.left; enough = is.enough; is = is.is }
+  end_more Wrote site survey end.Empty is = is
+  end_more Wrote site survey (end.TwoDatabases a b) is = is
+  end_more Wrote site survey (end.NoQuorum readable needed) is = is
+  end_more Wrote site survey (end.Lost active listed) is =
+      record { newest = is.newest; replica = is.replica; seats = is.seats; number = is.number; drawn = is.drawn; now = is.now; written = is.written; left = left_more _ _ _ is.left; few = is.few; active_is = is.active_is; listed_is = is.listed_is }
+  end_more Wrote site survey end.Spent is = is
+  end_more Wrote site survey end.Memory is = is
+
+  -- why a command is answered so
+  blocks_more : (host : Host) (memory : Memory) (volume : _) (at count : ℕ) → FailedBlocks failed host memory volume at count → FailedBlocks more host memory volume at count
+  blocks_more host memory volume at count of = record { place = of.place; there = of.there; failed = on_more of.place.drive of.failed }
+
+  pub blamed_more : (host : Host) (memory : Memory) (command : Command) → IsBlamed (blame_of failed host memory command) (blame_of more host memory command)
+  blamed_more host memory (Create slices force count blocks) = record { done = beside_more _; none = calm_more; some = unmade_more _ _ _ _ _; lost = λ active listed is. (lost_more _ _ _ _ _ active listed is.0, beside_more _ is.1) }
+  blamed_more host memory (command.MakeStripe volume slice) = record { done = λ is. (is.0, is.1, beside_more _ is.2); none = calm_more; some = λ is. is; lost = λ active listed is. (is.0, is.1, lost_commit_more is.0 _ active listed is.2) }
+  blamed_more host memory (Read volume at count) = record { done = calm_more; none = calm_more; some = blocks_more host memory volume at count; lost = λ active listed is. is }
+  blamed_more host memory (Write volume at block) = record { done = calm_more; none = calm_more; some = blocks_more host memory volume at 1; lost = λ active listed is. is }
+  blamed_more host memory (Print names) = record { done = calm_more; none = calm_more; some = λ is. is; lost = λ active listed is. is }
 
   -- and what a boot says of each drive
-  out_more : (drive : ℕ) → (failed drive).none ⊎ (failed drive).some → (more drive).none ⊎ (more drive).some
-  out_more drive (inl none) = inl ((cause drive).none none)
-  out_more drive (inr some) = inr ((cause drive).some some)
+  once_more : (drive : ℕ) → IsOnce (failed drive) → IsOnce (more drive)
+  once_more drive (inl none) = inl ((cause drive).none none)
+  once_more drive (inr some) = inr ((cause drive).some some)
 
-  pub own_more : (host : Host) → AreOwnCalls host failed → AreOwnCalls host more
-  own_more host own drive = (λ one_of. out_more drive.0 ((own drive).0 one_of), λ other. (cause drive.0).none ((own drive).1 other))
+  all_once : (host : Host) (e : BootEnd) → (is_memory e ≡ true) ⊎ ((drive : DriveNo) → Contains host.site.drives drive → IsOnce (failed drive.0)) → (is_memory e ≡ true) ⊎ ((drive : DriveNo) → Contains host.site.drives drive → IsOnce (more drive.0))
+  all_once host e (inl memory) = inl memory
+  all_once host e (inr once) = inr (λ drive has. once_more drive.0 (once drive has))
 
-  pub up_more : (host : Host) (up : Drives) (clean : Bool) → IsUpBy failed host up clean → IsUpBy more host up clean
-  up_more host up clean is = record {
-    own = λ drive one_of away. match_more (has_drive up drive) _ _ _ _ (cause drive.0).none (cause drive.0).some (is.own drive one_of away);
+  some_more : (host : Host) (e : BootEnd) → (is_memory e ≡ true) ⊎ ((drive : DriveNo) × Contains host.site.drives drive × (failed drive.0).some) → (is_memory e ≡ true) ⊎ ((drive : DriveNo) × Contains host.site.drives drive × (more drive.0).some)
+  some_more host e (inl memory) = inl memory
+  some_more host e (inr one) = inr (one.0, one.1, (cause one.0.0).some one.2)
+
+  pub up_more : (host : Host) (e : BootEnd) (up : Drives) (clean : Bool) → IsUpBy failed host e up clean → IsUpBy more host e up clean
+  up_more host e up clean is = record {
+    down = λ some drive one_of away. (cause drive.0).some (is.down some drive one_of away);
     others = λ drive other. ((is.others drive other).0, (cause drive.0).none (is.others drive other).1);
-    calm = match_more clean _ _ _ _ calm_more (λ on. (on.0, on.1, (cause on.0.0).some on.2)) is.calm;
+    once = all_once host e is.once;
+    calm = match_more clean _ _ _ _ (λ calm drive. (cause drive.0).none (calm drive)) (some_more host e) is.calm;
   }
 
--- a command loses its place only where a call on the database's drive failed
-pub lose_home : (calls : Outcomes) (host : Host) (command : Command) → MayLose calls host command → (home_calls host calls).some
-lose_home calls host (Create slice force blocks) on = on.here
-lose_home calls host (command.MakeStripe volume slice) on = on.here
-lose_home calls host (Read volume at count) on = absurd on
-lose_home calls host (Write volume at block) on = absurd on
-lose_home calls host (Print names) on = absurd on
+  pub read_more : (host : Host) (content : Image) (up : Drives) (survey : Survey) → IsReadOf failed host content up survey → IsReadOf more host content up survey
+  read_more host content up survey is = record {
+    calm = is.calm;
+    were_up = is.were_up;
+    failed = λ drive one_of away. (cause drive.0).some (is.failed drive one_of away);
+    survey_is = is.survey_is;
+    of = is.of;
+    none = is.none;
+  }

@@ -2,10 +2,10 @@
 use Rattle.std.proofs.Common.{inl, inr, ℕ, ◌-◌, List, [], ◌∷◌, length, slice_index_or, refl}
 use Rattle.mdv_map.proofs.Joining.{kept_is_old, old_or_new_more}
 use Rattle.mdv_shelf.proofs.Frame.{kept_outside_more, settled_still}
-use Rattle.mdv_engine_law.specs.Below.{Command, Create, DriveBlock, KeptOutside, Print, Read, Settling, Write, nowhere, area_of, range, Changed, Created, Saw, Tale, Wrote}
+use Rattle.mdv_engine_law.specs.Below.{Command, Create, DriveBlock, KeptOutside, Print, Read, Settling, Write, nowhere, site_area, range, Changed, Created, Saw, Tale, Wrote}
 use Rattle.mdv_words.specs.declared.command.Command.TheVariants.{MakeStripe}
 use Rattle.mdv_engine_law.specs.declared.host.Host.{Host}
-use Rattle.mdv_engine_law.specs.Home.{opened_area, replica_area, site_of}
+use Rattle.mdv_engine_law.specs.Hosts.{opened_area, places_area}
 use Rattle.mdv_engine_law.specs.Line.{Ask, Memory, Nothing, ToBoot, ToDo, ToMake, ToSee}
 use Rattle.mdv_engine_law.specs.Standing.{ArePutBy, LeavesDone, WritesOnly}
 
@@ -25,7 +25,7 @@ module _ (host : Host) (memory : Memory) where
   pub writes_none : (ask : Ask) (t m : Tale) → KeptOutside nowhere t m → WritesOnly host ask memory t m
   writes_none Nothing t m kept = kept
   writes_none ToBoot t m kept = λ drive block out. kept drive block refl
-  writes_none (ToMake key blocks) t m kept = λ drive block out. kept drive block refl
+  writes_none (ToMake key lines count blocks) t m kept = ((λ drive block out. kept drive block refl), λ drive block out. kept drive block refl)
   writes_none (ToDo (Created key)) t m kept = kept
   writes_none (ToDo (Changed key change)) t m kept = λ drive block out. kept drive block refl
   writes_none (ToDo (Wrote key volume at blocks)) t m kept = inl kept
@@ -34,10 +34,13 @@ module _ (host : Host) (memory : Memory) where
 
   pub writes_still : (ask : Ask) (t u m : Tale) → WritesOnly host ask memory t u → KeptOutside nowhere u m → WritesOnly host ask memory t m
   writes_still Nothing t u m none kept = kept_outside_more nowhere t u m none kept
-  writes_still ToBoot t u m writes kept = kept_outside_more (area_of (site_of host)) t u m writes (λ drive block out. kept drive block refl)
-  writes_still (ToMake key blocks) t u m writes kept = kept_outside_more (replica_area (site_of host) blocks) t u m writes (λ drive block out. kept drive block refl)
+  writes_still ToBoot t u m writes kept = kept_outside_more (site_area host.site) t u m writes (λ drive block out. kept drive block refl)
+  writes_still (ToMake key lines count blocks) t u m writes kept = (
+    kept_outside_more (site_area host.site) t u m writes.0 (λ drive block out. kept drive block refl),
+    kept_outside_more (places_area lines count blocks) t u m writes.1 (λ drive block out. kept drive block refl),
+  )
   writes_still (ToDo (Created key)) t u m none kept = kept_outside_more nowhere t u m none kept
-  writes_still (ToDo (Changed key change)) t u m writes kept = kept_outside_more (opened_area (site_of host) memory.opened) t u m writes (λ drive block out. kept drive block refl)
+  writes_still (ToDo (Changed key change)) t u m writes kept = kept_outside_more (opened_area memory.opened) t u m writes (λ drive block out. kept drive block refl)
   writes_still (ToDo (Wrote key volume at blocks)) t u m (inl none) kept = inl (kept_outside_more nowhere t u m none kept)
   writes_still (ToDo (Wrote key volume at blocks)) t u m (inr writes) kept = inr (writes.0, writes.1, put_still writes.0 blocks t m u writes.2 kept)
   writes_still (ToDo (Saw key volume at blocks)) t u m none kept = kept_outside_more nowhere t u m none kept
@@ -45,7 +48,7 @@ module _ (host : Host) (memory : Memory) where
 
   -- what a command left that was done
   pub done_still : (command : Command) (t m : Tale) → KeptOutside nowhere t m → LeavesDone host memory command t → LeavesDone host memory command m
-  done_still (Create slice force blocks) t m kept left = tt
+  done_still (Create slices force count blocks) t m kept left = tt
   done_still (MakeStripe volume slice) t m kept left = tt
   done_still (Read volume at count) t m kept left = tt
   done_still (Write volume at block) t m kept left = (left.0, left.1, settled_still left.0.drive left.0.block (block ∷ []) t m kept left.2)

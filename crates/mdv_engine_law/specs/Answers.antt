@@ -2,7 +2,8 @@
 use Rattle.std.specs.Prelude.{ℕ, List}
 use Rattle.mdv_engine_law.specs.Below.{Refusal, IoFault}
 use Rattle.mdv_engine_law.specs.declared.answer.Answer.{Answer}
-use Rattle.mdv_engine_law.specs.declared.answer.Answer.TheVariants.{Said}
+use Rattle.mdv_engine_law.specs.declared.answer.Answer.TheVariants.{Said, Over}
+use Rattle.mdv_engine_law.specs.declared.answer.Ended.TheVariants as ended
 use Rattle.mdv_engine_law.specs.declared.answer.Outcome.TheVariants as outcome
 
 -- it is done
@@ -22,3 +23,9 @@ abbrev pub IsQuiet : Answer → Type 0
 IsQuiet (Said (outcome.Refused IoFault)) = ⊥
 IsQuiet (Said (outcome.Refused refusal)) = Unit {0}
 IsQuiet other = ⊥
+
+-- a boot ended the run by what it read: too few places, or two databases
+abbrev pub EndsByReads : Answer → Type 0
+EndsByReads (Over (ended.NoQuorum readable needed)) = Unit {0}
+EndsByReads (Over (ended.TwoDatabases a b)) = Unit {0}
+EndsByReads other = ⊥

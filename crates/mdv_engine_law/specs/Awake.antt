@@ -1,40 +1,39 @@
 -- What a run's boots settle: blocks of a volume whose drives the last boot brought up are read and written only where one value of each was found since it began.
 use Rattle.std.specs.Prelude.{ℕ, ◌+◌, ◌≤◌, Bool, List, length, Contains}
-use Rattle.mdv_engine_law.specs.Below.{Acknowledges, Answers, Begins, Boots, Crashes, Creation, Drives, Event, Flushes, History, IsThere, IsUpon, Map, Sites, has_drive, Issues, Key, MayHappen, OfDatabase, OfVolume, Reads, Shows, Stops, VolId, VolumeEvent, Woke}
+use Rattle.mdv_engine_law.specs.Below.{Acknowledges, Answers, Begins, Boots, Crashes, Creation, Drives, Event, Flushes, History, IsThere, IsUpon, Map, Geometry, has_drive, Issues, Key, MayHappen, OfDatabase, OfVolume, Reads, Shows, Stops, VolId, VolumeEvent, Woke}
 use Rattle.mdv_volumes.specs.Events as lives
 use Rattle.mdv_engine_law.specs.declared.host.Host.{Host}
-use Rattle.mdv_engine_law.specs.Home.{sites_of}
 
 -- whether a drive is one of these
 abbrev pub is_in : Drives → ℕ → Bool
 is_in up drive = has_drive up (record { 0 = drive })
 
 -- of each of these blocks of the volume one value was found, where the last boot brought its drives up
-abbrev pub AreFound : Sites → History → Key → VolId → ℕ → ℕ → Type 0
-AreFound sites h key volume at count = (v : Map) → IsThere sites h.databases key volume v → IsUpon (is_in (h.up key)) v → at + count ≤ h.woken key volume
+abbrev pub AreFound : Geometry → History → Key → VolId → ℕ → ℕ → Type 0
+AreFound g h key volume at count = (v : Map) → IsThere g h.databases key volume v → IsUpon (is_in (h.up key)) v → at + count ≤ h.woken key volume
 
-abbrev pub IsAwakeOf : Sites → History → Key → VolId → VolumeEvent → Type 0
-IsAwakeOf sites h key volume (Issues at blocks) = AreFound sites h key volume at (length blocks)
-IsAwakeOf sites h key volume (Answers at blocks) = Unit {0}
-IsAwakeOf sites h key volume (Flushes at count) = Unit {0}
-IsAwakeOf sites h key volume (Begins from logs) = Unit {0}
-IsAwakeOf sites h key volume lives.Crashes = Unit {0}
-IsAwakeOf sites h key volume (Woke count content) = Unit {0}
+abbrev pub IsAwakeOf : Geometry → History → Key → VolId → VolumeEvent → Type 0
+IsAwakeOf g h key volume (Issues at blocks) = AreFound g h key volume at (length blocks)
+IsAwakeOf g h key volume (Answers at blocks) = Unit {0}
+IsAwakeOf g h key volume (Flushes at count) = Unit {0}
+IsAwakeOf g h key volume (Begins from logs) = Unit {0}
+IsAwakeOf g h key volume lives.Crashes = Unit {0}
+IsAwakeOf g h key volume (Woke count content) = Unit {0}
 
-abbrev pub IsAwakeAt : Sites → History → Event → Type 0
-IsAwakeAt sites h (Creation key identity) = Unit {0}
-IsAwakeAt sites h (OfDatabase key identity e) = Unit {0}
-IsAwakeAt sites h (OfVolume key volume e) = IsAwakeOf sites h key volume e
-IsAwakeAt sites h (Reads key volume at blocks) = AreFound sites h key volume at (length blocks)
-IsAwakeAt sites h (Acknowledges place key volume at blocks) = Unit {0}
-IsAwakeAt sites h (Shows place key volume at blocks) = Unit {0}
-IsAwakeAt sites h (Boots key up) = Unit {0}
-IsAwakeAt sites h Stops = Unit {0}
-IsAwakeAt sites h Crashes = Unit {0}
+abbrev pub IsAwakeAt : Geometry → History → Event → Type 0
+IsAwakeAt g h (Creation key identity) = Unit {0}
+IsAwakeAt g h (OfDatabase key identity e) = Unit {0}
+IsAwakeAt g h (OfVolume key volume e) = IsAwakeOf g h key volume e
+IsAwakeAt g h (Reads key volume at blocks) = AreFound g h key volume at (length blocks)
+IsAwakeAt g h (Acknowledges place key volume at blocks) = Unit {0}
+IsAwakeAt g h (Shows place key volume at blocks) = Unit {0}
+IsAwakeAt g h (Boots key up) = Unit {0}
+IsAwakeAt g h Stops = Unit {0}
+IsAwakeAt g h Crashes = Unit {0}
 
 -- when each event may happen in the lives of a host's drives
 abbrev pub Happening : Host → History → Event → Type 0
-Happening host h e = MayHappen (sites_of host) h e × IsAwakeAt (sites_of host) h e
+Happening host h e = MayHappen host.drives h e × IsAwakeAt host.drives h e
 
 -- a boot of the key that brings these drives up begins among these events
 abbrev pub HasBooted : Key → Drives → List Event → Type 0

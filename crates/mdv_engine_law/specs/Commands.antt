@@ -1,7 +1,11 @@
 -- What a command comes to, and a line.
-use Rattle.std.specs.Prelude.{◌≡◌, ◌+◌, ◌<◌, ◌≤◌, ◌^◌, ℕ, List, [], ◌∷◌, length, Some, None}
-use Rattle.mdv_engine_law.specs.Below.{DriveBlock, Failures, VolId, Refusal, BadLine, IoFault, OutOfMemory, TooMany, entries_reply, values_reply, Entry, IsTab, listing_of, printed_reply, MakeStripe, Command, Create, Read, Write, Line, Newest}
-use Rattle.mdv_store_law.specs.Standing.{IsReplicaMade}
+use Rattle.std.specs.Prelude.{◌≡◌, ◌+◌, ◌≤◌, ◌^◌, ℕ, List, [], ◌∷◌, length, Some, None}
+use Rattle.mdv_engine_law.specs.Below.{DriveBlock, VolId, Refusal, BadLine, IoFault, OutOfMemory, TooMany, entries_reply, values_reply, Entry, IsTab, listing_of, printed_reply, MakeStripe, Command, Create, Opened, Read, SliceLine, Table, Write, Line}
+use Rattle.mdv_standing.specs.Creating.{first_mark}
+use Rattle.mdv_store.specs.Commit as commit
+use Rattle.mdv_store.specs.Create as create
+use Rattle.mdv_store.specs.Create.{drives_asked}
+use Rattle.mdv_store.specs.Seats.{active_of, drives_of}
 use Rattle.mdv_tab.specs.Text.{IsFaultOf}
 use Rattle.mdv_tab.specs.declared.read.TabFault.TheVariants as fault
 use Rattle.mdv_table.specs.Change.{table_after}
@@ -14,8 +18,9 @@ use Rattle.mdv_engine_law.specs.declared.answer.Ended.TheVariants as ended
 use Rattle.mdv_engine_law.specs.declared.host.Host.{Host}
 use Rattle.mdv_engine_law.specs.Answers.{accepted, refusing, telling}
 use Rattle.mdv_shelf.specs.Failing.{AreCalm, FailedOn, Outcomes}
-use Rattle.mdv_engine_law.specs.Home.{opened_area, replica_area, site_of, identity_of}
-use Rattle.mdv_engine_law.specs.Line.{Kept, Memory, IsSameBeside, Stays, IsCreated, IsUncreated, IsUnbegun, IsCommitted, IsSame, AreBlocksAt, ArePut, MayBePut, IsRebooted, IsTurnedDown, blocks_of, on_site}
+use Rattle.mdv_engine_law.specs.Hosts.{identity_of, key_of, lines_asked, opened_area, places_area}
+use Rattle.mdv_engine_law.specs.Line.{AreCalmBeside, AreFormedOn, Kept, Memory, IsSameBeside, Stays, IsCreated, IsUncreated, IsUnbegun, IsCommitted, IsOpenOn, IsSame, AreBlocksAt, ArePut, MayBePut, IsRebooted, IsTurnedDown, blocks_of}
+use Rattle.mdv_engine_law.specs.Replies.{Blame}
 use Rattle.mdv_engine_law.specs.Refusals.{Case, IsUnopposed, refusal_of}
 
 -- by what a command is judged that is carried out where this is kept
@@ -28,16 +33,16 @@ IsAllowed case command = refusal_of case command ≡ None
 
 -- What a command leaves that is done, and what it tells: a database that was made; the table after the change; what the drive has in the
 -- volume's blocks; the block in its place; the open table, printed.
-abbrev pub Effect : Host → Kept → Command → Answer → Kept → Type 0
-Effect host kept (Create slice force blocks) answer next = (answer ≡ accepted) × IsCreated host blocks kept next
-Effect host kept (command.MakeStripe volume slice) answer next =
-    (answer ≡ accepted) × (newest : Newest) × (kept.memory.opened ≡ Some newest) × (newest.mark.count + 1 < 2 ^ 63) × IsCommitted host newest (table_after host.drives (MakeStripe volume slice) newest.table) kept next
-Effect host kept (Read volume at count) answer next =
-    (from : DriveBlock) × AreBlocksAt host kept.memory volume at count from × (answer ≡ telling (values_reply at (blocks_of kept.content from count))) × Stays kept next
-Effect host kept (Write volume at block) answer next =
-    (place : DriveBlock) × AreBlocksAt host kept.memory volume at 1 place × (answer ≡ accepted) × (next.memory ≡ kept.memory) × ArePut place (block ∷ []) kept.content next.content
-Effect host kept (command.Print names) answer next =
-    (newest : Newest) × (kept.memory.opened ≡ Some newest) × (answer ≡ telling (printed_reply (listing_of newest.table.plan names))) × Stays kept next
+abbrev pub Effect : Outcomes → Host → Kept → Command → Answer → Kept → Type 0
+Effect calls host kept (Create slices force count blocks) answer next = (answer ≡ accepted) × IsCreated calls host (lines_asked host slices) count blocks kept next
+Effect calls host kept (command.MakeStripe volume slice) answer next =
+    (answer ≡ accepted) × (o : Opened) × (kept.memory.opened ≡ Some o) × IsCommitted calls host o (table_after host.drives (MakeStripe volume slice) o.table) kept next
+Effect calls host kept (Read volume at count) answer next =
+    AreCalm calls × (from : DriveBlock) × AreBlocksAt host kept.memory volume at count from × (answer ≡ telling (values_reply at (blocks_of kept.content from count))) × Stays kept next
+Effect calls host kept (Write volume at block) answer next =
+    AreCalm calls × (place : DriveBlock) × AreBlocksAt host kept.memory volume at 1 place × (answer ≡ accepted) × (next.memory ≡ kept.memory) × ArePut place (block ∷ []) kept.content next.content
+Effect calls host kept (command.Print names) answer next =
+    AreCalm calls × (o : Opened) × (kept.memory.opened ≡ Some o) × (answer ≡ telling (printed_reply (listing_of o.table.plan names))) × Stays kept next
 
 -- the volume has these blocks, and a call on their drive failed
 pub record FailedBlocks (calls : Outcomes) (host : Host) (memory : Memory) (volume : VolId) (at count : ℕ) : Type 0 where
@@ -45,35 +50,45 @@ pub record FailedBlocks (calls : Outcomes) (host : Host) (memory : Memory) (volu
   pub there : AreBlocksAt host memory volume at count place
   pub failed : FailedOn place.drive calls
 
--- The calls that may excuse a command, whatever is known of the drives' blocks: those on the drive of the blocks that it reads or writes, none of a print, and else those on
--- the drive of the database.
-abbrev pub blamed : Outcomes → Host → Memory → Command → Failures
-blamed calls host memory (Create slice force blocks) = record { some = FailedOn host.home.drive.0 calls; none = AreCalm calls }
-blamed calls host memory (command.MakeStripe volume slice) = record { some = FailedOn host.home.drive.0 calls; none = AreCalm calls }
-blamed calls host memory (Read volume at count) = record { some = FailedBlocks calls host memory volume at count; none = AreCalm calls }
-blamed calls host memory (Write volume at block) = record { some = FailedBlocks calls host memory volume at 1; none = AreCalm calls }
-blamed calls host memory (command.Print names) = record { some = ⊥; none = AreCalm calls }
+-- places of the open database were lost, so that fewer than half of them took the table; no call failed beside their drives
+pub record IsLostCommit (calls : Outcomes) (old : Opened) (table : Table) (active listed : ℕ) : Type 0 where
+  pub new : Opened
+  pub calm : AreCalmBeside (drives_of old.seats) calls
+  pub lost : commit.IsLostNow calls old new table
+  pub active_is : active ≡ active_of new.seats
+  pub listed_is : listed ≡ length new.seats
 
--- and those behind which it may lose the place: one failed on the database's drive, where it writes there, and none of a read or a write of blocks
-abbrev pub MayLose : Outcomes → Host → Command → Type 0
-MayLose calls host (Create slice force blocks) = FailedOn host.home.drive.0 calls
-MayLose calls host (command.MakeStripe volume slice) = FailedOn host.home.drive.0 calls
-MayLose calls host (Read volume at count) = ⊥
-MayLose calls host (Write volume at block) = ⊥
-MayLose calls host (command.Print names) = ⊥
+-- Why a command is answered as it is, whatever is known of the drives' blocks: a transfer is done where no call failed, and tells one on the drive of its blocks; a creation tells one that failed in its formats, and ends the run where too few
+-- places took its table, as a change does, and neither has a call that failed on a drive beside those of its places; a print makes no call.
+abbrev pub blame_of : Outcomes → Host → Memory → Command → Blame
+blame_of calls host memory (Create slices force count blocks) = record {
+  done = AreCalmBeside (drives_asked (lines_asked host slices)) calls;
+  none = AreCalm calls;
+  some = create.HasFailed calls (key_of host) (identity_of host memory.begun) (lines_asked host slices) count blocks;
+  lost = λ active listed. create.IsLost calls (key_of host) (identity_of host memory.begun) (lines_asked host slices) count blocks active listed × AreCalmBeside (drives_asked (lines_asked host slices)) calls;
+}
+blame_of calls host memory (command.MakeStripe volume slice) = record {
+  done = (o : Opened) × (memory.opened ≡ Some o) × AreCalmBeside (drives_of o.seats) calls;
+  none = AreCalm calls;
+  some = ⊥;
+  lost = λ active listed. (o : Opened) × (memory.opened ≡ Some o) × IsLostCommit calls o (table_after host.drives (MakeStripe volume slice) o.table) active listed;
+}
+blame_of calls host memory (Read volume at count) = record { done = AreCalm calls; none = AreCalm calls; some = FailedBlocks calls host memory volume at count; lost = λ active listed. ⊥ }
+blame_of calls host memory (Write volume at block) = record { done = AreCalm calls; none = AreCalm calls; some = FailedBlocks calls host memory volume at 1; lost = λ active listed. ⊥ }
+blame_of calls host memory (command.Print names) = record { done = AreCalm calls; none = AreCalm calls; some = ⊥; lost = λ active listed. ⊥ }
 
 -- and whether it may find the number of its database's tables spent: a change alone, which draws the next
 abbrev pub MaySpend : Command → Type 0
-MaySpend (Create slice force blocks) = ⊥
+MaySpend (Create slices force count blocks) = ⊥
 MaySpend (command.MakeStripe volume slice) = Unit {0}
 MaySpend (Read volume at count) = ⊥
 MaySpend (Write volume at block) = ⊥
 MaySpend (command.Print names) = ⊥
 
--- What is left where a call on a drive failed and the line tells it: the drive of the database, or that of the blocks. A change that can't be
+-- What is left where a call on a drive failed and the line tells it: one of a creation's places, or that of the blocks. A change that can't be
 -- committed ends the run instead.
 abbrev pub Fault : Outcomes → Host → Kept → Command → Kept → Type 0
-Fault calls host kept (Create slice force blocks) next = FailedOn host.home.drive.0 calls × IsUncreated host blocks kept next
+Fault calls host kept (Create slices force count blocks) next = IsUncreated calls host (lines_asked host slices) count blocks kept next
 Fault calls host kept (command.MakeStripe volume slice) next = ⊥
 Fault calls host kept (Read volume at count) next = (place : DriveBlock) × FailedOn place.drive calls × AreBlocksAt host kept.memory volume at count place × Stays kept next
 Fault calls host kept (Write volume at block) next = (place : DriveBlock) × FailedOn place.drive calls × AreBlocksAt host kept.memory volume at 1 place × (next.memory ≡ kept.memory) × MayBePut place (block ∷ []) kept.content next.content
@@ -81,38 +96,40 @@ Fault calls host kept (command.Print names) next = ⊥
 
 -- What is left where memory was wanting. A table is judged before it is copied, and how long its record is behind that; a write takes none.
 abbrev pub Wanting : Host → Kept → Command → Kept → Type 0
-Wanting host kept (Create slice force blocks) next = IsAllowed (case_of host kept) (Create slice force blocks) × IsUnbegun kept next
+Wanting host kept (Create slices force count blocks) next = IsAllowed (case_of host kept) (Create slices force count blocks) × IsUnbegun kept next
 Wanting host kept (command.MakeStripe volume slice) next = IsUnopposed host kept.memory (MakeStripe volume slice) × Stays kept next
 Wanting host kept (Read volume at count) next = IsAllowed (case_of host kept) (Read volume at count) × Stays kept next
 Wanting host kept (Write volume at block) next = ⊥
 Wanting host kept (command.Print names) next = IsAllowed (case_of host kept) (command.Print names) × Stays kept next
 
--- the one place is lost, since a call on its drive failed
-pub record IsLostPlace (calls : Outcomes) (host : Host) (active listed : ℕ) : Type 0 where
-  pub failed : FailedOn host.home.drive.0 calls
-  pub active_is : active ≡ 0
-  pub listed_is : listed ≡ 1
+-- A creation that gives up has formatted each place, and leaves the table at those on whose drives no call failed, and each block outside its places as it was.
+pub record LeavesPlaces (calls : Outcomes) (host : Host) (lines : List SliceLine) (count blocks active listed : ℕ) (kept next : Kept) : Type 0 where
+  pub lost : create.IsLost calls (key_of host) (identity_of host kept.memory.begun) lines count blocks active listed
+  pub calm : AreCalmBeside (drives_asked lines) calls
+  pub formed : AreFormedOn host (identity_of host kept.memory.begun) lines count blocks next.content
+  pub left : IsOpenOn host.drives (record { key = key_of host; identity = identity_of host kept.memory.begun; mark = first_mark; table = create.table_of (create.seats_asked (key_of host) (identity_of host kept.memory.begun) lines count blocks); seats = lost.now }) next.content
+  pub beside : IsSameBeside (places_area lines count blocks) kept.content next.content
 
--- A creation that gives up leaves its replica there, whose format was answered, and each block outside that is as it was.
-pub record LeavesReplica (host : Host) (blocks : ℕ) (kept next : Kept) : Type 0 where
-  pub made : IsReplicaMade (site_of host) blocks (identity_of host kept.memory.begun) (on_site (site_of host) next.content)
-  pub beside : IsSameBeside (replica_area (site_of host) blocks) kept.content next.content
+-- A change that gives up leaves the table at the places of the open database on whose drives no call failed, and each block outside its active places as it was.
+pub record LeavesTable (calls : Outcomes) (host : Host) (o : Opened) (table : Table) (active listed : ℕ) (kept next : Kept) : Type 0 where
+  pub lost : IsLostCommit calls o table active listed
+  pub left : IsOpenOn host.drives (record lost.new { mark = commit.next_mark o.mark; table = table }) next.content
+  pub beside : IsSameBeside (opened_area kept.memory.opened) kept.content next.content
 
--- Why the run is over with a command: the one place is lost, whose new replica is there where a creation's format was answered, and each block outside the
--- replica, the one to be made or the one that is open, reads as it did; or the count would reach its limit, and nothing was done.
+-- Why the run is over with a command: too few places took the table, whose numbers are told, and each block outside them reads as it did; or the count would reach its limit, and nothing was done.
 abbrev pub GivesUp : Outcomes → Host → Kept → Command → Ended → Kept → Type 0
-GivesUp calls host kept (Create slice force blocks) (ended.Lost active listed) next = IsLostPlace calls host active listed × LeavesReplica host blocks kept next
+GivesUp calls host kept (Create slices force count blocks) (ended.Lost active listed) next = LeavesPlaces calls host (lines_asked host slices) count blocks active listed kept next
 GivesUp calls host kept (command.MakeStripe volume slice) (ended.Lost active listed) next =
-    IsLostPlace calls host active listed × IsSameBeside (opened_area (site_of host) kept.memory.opened) kept.content next.content
-GivesUp calls host kept (command.MakeStripe volume slice) ended.Spent next = AreCalm calls × (newest : Newest) × (kept.memory.opened ≡ Some newest) × (2 ^ 63 ≤ newest.mark.count + 1) × Stays kept next
+    (o : Opened) × (kept.memory.opened ≡ Some o) × LeavesTable calls host o (table_after host.drives (MakeStripe volume slice) o.table) active listed kept next
+GivesUp calls host kept (command.MakeStripe volume slice) ended.Spent next = AreCalm calls × (o : Opened) × (kept.memory.opened ≡ Some o) × (2 ^ 63 ≤ o.mark.count + 1) × Stays kept next
 GivesUp calls host kept command end next = ⊥
 
 -- What a command comes to, the same for all: the first cause refuses it, and nothing is done; memory is wanting; it is done; a call on the drive
--- failed; or the run is over with it. No call failed where it is refused, wanting or done.
+-- failed; or the run is over with it. No call failed where it is refused or wanting.
 pub data CameTo (calls : Outcomes) (host : Host) (kept : Kept) (command : Command) (answer : Answer) (next : Kept) : Type 0 where
   refused : AreCalm calls → (refusal : Refusal) → refusal_of (case_of host kept) command ≡ Some refusal → IsTurnedDown refusal kept answer next → CameTo calls host kept command answer next
   wanting : AreCalm calls → answer ≡ refusing OutOfMemory → Wanting host kept command next → CameTo calls host kept command answer next
-  done : AreCalm calls → IsAllowed (case_of host kept) command → Effect host kept command answer next → CameTo calls host kept command answer next
+  done : IsAllowed (case_of host kept) command → Effect calls host kept command answer next → CameTo calls host kept command answer next
   faulted : IsAllowed (case_of host kept) command → answer ≡ refusing IoFault → Fault calls host kept command next → CameTo calls host kept command answer next
   over : (end : Ended) → IsAllowed (case_of host kept) command → answer ≡ Over end → GivesUp calls host kept command end next → CameTo calls host kept command answer next
 

@@ -1,7 +1,7 @@
 pub mod Below
 pub use Rattle.mdv_base.specs.Causes
 pub mod Answers
-pub mod Home
+pub mod Hosts
 pub mod Awake
 pub mod Line
 pub mod Refusals

@@ -1,24 +1,34 @@
 -- What is kept from line to line, what a boot comes to, and what lines ask.
-use Rattle.std.specs.Prelude.{◌≡◌, ◌≢◌, ◌⊎◌, ◌+◌, ◌<◌, ◌≤◌, ◌^◌, ℕ, Bool, true, false, List, [], ◌∷◌, length, map, Option, Some, None, Contains, slice_index_or}
+use Rattle.std.specs.Prelude.{◌≡◌, ◌⊎◌, ◌+◌, ◌<◌, ◌≤◌, ℕ, Bool, true, false, List, [], ◌∷◌, length, map, Option, Some, None, Contains, slice_index_or}
 use Rattle.std.specs.Bool.{MatchBool}
 use Rattle.std.specs.List.{range_with_len}
-use Rattle.mdv_shelf.specs.Everywhere.{Image}
-use Rattle.mdv_engine_law.specs.Below.{Failures, Mark, VolId, Refusal, record_text, Head, First, Second, IsSpareSlot, greatest, other_slot, room_of, shows, with_blocks, Tale, covers, last, MakeStripe, One, Table, Entry, Command, Create, Read, Write, Line, Site, Newest, IsReplica, IsFound, HasTable, IsNewestOf, area_of, adopted_newest, next_newest, no_drives, rewritten, Key, Deed, Created, Changed, Wrote, DriveBlock, DriveNo, Drives, has_drive, IsMapOf, run_map, Area}
-use Rattle.mdv_store_law.specs.Adoptable.{IsAdoptable, IsHeaded}
+use Rattle.mdv_shelf.specs.Failing.{Outcomes}
+use Rattle.mdv_standing.specs.Laws.{ShowsNoTable}
+use Rattle.mdv_store.specs.Boot.{IsEndBy, IsOnce, is_memory}
+use Rattle.mdv_store.specs.Booting.{boot_area, has_written}
+use Rattle.mdv_store.specs.Commit as commit
+use Rattle.mdv_store.specs.Create as create
+use Rattle.mdv_store.specs.Create.{drives_asked}
+use Rattle.mdv_store.specs.Seats.{drives_of}
+use Rattle.mdv_store.specs.declared.booting.BootEnd.TheVariants as end
+use Rattle.mdv_survey.specs.Replica.{at_of}
+use Rattle.mdv_survey.specs.Survey.{IsSurvey, IsSurveyOf}
+use Rattle.mdv_survey.specs.declared.replica.Replica.{Replica}
+use Rattle.mdv_survey.specs.declared.replica.Survey.{Survey}
 use Rattle.mdv_words.specs.declared.command.Command.TheVariants as command
 use Rattle.mdv_words.specs.Line as words
+use Rattle.mdv_engine_law.specs.Below.{Area, BootEnd, Changed, Command, Create, Created, Deed, DriveBlock, DriveNo, Drives, Entry, Geometry, Head, Identity, Image, IsMapOf, IsNewestOf, IsOwn, Key, Line, MakeStripe, Opened, Read, Refusal, Seat, SliceLine, Slot, Spells, Table, Tale, VolId, Write, Wrote, covers, has_drive, last, no_drives, replicas_of, run_map, seats_area, site_of}
 use Rattle.mdv_engine_law.specs.declared.answer.Answer.{Answer}
 use Rattle.mdv_engine_law.specs.declared.answer.Answer.TheVariants.{Over}
 use Rattle.mdv_engine_law.specs.declared.answer.Ended.TheVariants as ended
 use Rattle.mdv_engine_law.specs.declared.host.Host.{Host}
 use Rattle.mdv_engine_law.specs.Answers.{accepted, refusing}
-use Rattle.mdv_shelf.specs.Failing.{AreCalm, Outcomes}
-use Rattle.mdv_engine_law.specs.Home.{key_of, replica_area, site_of, identity_of}
+use Rattle.mdv_engine_law.specs.Hosts.{identity_of, key_of, lines_asked, places_area}
 
 -- what an engine keeps in memory: the open database, which drives the last boot brought up and whether no call failed in it, how many
 -- creations the run has begun, and the entries of the last `tab` block that was kept since that boot
 pub record Memory : Type 0 where
-  pub opened : Option Newest
+  pub opened : Option Opened
   pub up : Drives
   pub clean : Bool
   pub begun : ℕ
@@ -27,10 +37,6 @@ pub record Memory : Type 0 where
 -- what a read gives of the drives' blocks
 abbrev pub contents : Tale → Image
 contents t = last t
-
--- and of those of the drive on which a database has its place
-abbrev pub on_site : Site → Image → ℕ → List ℕ
-on_site site content = content site.at.drive.0
 
 -- what is kept from line to line: in memory, and on the drives
 pub record Kept : Type 0 where
@@ -57,29 +63,41 @@ pub record Stays (kept next : Kept) : Type 0 where
   pub memory : next.memory ≡ kept.memory
   pub content : IsSame kept.content next.content
 
--- a database that was just made: the empty table alone, under the mark (1, 0), in a replica of so many blocks
-pub record IsNew (host : Host) (blocks : ℕ) (newest : Newest) : Type 0 where
-  pub sized : newest.blocks ≡ blocks
-  pub slot : newest.slot ≡ First
-  pub mark : newest.mark ≡ record { boot = 1; count = 0 }
-  pub lists : newest.table.plan.lists ≡ One ((with_blocks (site_of host).at blocks).place ∷ [])
-  pub volumes : newest.table.plan.volumes ≡ []
+-- each active place of the database has its replica there, which shows the table as its newest one under the mark
+pub record IsOpenOn (g : Geometry) (o : Opened) (content : Image) : Type 0 where
+  pub each : (r : Replica) → Contains (replicas_of o.seats) r → IsOwn (Spells g) (site_of g o.key) o.identity r.line r.number content r.first r.head
+  pub shown : (r : Replica) → Contains (replicas_of o.seats) r → (slot : Slot) × IsNewestOf (Spells g) (at_of r) (content r.line.at.drive.0) r.head slot o.mark o.table
 
--- it was made: the drive has its replica, with the identity of this creation, and each block outside that is as it was
-pub record IsCreated (host : Host) (blocks : ℕ) (kept next : Kept) : Type 0 where
-  pub newest : Newest
-  pub new : IsNew host blocks newest
-  pub memory : next.memory ≡ record kept.memory { opened = Some newest; begun = kept.memory.begun + 1 }
-  pub head : Head
-  pub identity : head.master.identity ≡ identity_of host kept.memory.begun
-  pub content : IsNewestOf (site_of host) (on_site (site_of host) next.content) head newest
-  pub beside : IsSameBeside (replica_area (site_of host) blocks) kept.content next.content
+-- no replica of the key shows a table
+abbrev pub HasNoTableOn : Geometry → Key → Image → Type 0
+HasNoTableOn g key content = (identity : Identity) → ShowsNoTable (Spells g) (site_of g key) identity content
 
--- its format failed: the drive has no replica that shows a table, and each block outside the one to be made is as it was
-pub record IsUncreated (host : Host) (blocks : ℕ) (kept next : Kept) : Type 0 where
+-- no call failed on a drive beside these
+abbrev pub AreCalmBeside : List DriveNo → Outcomes → Type 0
+AreCalmBeside drives calls = (drive : DriveNo) → (Contains drives drive → ⊥) → (calls drive.0).none
+
+-- each of the places asked has a replica of the new database, whether it took the table or not
+abbrev pub AreFormedOn : Host → Identity → List SliceLine → ℕ → ℕ → Image → Type 0
+AreFormedOn host identity lines count blocks content =
+    (r : Replica) → Contains (replicas_of (create.seats_asked (key_of host) identity lines count blocks)) r → (head : Head) × IsOwn (Spells host.drives) (site_of host.drives (key_of host)) identity r.line r.number content r.first head
+
+-- The database was made on these slices, with the identity of this creation: each of its places was formatted, at least half took the table, and those on whose drives no call failed have it; each
+-- block outside the places is as it was.
+pub record IsCreated (calls : Outcomes) (host : Host) (lines : List SliceLine) (count blocks : ℕ) (kept next : Kept) : Type 0 where
+  pub opened : Opened
+  pub made : create.IsMade calls (key_of host) (identity_of host kept.memory.begun) lines count blocks opened
+  pub calm : AreCalmBeside (drives_asked lines) calls
+  pub memory : next.memory ≡ record kept.memory { opened = Some opened; begun = kept.memory.begun + 1 }
+  pub formed : AreFormedOn host (identity_of host kept.memory.begun) lines count blocks next.content
+  pub content : IsOpenOn host.drives opened next.content
+  pub beside : IsSameBeside (places_area lines count blocks) kept.content next.content
+
+-- a call of its formats failed: no replica of the key shows a table, and each block outside the places is as it was
+pub record IsUncreated (calls : Outcomes) (host : Host) (lines : List SliceLine) (count blocks : ℕ) (kept next : Kept) : Type 0 where
+  pub failed : create.HasFailed calls (key_of host) (identity_of host kept.memory.begun) lines count blocks
   pub memory : next.memory ≡ record kept.memory { begun = kept.memory.begun + 1 }
-  pub content : IsFound (site_of host) (on_site (site_of host) next.content) None
-  pub beside : IsSameBeside (replica_area (site_of host) blocks) kept.content next.content
+  pub content : HasNoTableOn host.drives (key_of host) next.content
+  pub beside : IsSameBeside (places_area lines count blocks) kept.content next.content
 
 -- Memory was wanting, before anything was done on the drive. A creation is counted as begun nevertheless.
 pub record IsUnbegun (kept next : Kept) : Type 0 where
@@ -87,15 +105,18 @@ pub record IsUnbegun (kept next : Kept) : Type 0 where
   pub content : IsSame kept.content next.content
 
 -- how many bytes a record may have in the open database
-abbrev pub record_room : Newest → ℕ
-record_room newest = room_of newest.blocks
+abbrev pub record_room : Opened → ℕ
+record_room o = commit.room_in o.table
 
--- the next table is committed: memory and the drive have it as the newest one, under the next count, and each block outside the replica is as it was
-pub record IsCommitted (host : Host) (newest : Newest) (next_table : Table) (kept next : Kept) : Type 0 where
-  pub memory : next.memory ≡ record kept.memory { opened = Some (next_newest newest next_table) }
-  pub head : Head
-  pub content : IsNewestOf (site_of host) (on_site (site_of host) next.content) head (next_newest newest next_table)
-  pub beside : IsSameBeside (replica_area (site_of host) newest.blocks) kept.content next.content
+-- The next table is committed: at least half of the places took it, memory has it under the next count, and so has each place on whose drive no call failed; each block outside the active places
+-- is as it was.
+pub record IsCommitted (calls : Outcomes) (host : Host) (old : Opened) (table : Table) (kept next : Kept) : Type 0 where
+  pub opened : Opened
+  pub committed : commit.IsCommitted calls old opened table
+  pub calm : AreCalmBeside (drives_of old.seats) calls
+  pub memory : next.memory ≡ record kept.memory { opened = Some opened }
+  pub content : IsOpenOn host.drives opened next.content
+  pub beside : IsSameBeside (seats_area old.seats) kept.content next.content
 
 -- so many blocks of a drive, from this one on
 abbrev pub blocks_of : Image → DriveBlock → ℕ → List (List ℕ)
@@ -103,7 +124,7 @@ blocks_of content from count = map (content from.drive) (range_with_len from.blo
 
 -- the open database has the volume, on so many blocks of that drive from the first on
 abbrev pub HasVolumeOn : Host → Memory → VolId → ℕ → ℕ → ℕ → Type 0
-HasVolumeOn host memory volume drive first count = (newest : Newest) × (memory.opened ≡ Some newest) × IsMapOf host.drives newest.table volume (run_map drive first count)
+HasVolumeOn host memory volume drive first count = (o : Opened) × (memory.opened ≡ Some o) × IsMapOf host.drives o.table volume (run_map drive first count)
 
 -- the volume has these blocks, which lie on a drive from that one on
 pub record AreBlocksAt (host : Host) (memory : Memory) (volume : VolId) (at count : ℕ) (from : DriveBlock) : Type 0 where
@@ -123,77 +144,84 @@ pub record MayBePut (from : DriveBlock) (blocks : List (List ℕ)) (old new : Im
   pub here : (k : ℕ) → k < length blocks → (new from.drive (from.block + k) ≡ old from.drive (from.block + k)) ⊎ (new from.drive (from.block + k) ≡ slice_index_or blocks k [])
   pub elsewhere : (drive b : ℕ) → covers from.drive from.block (length blocks) drive b ≡ false → new drive b ≡ old drive b
 
--- A replica that a boot found, and wrote anew under one more than the greatest number there; it wrote the first slot, where either
--- might be, and no block outside the replica.
-pub record IsRewritten (site : Site) (old new : Image) (newest : Newest) : Type 0 where
-  pub head : Head
-  pub replica : IsReplica site (on_site site old) head
-  pub shown : shows head ≡ true
-  pub spare : IsSpareSlot head newest.slot
-  pub tie : newest.slot ≡ Second → IsSpareSlot head First → ⊥
-  pub mark : Mark
-  pub has : HasTable site (on_site site old) head (other_slot newest.slot) mark newest.table
-  pub is : newest ≡ adopted_newest head newest.slot newest.table
-  pub fits : greatest head + 1 < 2 ^ 63
-  pub written : IsNewestOf site (on_site site new) (rewritten head newest.slot (greatest head + 1) (length (record_text newest.table))) newest
-  pub beside : IsSameBeside (replica_area site newest.blocks) old new
-
--- a readable replica with a table, whose next number would reach the limit
-pub record IsUsedUp (site : Site) (content : Image) : Type 0 where
-  pub head : Head
-  pub replica : IsReplica site (on_site site content) head
-  pub shown : shows head ≡ true
-  pub spent : 2 ^ 63 ≤ greatest head + 1
-
--- Which drives a boot brought up, and whether no call failed in it: of the host's own drives all but those on which one failed, the place's drive aside, which may be
--- up and have failed later; and no other.
-pub record IsUpBy (calls : Outcomes) (host : Host) (up : Drives) (clean : Bool) : Type 0 where
-  pub own : (drive : DriveNo) → Contains host.own drive → drive ≢ host.home.drive → MatchBool (has_drive up drive) (calls drive.0).none (calls drive.0).some
-  pub others : (drive : DriveNo) → (Contains host.own drive → ⊥) → (has_drive up drive ≡ false) × (calls drive.0).none
-  pub calm : MatchBool clean (AreCalm calls) ((drive : DriveNo) × Contains host.own drive × (calls drive.0).some)
-
 -- what is in memory behind a boot that was answered
-abbrev pub booted_with : Option Newest → Drives → Bool → ℕ → Memory
+abbrev pub booted_with : Option Opened → Drives → Bool → ℕ → Memory
 booted_with opened up clean begun = record { opened = opened; up = up; clean = clean; begun = begun; entries = [] }
 
--- how the calls on the drive of the host's database came out
-abbrev pub home_calls : Host → Outcomes → Failures
-home_calls host calls = calls host.home.drive.0
+-- what a boot's end opens
+abbrev pub opened_by : BootEnd → Option Opened
+opened_by (end.Adopted o) = Some o
+opened_by end.Empty = None
+opened_by (end.TwoDatabases a b) = None
+opened_by (end.NoQuorum readable needed) = None
+opened_by (end.Lost active listed) = None
+opened_by end.Spent = None
+opened_by end.Memory = None
 
--- no drive is used but the host's own, and on each of these no call failed, or just one did
-abbrev pub AreOwnCalls : Host → Outcomes → Type 0
-AreOwnCalls host calls = (drive : DriveNo) → (Contains host.own drive → (calls drive.0).none ⊎ (calls drive.0).some) × ((Contains host.own drive → ⊥) → (calls drive.0).none)
+-- what is answered by it: a boot that finds nothing is answered as one that adopts
+abbrev pub answered_by : BootEnd → Answer
+answered_by (end.Adopted o) = accepted
+answered_by end.Empty = accepted
+answered_by (end.TwoDatabases a b) = Over (ended.TwoDatabases a b)
+answered_by (end.NoQuorum readable needed) = Over (ended.NoQuorum readable needed)
+answered_by (end.Lost active listed) = Over (ended.Lost active listed)
+answered_by end.Spent = Over ended.Spent
+answered_by end.Memory = Over ended.Memory
 
--- What a boot comes to, from what the blocks of the database's drive hold: nothing else in memory than what it found, which drives are up, and how many creations
--- were begun before. Where a call on that drive failed it is down, or lost, if there was a replica to adopt, and else neither; memory is
--- wanting only where a head shows a table. A boot that is spent or wants memory has written nothing, and behind one that is lost each block that no replica may have reads as it did.
-pub data IsRebooted (calls : Outcomes) (host : Host) (kept : Kept) (answer : Answer) (next : Kept) : Type 0 where
-  adopted : (home_calls host calls).none → (newest : Newest) (up : Drives) (clean : Bool) → answer ≡ accepted → next.memory ≡ booted_with (Some newest) up clean kept.memory.begun → IsUpBy calls host up clean → has_drive up host.home.drive ≡ true
-      → IsRewritten (site_of host) kept.content next.content newest → IsRebooted calls host kept answer next
-  empty : (home_calls host calls).none → (up : Drives) (clean : Bool) → answer ≡ accepted → next.memory ≡ booted_with None up clean kept.memory.begun → IsUpBy calls host up clean → has_drive up host.home.drive ≡ true
-      → IsFound (site_of host) (on_site (site_of host) kept.content) None → IsSame kept.content next.content → IsRebooted calls host kept answer next
-  down : (home_calls host calls).some → (up : Drives) → answer ≡ accepted → next.memory ≡ booted_with None up false kept.memory.begun → IsUpBy calls host up false → IsSame kept.content next.content → IsRebooted calls host kept answer next
-  lost : (home_calls host calls).some → AreOwnCalls host calls → IsAdoptable (site_of host) (on_site (site_of host) kept.content) → answer ≡ Over (ended.Lost 0 1)
-      → IsSameBeside (area_of (site_of host)) kept.content next.content → IsRebooted calls host kept answer next
-  spent : (home_calls host calls).none → AreOwnCalls host calls → answer ≡ Over ended.Spent → IsUsedUp (site_of host) kept.content → IsSame kept.content next.content → IsRebooted calls host kept answer next
-  wanting : (home_calls host calls).none → AreOwnCalls host calls → IsHeaded (site_of host) (on_site (site_of host) kept.content) → answer ≡ Over ended.Memory → IsSame kept.content next.content → IsRebooted calls host kept answer next
+-- what the blocks read as behind it: what was adopted is there
+abbrev pub IsLeftBy : Geometry → BootEnd → Image → Type 0
+IsLeftBy g (end.Adopted o) content = IsOpenOn g o content
+IsLeftBy g other content = Unit {0}
+
+-- what was written was written to the active ones of these places, which a boot has in hand: each block outside them is as it was
+abbrev pub WritesTo : Image → Image → List Seat → Type 0
+WritesTo old new seats = IsSameBeside (seats_area seats) old new
+
+-- Which drives a boot brought up, and whether no call failed in it: of the host's drives all but those on which one failed, and no other; on each of them just one failed, or none, if memory wasn't wanting.
+pub record IsUpBy (calls : Outcomes) (host : Host) (end : BootEnd) (up : Drives) (clean : Bool) : Type 0 where
+  pub down : is_memory end ≡ false → (drive : DriveNo) → Contains host.site.drives drive → has_drive up drive ≡ false → (calls drive.0).some
+  pub others : (drive : DriveNo) → (Contains host.site.drives drive → ⊥) → (has_drive up drive ≡ false) × (calls drive.0).none
+  pub once : (is_memory end ≡ true) ⊎ ((drive : DriveNo) → Contains host.site.drives drive → IsOnce (calls drive.0))
+  pub calm : MatchBool clean ((drive : DriveNo) → (calls drive.0).none) ((is_memory end ≡ true) ⊎ ((drive : DriveNo) × Contains host.site.drives drive × (calls drive.0).some))
+
+-- The last look read what the blocks held of these drives, each of which was up; on each other one of the host's a call failed.
+pub record IsReadOf (calls : Outcomes) (host : Host) (content : Image) (up : Drives) (survey : Survey) : Type 0 where
+  pub calm : Drives
+  pub were_up : (drive : DriveNo) → has_drive calm drive ≡ true → has_drive up drive ≡ true
+  pub failed : (drive : DriveNo) → Contains host.site.drives drive → has_drive calm drive ≡ false → (calls drive.0).some
+  pub survey_is : IsSurvey host.site calm survey
+  pub of : IsSurveyOf host.drives host.site calm content survey
+  pub none : (drive : DriveNo) → has_drive calm drive ≡ true → has_drive survey.failed drive ≡ false
+
+-- What a boot comes to, by what the blocks held of the drives that answered every read: its end follows from that, or memory was wanting; nothing else is in memory than what it found, which drives are up, and
+-- how many creations were begun before. Each block that it can't have written is as it was.
+pub record IsRebooted (calls : Outcomes) (host : Host) (kept : Kept) (answer : Answer) (next : Kept) : Type 0 where
+  pub end : BootEnd
+  pub up : Drives
+  pub clean : Bool
+  pub up_by : IsUpBy calls host end up clean
+  pub by : (is_memory end ≡ true) ⊎ ((survey : Survey) × IsReadOf calls host kept.content up survey × IsEndBy calls (λ hand table. WritesTo kept.content next.content hand.seats) host.site survey end)
+  pub answer_is : answer ≡ answered_by end
+  pub memory : answer ≡ accepted → next.memory ≡ booted_with (opened_by end) up clean kept.memory.begun
+  pub content : IsLeftBy host.drives end next.content
+  pub beside : IsSameBeside (boot_area host.site (has_written end)) kept.content next.content
 
 -- the first of the causes for which it is refused
 abbrev pub IsTurnedDown : Refusal → Kept → Answer → Kept → Type 0
 IsTurnedDown refusal kept answer next = (answer ≡ refusing refusal) × Stays kept next
 
--- what a line asks: nothing; a boot, by which nothing is acknowledged; a database with a replica of so many blocks; another deed; or what so many blocks of a
+-- what a line asks: nothing; a boot, by which nothing is acknowledged; a database with so many replicas of so many blocks on each of these slices; another deed; or what so many blocks of a
 -- volume hold, from that one on
 pub data Ask : Type 0 where
   Nothing : Ask
   ToBoot : Ask
-  ToMake : Key → ℕ → Ask
+  ToMake : Key → List SliceLine → ℕ → ℕ → Ask
   ToDo : Deed → Ask
   ToSee : Key → VolId → ℕ → ℕ → Ask
 
 -- what a command asks of the host's own database
 abbrev pub asked_by : Host → Command → Ask
-asked_by host (Create slice force blocks) = ToMake (key_of host) blocks
+asked_by host (Create slices force count blocks) = ToMake (key_of host) (lines_asked host slices) count blocks
 asked_by host (command.MakeStripe volume slice) = ToDo (Changed (key_of host) (MakeStripe volume slice))
 asked_by host (Read volume at count) = ToSee (key_of host) volume at count
 asked_by host (Write volume at block) = ToDo (Wrote (key_of host) volume at (block ∷ []))
@@ -209,6 +237,6 @@ asked_by_line host (words.Exec command) = asked_by host command
 abbrev pub deeds : Ask → List Deed
 deeds Nothing = []
 deeds ToBoot = []
-deeds (ToMake key blocks) = Created key ∷ []
+deeds (ToMake key lines count blocks) = Created key ∷ []
 deeds (ToDo deed) = deed ∷ []
 deeds (ToSee key volume at count) = []

@@ -1,11 +1,13 @@
 -- Why a command is refused before anything is done: each cause by itself, and the first of them in the one order.
-use Rattle.std.specs.Prelude.{◌≡◌, ℕ, Bool, true, false, not, ◌==◌, ◌&&◌, ◌+◌, nat_lt, List, [], ◌∷◌, ◌++◌, length, Option, None, Some, is_some}
+use Rattle.std.specs.Prelude.{◌≡◌, ℕ, Bool, true, false, not, ◌==◌, ◌&&◌, ◌||◌, ◌+◌, ◌*◌, nat_lt, List, [], ◌∷◌, ◌++◌, length, Option, None, Some, is_some}
 use Rattle.std.specs.List.{find, list_any}
 use Rattle.mdv_base.specs.Order.{first_refusal, where_so}
-use Rattle.mdv_engine_law.specs.Below.{SliceName, VolId, Refusal, NoDatabase, NeedForce, Named, NoSuchVolume, NoSuchPool, NoSuchSlice, SliceInUse, TooSmall, TooMany, WrongKind, WrongState, OutOfRange, ReplicaFull, Down, SliceAt, record_text, Change, MakeStripe, Volume, VolumeKind, Command, Create, Read, Write, Newest}
-use Rattle.mdv_name.specs.SliceIndex.{slice_at}
+use Rattle.mdv_engine_law.specs.Below.{BadLine, Place, SliceName, VolId, Refusal, NoDatabase, NeedForce, Named, NoSuchVolume, NoSuchPool, NoSuchSlice, SliceInUse, TooSmall, TooMany, WrongKind, WrongState, OutOfRange, ReplicaFull, Down, SliceAt, record_text, Change, MakeStripe, Volume, VolumeKind, Command, Create, Read, Write, Opened}
+use Rattle.mdv_name.specs.SliceIndex.{same_slice, slice_at}
 use Rattle.mdv_base.specs.declared.name.Named.TheVariants as named
 use Rattle.mdv_table.specs.Change as table
+use Rattle.mdv_plan.specs.Slices.{meets_db}
+use Rattle.mdv_table.specs.Plan.{places_of}
 use Rattle.mdv_table.specs.Volumes.{has_volume}
 use Rattle.mdv_table.specs.declared.volume.VolumeKind.TheVariants as kind
 use Rattle.mdv_words.specs.declared.command.Command.TheVariants as command
@@ -22,26 +24,65 @@ abbrev pub is_plain : Option SliceAt → Bool
 is_plain None = false
 is_plain (Some at) = not at.db
 
--- A creation of a replica of so many blocks: no such slice; one for other uses; a call that failed in the last boot, on whichever drive; no force; a database
--- that is there; too few blocks, of which 16 lie in front of the replica.
-abbrev pub held_of_creation : Case → SliceName → Bool → ℕ → List Refusal
-held_of_creation case slice force blocks =
-    where_so (not (is_some (slice_at case.host.drives.slices slice))) NoSuchSlice
-    ++ (where_so (is_plain (slice_at case.host.drives.slices slice)) WrongKind
-    ++ (where_so (not case.memory.clean) (WrongState Down)
+-- how many blocks the slice has
+abbrev pub blocks_at : Option SliceAt → ℕ
+blocks_at None = 0
+blocks_at (Some at) = at.blocks
+
+-- the places that the open database has already
+abbrev pub places_open : Option Opened → List Place
+places_open None = []
+places_open (Some o) = places_of o.table.plan.lists
+
+-- a replica of the open database lies on the slice
+abbrev pub has_replica : Option Opened → SliceName → Bool
+has_replica opened slice = list_any (λ (p : Place). same_slice p.slice slice) (places_open opened)
+
+-- another slice that is set aside for replicas has a block of it, or it has a replica of the open database
+abbrev pub is_taken : Case → SliceName → Bool
+is_taken case slice = meets_db case.host.drives slice || has_replica case.memory.opened slice
+
+-- one of them stands twice
+abbrev pub is_doubled : List SliceName → Bool
+is_doubled [] = false
+is_doubled (slice ∷ slices) = list_any (same_slice slice) slices || is_doubled slices
+
+abbrev pub is_missing : Host → SliceName → Bool
+is_missing host slice = not (is_some (slice_at host.drives.slices slice))
+
+-- it has too few blocks for so many replicas of so many blocks, in front of which lie 16
+abbrev pub is_short : Host → ℕ → ℕ → SliceName → Bool
+is_short host count blocks slice = nat_lt (blocks_at (slice_at host.drives.slices slice)) (16 + count * blocks)
+
+-- Replicas on these slices, so many of so many blocks on each: no such slice; one for other uses; of a first database a call that failed in the last boot, on whichever drive; more than fifty
+-- places; a first database without force; a slice that meets another one for replicas, or has one, or is named twice; too few blocks.
+abbrev pub held_of_replicas : Case → List SliceName → Bool → ℕ → ℕ → List Refusal
+held_of_replicas case slices force count blocks =
+    where_so (list_any (is_missing case.host) slices) NoSuchSlice
+    ++ (where_so (list_any (λ slice. is_plain (slice_at case.host.drives.slices slice)) slices) WrongKind
+    ++ (where_so (not (is_some case.memory.opened) && not case.memory.clean) (WrongState Down)
+    ++ (where_so (nat_lt 50 (length (places_open case.memory.opened) + length slices * count)) TooMany
     ++ (where_so (not (is_some case.memory.opened) && not force) NeedForce
-    ++ (where_so (is_some case.memory.opened) SliceInUse
-    ++ where_so (nat_lt case.host.home.blocks (16 + blocks)) TooSmall))))
+    ++ (where_so (list_any (is_taken case) slices || is_doubled slices) SliceInUse
+    ++ where_so (list_any (is_short case.host count blocks) slices) TooSmall)))))
+
+-- to a database that is open nothing can be added yet, where nothing else speaks against it
+abbrev pub held_of_more : Option Opened → List Refusal → List Refusal
+held_of_more (Some o) [] = BadLine ∷ []
+held_of_more opened held = held
+
+abbrev pub held_of_creation : Case → List SliceName → Bool → ℕ → ℕ → List Refusal
+held_of_creation case slices force count blocks = held_of_more case.memory.opened (held_of_replicas case slices force count blocks)
 
 -- how long the record of the table would be that the change makes
-abbrev pub bytes_after : Host → Newest → Change → ℕ
-bytes_after host newest change = length (record_text (table.table_after host.drives change newest.table))
+abbrev pub bytes_after : Host → Opened → Change → ℕ
+bytes_after host o change = length (record_text (table.table_after host.drives change o.table))
 
 -- A change of the open database: what its table says against it, and a record that is too long.
-abbrev pub held_of_change : Host → Option Newest → Change → List Refusal
+abbrev pub held_of_change : Host → Option Opened → Change → List Refusal
 held_of_change host None change = NoDatabase ∷ []
-held_of_change host (Some newest) change =
-    table.held host.drives newest.table.plan change ++ where_so (nat_lt (record_room newest) (bytes_after host newest change)) (ReplicaFull (bytes_after host newest change) (record_room newest))
+held_of_change host (Some o) change =
+    table.held host.drives o.table.plan change ++ where_so (nat_lt (record_room o) (bytes_after host o change)) (ReplicaFull (bytes_after host o change) (record_room o))
 
 abbrev pub has_number : VolId → Volume → Bool
 has_number number volume = volume.number.0 == number.0
@@ -55,12 +96,12 @@ held_past None end = NoSuchVolume ∷ []
 held_past (Some volume) end = where_so (nat_lt (size_of volume.kind) end) OutOfRange
 
 -- Blocks of a volume up to that one: no such volume; a block past its end.
-abbrev pub held_of_blocks : Option Newest → VolId → ℕ → List Refusal
+abbrev pub held_of_blocks : Option Opened → VolId → ℕ → List Refusal
 held_of_blocks None volume end = NoDatabase ∷ []
-held_of_blocks (Some newest) volume end = held_past (find (has_number volume) newest.table.plan.volumes) end
+held_of_blocks (Some o) volume end = held_past (find (has_number volume) o.table.plan.volumes) end
 
 -- Blocks to be read at once, 1,024 at most.
-abbrev pub held_of_read : Option Newest → VolId → ℕ → ℕ → List Refusal
+abbrev pub held_of_read : Option Opened → VolId → ℕ → ℕ → List Refusal
 held_of_read opened volume at count = held_of_blocks opened volume (at + count) ++ where_so (nat_lt 1024 count) TooMany
 
 -- the plan doesn't have the volume of this name; and the name is a pool's
@@ -76,29 +117,29 @@ names_pool (named.Pool number) = true
 abbrev pub held_of_names : List Volume → List Named → List Refusal
 held_of_names volumes names = where_so (list_any (names_no_volume volumes) names) NoSuchVolume ++ where_so (list_any names_pool names) NoSuchPool
 
-abbrev pub held_of_print : Option Newest → List Named → List Refusal
+abbrev pub held_of_print : Option Opened → List Named → List Refusal
 held_of_print None names = NoDatabase ∷ []
-held_of_print (Some newest) names = held_of_names newest.table.plan.volumes names
+held_of_print (Some o) names = held_of_names o.table.plan.volumes names
 
-abbrev pub change_refusal : Host → Option Newest → Change → Option Refusal
+abbrev pub change_refusal : Host → Option Opened → Change → Option Refusal
 change_refusal host opened change = first_refusal (held_of_change host opened change)
 
 -- a database is open, and its table says nothing against the change
 abbrev pub IsUnopposed : Host → Memory → Change → Type 0
-IsUnopposed host memory change = (newest : Newest) × (memory.opened ≡ Some newest) × (table.refusal_of host.drives newest.table.plan change ≡ None)
+IsUnopposed host memory change = (o : Opened) × (memory.opened ≡ Some o) × (table.refusal_of host.drives o.table.plan change ≡ None)
 
-abbrev pub blocks_refusal : Option Newest → VolId → ℕ → Option Refusal
+abbrev pub blocks_refusal : Option Opened → VolId → ℕ → Option Refusal
 blocks_refusal opened volume end = first_refusal (held_of_blocks opened volume end)
 
-abbrev pub print_refusal : Option Newest → List Named → Option Refusal
+abbrev pub print_refusal : Option Opened → List Named → Option Refusal
 print_refusal opened names = first_refusal (held_of_print opened names)
 
-abbrev pub read_refusal : Option Newest → VolId → ℕ → ℕ → Option Refusal
+abbrev pub read_refusal : Option Opened → VolId → ℕ → ℕ → Option Refusal
 read_refusal opened volume at count = first_refusal (held_of_read opened volume at count)
 
 -- the refusals of a command whose causes hold
 abbrev pub held : Case → Command → List Refusal
-held case (Create slice force blocks) = held_of_creation case slice force blocks
+held case (Create slices force count blocks) = held_of_creation case slices force count blocks
 held case (command.MakeStripe volume slice) = held_of_change case.host case.memory.opened (MakeStripe volume slice)
 held case (Read volume at count) = held_of_read case.memory.opened volume at count
 held case (Write volume at block) = held_of_blocks case.memory.opened volume (at + 1)

@@ -1,12 +1,12 @@
 -- The bytes of replies, how they are told, and what they acknowledge.
-use Rattle.std.specs.Prelude.{◌≡◌, ◌≢◌, ◌⊎◌, ℕ, Bool, true, ◌||◌, List, [], ◌∷◌, ◌++◌, All, length, take, codes, if◌then◌else◌}
+use Rattle.std.specs.Prelude.{◌≡◌, ◌≢◌, ◌⊎◌, ◌<◌, ◌*◌, ℕ, Bool, true, ◌||◌, List, [], ◌∷◌, ◌++◌, All, length, take, codes, if◌then◌else◌}
 use Rattle.std.specs.List.{concat}
 use Rattle.std.specs.Str.{bytes_eq}
 use Rattle.mdv_shelf.specs.Calls.{OnDrive}
 use Rattle.mdv_shelf.specs.Shelves.{IsOneCall, MadeCalls}
 use Rattle.mdv_shelf.specs.Story.{NoFewer}
 use Rattle.mdv_shelf.specs.declared.shelf.Shelf.{Ghosts}
-use Rattle.mdv_engine_law.specs.Below.{Failures, refusal_text, Key, VolId, Refusal, IoFault, Created, Deed, Saw, lacks, left_in, one_reply, refused, replies_in, said_in, unsaid, with_reply, IsQuietLine, entries_reply, printed_reply, values_reply}
+use Rattle.mdv_engine_law.specs.Below.{refusal_text, Key, VolId, Refusal, IoFault, Created, Deed, Saw, lacks, left_in, one_reply, refused, replies_in, said_in, unsaid, with_reply, IsQuietLine, entries_reply, printed_reply, values_reply}
 use Rattle.mdv_engine_law.specs.declared.answer.Answer.{Answer}
 use Rattle.mdv_engine_law.specs.declared.answer.Answer.TheVariants.{Said, Over}
 use Rattle.mdv_engine_law.specs.declared.answer.Ended.{Ended}
@@ -93,7 +93,7 @@ pub record TellsValues (key : Key) (volume : VolId) (at count : ℕ) (reply : Li
 abbrev pub AcksBy : Ask → List ℕ → List Deed → Type 0
 AcksBy Nothing reply done = done ≡ []
 AcksBy ToBoot reply done = done ≡ []
-AcksBy (ToMake key blocks) reply done = done ≡ (if bytes_eq reply ok_line then Created key ∷ [] else [])
+AcksBy (ToMake key lines count blocks) reply done = done ≡ (if bytes_eq reply ok_line then Created key ∷ [] else [])
 AcksBy (ToDo deed) reply done = done ≡ (if bytes_eq reply ok_line then deed ∷ [] else [])
 AcksBy (ToSee key volume at count) reply done = (IsRefusal reply × (done ≡ [])) ⊎ TellsValues key volume at count reply done
 
@@ -113,7 +113,7 @@ IsRefusalFront bytes = (refusal : Refusal) × (count : ℕ) × (bytes ≡ take c
 abbrev pub AcksFront : Ask → List ℕ → List Deed → Type 0
 AcksFront Nothing bytes done = done ≡ []
 AcksFront ToBoot bytes done = done ≡ []
-AcksFront (ToMake key blocks) bytes done = done ≡ []
+AcksFront (ToMake key lines count blocks) bytes done = done ≡ []
 AcksFront (ToDo deed) bytes done = done ≡ []
 AcksFront (ToSee key volume at count) bytes done = (IsRefusalFront bytes × (done ≡ [])) ⊎ TellsFront key volume at count bytes done
 
@@ -142,6 +142,8 @@ issued_by ask (Said (outcome.Refused other)) = []
 issued_by ask (Over (ended.Lost active listed)) = deeds ask
 issued_by ask (Over ended.Spent) = []
 issued_by ask (Over ended.Memory) = []
+issued_by ask (Over (ended.NoQuorum readable needed)) = []
+issued_by ask (Over (ended.TwoDatabases a b)) = []
 
 -- the same by its reply: `ok`, or that a call failed
 abbrev pub issuable : Ask → List ℕ → List Deed
@@ -175,6 +177,8 @@ abbrev pub reply_at : Ended → Reply
 reply_at (ended.Lost active listed) = reply.Panic active listed
 reply_at ended.Spent = reply.Spent
 reply_at ended.Memory = reply.NoMemory
+reply_at (ended.NoQuorum readable needed) = reply.NoQuorum readable needed
+reply_at (ended.TwoDatabases a b) = reply.TwoDatabases a b
 
 -- the giving failed, and a front of the text was told
 pub record CutOff (failed : Type 0) (text : List ℕ) (given : Reply) (piece : List ℕ) : Type 0 where
@@ -196,6 +200,8 @@ IsReplied (reply.Panic active listed) = ⊥
 IsReplied reply.Spent = ⊥
 IsReplied reply.NoMemory = ⊥
 IsReplied reply.Told = ⊥
+IsReplied (reply.NoQuorum readable needed) = ⊥
+IsReplied (reply.TwoDatabases a b) = ⊥
 
 -- the run is over, and what is in memory and on the drive then isn't known
 abbrev pub IsLost : Reply → Type 0
@@ -205,26 +211,40 @@ IsLost (reply.Panic active listed) = Unit {0}
 IsLost reply.Spent = Unit {0}
 IsLost reply.NoMemory = Unit {0}
 IsLost reply.Told = ⊥
+IsLost (reply.NoQuorum readable needed) = Unit {0}
+IsLost (reply.TwoDatabases a b) = Unit {0}
 
--- a reply that comes only where the drive failed, or the giving of replies
-abbrev pub HasReplyCause : Type 0 → Type 0 → Reply → Type 0
-HasReplyCause drive replies reply.Ok = Unit {0}
-HasReplyCause drive replies (reply.Refused refusal) = Unit {0}
-HasReplyCause drive replies (reply.Panic active listed) = drive × (active ≡ 0) × (listed ≡ 1)
-HasReplyCause drive replies reply.Spent = Unit {0}
-HasReplyCause drive replies reply.NoMemory = Unit {0}
-HasReplyCause drive replies reply.Told = replies
+-- Why a command is answered as it is, by the calls that failed: what is so where it is done; where it is refused for another cause than a failed call; where it tells that one failed; and where the run is over with it, by
+-- how many places are active then, of how many that are listed.
+pub record Blame : Type 1 where
+  pub done : Type 0
+  pub none : Type 0
+  pub some : Type 0
+  pub lost : ℕ → ℕ → Type 0
 
--- A reply to a command tells a call that failed, of those that may excuse it, or the run is over with it, where its place is lost, and else none failed; of one whose
--- giving failed it says nothing of the drives. A number is spent only of a command that may spend one, and no command ends a run for want of memory.
-abbrev pub HasCommandCause : Failures → Type 0 → Type 0 → Type 0 → Reply → Type 0
-HasCommandCause blamed lost spends replies reply.Ok = blamed.none
-HasCommandCause blamed lost spends replies (reply.Refused IoFault) = blamed.some
-HasCommandCause blamed lost spends replies (reply.Refused other) = blamed.none
-HasCommandCause blamed lost spends replies (reply.Panic active listed) = lost × (active ≡ 0) × (listed ≡ 1)
-HasCommandCause blamed lost spends replies reply.Spent = blamed.none × spends
-HasCommandCause blamed lost spends replies reply.NoMemory = ⊥
-HasCommandCause blamed lost spends replies reply.Told = replies
+-- a reply to a line that comes only where the places are lost, or are too few to be read, or the databases are two, or the giving of replies failed
+abbrev pub HasReplyCause : (ℕ → ℕ → Type 0) → Type 0 → Reply → Type 0
+HasReplyCause lost replies reply.Ok = Unit {0}
+HasReplyCause lost replies (reply.Refused refusal) = Unit {0}
+HasReplyCause lost replies (reply.Panic active listed) = lost active listed
+HasReplyCause lost replies reply.Spent = Unit {0}
+HasReplyCause lost replies reply.NoMemory = Unit {0}
+HasReplyCause lost replies reply.Told = replies
+HasReplyCause lost replies (reply.NoQuorum readable needed) = readable < needed
+HasReplyCause lost replies (reply.TwoDatabases a b) = a ≢ b
+
+-- A reply to a command has its cause; of one whose giving failed it says nothing of the drives. A number is spent only of a command that may spend one, and no command ends a run for want of memory, nor as a
+-- boot may.
+abbrev pub HasCommandCause : Blame → Type 0 → Type 0 → Reply → Type 0
+HasCommandCause blame spends replies reply.Ok = blame.done
+HasCommandCause blame spends replies (reply.Refused IoFault) = blame.some
+HasCommandCause blame spends replies (reply.Refused other) = blame.none
+HasCommandCause blame spends replies (reply.Panic active listed) = blame.lost active listed
+HasCommandCause blame spends replies reply.Spent = blame.none × spends
+HasCommandCause blame spends replies reply.NoMemory = ⊥
+HasCommandCause blame spends replies reply.Told = replies
+HasCommandCause blame spends replies (reply.NoQuorum readable needed) = ⊥
+HasCommandCause blame spends replies (reply.TwoDatabases a b) = ⊥
 
 -- what was said is the reply, or its giving failed
 abbrev pub IsReplyTo : Type 0 → Outcome → Reply → Type 0
@@ -237,22 +257,25 @@ IsAccepted (Said (outcome.Values text)) = Unit {0}
 IsAccepted (Said (outcome.Refused refusal)) = ⊥
 IsAccepted (Over end) = ⊥
 
--- places are lost only where the drive failed: none of one is left; and no other end comes where it did
-abbrev pub HasEndCause : Failures → Ended → Type 0
-HasEndCause drive (ended.Lost active listed) = drive.some × (active ≡ 0) × (listed ≡ 1)
-HasEndCause drive ended.Spent = drive.none
-HasEndCause drive ended.Memory = drive.none
+-- A boot that isn't answered, by its numbers: fewer places are readable than are needed, or fewer than half are active, where a call failed on some drive; or the databases are two.
+abbrev pub HasEndCause : Type 0 → Ended → Type 0
+HasEndCause failed (ended.NoQuorum readable needed) = readable < needed
+HasEndCause failed (ended.TwoDatabases a b) = a ≢ b
+HasEndCause failed (ended.Lost active listed) = failed × (2 * active < listed)
+HasEndCause failed ended.Spent = Unit {0}
+HasEndCause failed ended.Memory = Unit {0}
 
--- A command tells a call that failed, of those that may excuse it, or ends the run, where its place is lost, and else none failed; it ends one with a number that is spent only where
--- it may spend one, and never for want of memory.
-abbrev pub HasAnswerCause : Failures → Type 0 → Type 0 → Answer → Type 0
-HasAnswerCause blamed lost spends (Said outcome.Ok) = blamed.none
-HasAnswerCause blamed lost spends (Said (outcome.Values text)) = blamed.none
-HasAnswerCause blamed lost spends (Said (outcome.Refused IoFault)) = blamed.some
-HasAnswerCause blamed lost spends (Said (outcome.Refused other)) = blamed.none
-HasAnswerCause blamed lost spends (Over (ended.Lost active listed)) = lost × (active ≡ 0) × (listed ≡ 1)
-HasAnswerCause blamed lost spends (Over ended.Spent) = blamed.none × spends
-HasAnswerCause blamed lost spends (Over ended.Memory) = ⊥
+-- An answer to a command has its cause; it ends the run with a number that is spent only where it may spend one, and never for want of memory, nor as a boot may.
+abbrev pub HasAnswerCause : Blame → Type 0 → Answer → Type 0
+HasAnswerCause blame spends (Said outcome.Ok) = blame.done
+HasAnswerCause blame spends (Said (outcome.Values text)) = blame.done
+HasAnswerCause blame spends (Said (outcome.Refused IoFault)) = blame.some
+HasAnswerCause blame spends (Said (outcome.Refused other)) = blame.none
+HasAnswerCause blame spends (Over (ended.Lost active listed)) = blame.lost active listed
+HasAnswerCause blame spends (Over ended.Spent) = blame.none × spends
+HasAnswerCause blame spends (Over ended.Memory) = ⊥
+HasAnswerCause blame spends (Over (ended.NoQuorum readable needed)) = ⊥
+HasAnswerCause blame spends (Over (ended.TwoDatabases a b)) = ⊥
 
 -- The calls of a telling: one, by which no drive's count rose, and none at all where the reply was told whole; and none where the run is over.
 pub record IsTellingCounted {S : Type 0} (shelf : Ghosts S) (old new : S) (given : Reply) : Type 0 where

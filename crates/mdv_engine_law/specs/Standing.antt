@@ -1,6 +1,6 @@
 -- How the drives stand with their history at each moment of a line.
-use Rattle.std.specs.Prelude.{◌≡◌, ◌⊎◌, ℕ, Bool, ◌-◌, true, false, List, [], ◌∷◌, ◌++◌, length, slice_index_or, take, None, IfSome, Contains}
-use Rattle.mdv_engine_law.specs.Below.{Command, Write, DriveBlock, DriveNo, Drives, has_drive, Identity, IsOldOrNew, IsSettled, KeptOutside, covers, nowhere, range, Wrote, Tale, told, MayLeave, last, Line, area_of, Changed, VolId, Map, IsMapOf, area_of_map, ShowsNothing, IsOpened, IsNewestIn, History, Deed, Created, Event, history_after, log_of, Adds, AreWoken, CanTell}
+use Rattle.std.specs.Prelude.{◌≡◌, ◌⊎◌, ◌<◌, ℕ, Bool, ◌-◌, true, false, List, [], ◌∷◌, ◌++◌, length, slice_index_or, take, None, IfSome, Contains}
+use Rattle.mdv_engine_law.specs.Below.{Command, Database, Write, DriveBlock, DriveNo, Drives, has_drive, Identity, IsOldOrNew, IsSettled, KeptOutside, covers, nowhere, range, Wrote, Tale, told, MayLeave, last, Line, Changed, VolId, Map, IsMapOf, area_of_map, HasNoTable, IsOpenIn, IsOpenedAt, site_area, History, Deed, Created, Event, history_after, Adds, AreWoken, CanTell}
 use Rattle.mdv_store_law.specs.Machine as machine
 use Rattle.mdv_shelf.specs.Calls.{OnDrive}
 use Rattle.mdv_shelf.specs.Made.{Made}
@@ -14,7 +14,7 @@ use Rattle.mdv_engine_law.specs.declared.host.Host.{Host}
 use Rattle.mdv_engine_law.specs.Answers.{IsQuiet}
 use Rattle.mdv_engine_law.specs.Awake.{Happening, HasBooted, is_in}
 use Rattle.mdv_shelf.specs.Failing.{Outcomes}
-use Rattle.mdv_engine_law.specs.Home.{StaysHome, key_of, opened_area, plain_area, replica_area, site_of, sites_of}
+use Rattle.mdv_engine_law.specs.Hosts.{StaysHome, key_of, opened_area, places_area, plain_area}
 use Rattle.mdv_engine_law.specs.Commands.{ComesTo}
 use Rattle.mdv_engine_law.specs.Efforts.{LineCalls, replied_to}
 use Rattle.mdv_engine_law.specs.Line.{Ask, AreBlocksAt, Kept, Nothing, ToBoot, ToDo, ToMake, ToSee, Memory, IsSame, asked_by_line, deeds, contents, kept_at}
@@ -22,7 +22,7 @@ use Rattle.mdv_engine_law.specs.Replies.{Acks, AcksAnswer, AcksBy, IsReply, IsFr
 
 -- the drives stand with the history
 abbrev pub StandsAt : Host → History → Tale → Type 0
-StandsAt host h m = history.Stands (sites_of host) h m
+StandsAt host h m = history.Stands host.drives h m
 
 -- a creation of this run
 abbrev pub IsOfRun : Host → Identity → Type 0
@@ -62,54 +62,60 @@ pub record Executed (calls : Outcomes) (replies : Type 0) (made : Made) (host : 
 abbrev pub is_up : Memory → ℕ → Bool
 is_up memory drive = is_in memory.up drive
 
--- a block of a slice that isn't set aside for replicas, which no volume of the open database has
+-- a block of a slice on which volumes may lie, which no volume of the open database has
 pub record IsUnused (host : Host) (memory : Memory) (drive block : ℕ) : Type 0 where
-  pub plain : plain_area host.drives.slices drive block ≡ true
-  pub free : IfSome memory.opened (λ newest. (volume : VolId) (v : Map) → IsMapOf host.drives newest.table volume v → area_of_map v drive block ≡ false)
+  pub plain : plain_area host.drives drive block ≡ true
+  pub free : IfSome memory.opened (λ o. (volume : VolId) (v : Map) → IsMapOf host.drives o.table volume v → area_of_map v drive block ≡ false)
 
 -- What is known of the drives between two lines: where no database is open and no call failed in the last boot, nothing is
--- there; where one is open, every crash leaves one and the same replica, with its newest table; and of an unused block on a drive that the last boot
+-- there; where one is open, whatever a crash leaves has its replica at each active place, with the newest table; and of an unused block on a drive that the last boot
 -- brought up a crash leaves what a read gives.
 pub record Knows (host : Host) (memory : Memory) (t : Tale) : Type 0 where
-  pub nothing : memory.opened ≡ None → memory.clean ≡ true → ShowsNothing (site_of host) t
-  pub opened : IfSome memory.opened (λ newest. IsOpened (site_of host) newest t)
+  pub nothing : memory.opened ≡ None → memory.clean ≡ true → HasNoTable host.drives (key_of host) t
+  pub opened : IfSome memory.opened (λ o. (o.key ≡ key_of host) × IsOpenedAt host.drives o t)
   pub unused : (drive block : ℕ) → is_up memory drive ≡ true → IsUnused host memory drive block → (x : List ℕ) → MayLeave t drive block x → x ≡ last t drive block
 
--- what is known of a history there: the open database's table is the newest of its log; the last boot brought up what is in memory, and has found one value of each
+-- The databases of a history are the host's own, and of those that this run began, so many so far, none has a number that is still to come.
+pub record AreOwn (host : Host) (begun : ℕ) (h : History) : Type 0 where
+  pub own : (d : Database) → Contains h.databases d → d.key ≡ key_of host
+  pub before : (d : Database) → Contains h.databases d → d.identity.fresh ≡ host.fresh → d.identity.number < begun
+
+-- what is known of a history there: the open database is its key's current one, with the newest table of its log; the last boot brought up what is in memory, and has found one value of each
 -- block of each volume on drives that it brought up, or the volume was made since
 pub record IsKnown (host : Host) (memory : Memory) (h : History) (t : Tale) : Type 0 where
   pub stands : StandsAt host h t
-  pub newest : IfSome memory.opened (λ newest. IsNewestIn newest (log_of h.databases (key_of host)))
+  pub its : AreOwn host memory.begun h
+  pub is_open : IfSome memory.opened (λ o. IsOpenIn host.drives o h.databases t)
   pub up : h.up (key_of host) ≡ memory.up
-  pub woken : IfSome memory.opened (λ newest. AreWoken (site_of host) newest.table (is_up memory) h (key_of host))
+  pub woken : IfSome memory.opened (λ o. AreWoken host.drives o.table (is_up memory) h (key_of host))
   pub knows : Knows host memory t
 
--- a moment of a boot: nothing is told, nothing outside the replica's blocks is touched, and each history goes on with nothing asked, by events among which one boot begins that brings all of the
+-- a moment of a boot: nothing is told, nothing outside the blocks that replicas may have is touched, and each history goes on with nothing asked, by events among which one boot begins that brings all of the
 -- host's own drives up
 pub record BootMoment (host : Host) (t m : Tale) : Type 0 where
-  pub kept : KeptOutside (area_of (site_of host)) t m
+  pub kept : KeptOutside (site_area host.site) t m
   pub quiet : told m ≡ told t
-  pub goes : (h : History) → StandsAt host h t → Goes host [] [] (λ es after. (up : Drives) × HasBooted (key_of host) up es × ((drive : DriveNo) → Contains host.own drive → has_drive up drive ≡ true)) m h
+  pub goes : (h : History) → StandsAt host h t → Goes host [] [] (λ es after. (up : Drives) × HasBooted (key_of host) up es × ((drive : DriveNo) → Contains host.site.drives drive → has_drive up drive ≡ true)) m h
 
 -- a boot that is answered, and leaves this in memory
 pub record BootedTo (host : Host) (memory : Memory) (t u : Tale) : Type 0 where
-  pub kept : KeptOutside (area_of (site_of host)) t u
+  pub kept : KeptOutside (site_area host.site) t u
   pub quiet : told u ≡ told t
   pub knows : Knows host memory u
-  pub goes : (h : History) → StandsAt host h t → Goes host [] [] (λ es after. IsKnown host memory after u × HasBooted (key_of host) memory.up es) u h
+  pub goes : (h : History) → StandsAt host h t → AreOwn host memory.begun h → Goes host [] [] (λ es after. IsKnown host memory after u × HasBooted (key_of host) memory.up es) u h
 
 -- blocks are written there: each is as it was, or as it was to be, also behind a crash, and all others are kept
 pub record ArePutBy (place : DriveBlock) (blocks : List (List ℕ)) (t m : Tale) : Type 0 where
   pub inside : (block : ℕ) → covers place.drive place.block (length blocks) place.drive block ≡ true → IsOldOrNew t m place.drive block (slice_index_or blocks (block - place.block) [])
   pub outside : KeptOutside (range place.drive place.block (length blocks)) t m
 
--- The blocks that a line which asks this may write, and all others are kept: a boot those that a replica may have, a creation those of the
--- replica that it makes, a change those of the one that is open, a write its own, each of which is old or new, and any other line none.
+-- The blocks that a line which asks this may write, and all others are kept: a boot those that replicas may have, a creation those of the
+-- replicas that it makes, a change those of the active places of the open database, a write its own, each of which is old or new, and any other line none.
 abbrev pub WritesOnly : Host → Ask → Memory → Tale → Tale → Type 0
 WritesOnly host Nothing memory t m = KeptOutside nowhere t m
-WritesOnly host ToBoot memory t m = KeptOutside (area_of (site_of host)) t m
-WritesOnly host (ToMake key blocks) memory t m = KeptOutside (replica_area (site_of host) blocks) t m
-WritesOnly host (ToDo (Changed key change)) memory t m = KeptOutside (opened_area (site_of host) memory.opened) t m
+WritesOnly host ToBoot memory t m = KeptOutside (site_area host.site) t m
+WritesOnly host (ToMake key lines count blocks) memory t m = KeptOutside (site_area host.site) t m × KeptOutside (places_area lines count blocks) t m
+WritesOnly host (ToDo (Changed key change)) memory t m = KeptOutside (opened_area memory.opened) t m
 WritesOnly host (ToDo (Wrote key volume at blocks)) memory t m = KeptOutside nowhere t m ⊎ ((place : DriveBlock) × AreBlocksAt host memory volume at (length blocks) place × ArePutBy place blocks t m)
 WritesOnly host (ToDo other) memory t m = KeptOutside nowhere t m
 WritesOnly host (ToSee key volume at count) memory t m = KeptOutside nowhere t m
@@ -133,7 +139,7 @@ pub record CarryMoment (host : Host) (ask : Ask) (memory : Memory) (t m : Tale) 
 -- these deeds can be told
 abbrev pub CanTellAll : Host → List Deed → History → Type 0
 CanTellAll host [] h = Unit {0}
-CanTellAll host (deed ∷ []) h = CanTell (sites_of host) deed h
+CanTellAll host (deed ∷ []) h = CanTell host.drives deed h
 CanTellAll host (deed ∷ more) h = ⊥
 
 -- what is known once a line was carried out: behind an `ok`, that its deeds may be told

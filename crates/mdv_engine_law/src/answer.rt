@@ -1,4 +1,4 @@
-use mdv_base::Refusal;
+use mdv_base::{Identity, Refusal};
 use mdv_status::ValueText;
 
 /// What a line came to, before it is told.
@@ -23,6 +23,10 @@ pub enum Outcome {
 /// Why a run is over with a line, or isn't begun by its boot.
 #[derive(Clone, Copy, Debug, PartialEq, Eq)]
 pub enum Ended {
+    /// Not more than half of the places of the newest table's list are readable at a boot: so many are, and so many are needed.
+    NoQuorum { readable: u32, needed: u32 },
+    /// At a boot replicas of two databases show tables.
+    TwoDatabases { a: Identity, b: Identity },
     /// The places that are left are no write quorum: so many are active, of so many that are listed.
     Lost { active: u32, listed: u32 },
     /// A number would reach 2^63.
@@ -38,6 +42,10 @@ pub enum Reply {
     Ok,
     /// The refusal was told.
     Refused(Refusal),
+    /// Too few places are readable at a boot; nothing was told.
+    NoQuorum { readable: u32, needed: u32 },
+    /// Two databases show tables at a boot; nothing was told.
+    TwoDatabases { a: Identity, b: Identity },
     /// The places that are left are no write quorum; nothing was told.
     Panic { active: u32, listed: u32 },
     /// A number would reach 2^63; nothing was told.

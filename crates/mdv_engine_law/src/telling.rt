@@ -65,6 +65,8 @@ pub fn reply_at(end: Ended) -> Reply
         Ended::Lost { active, listed } => Reply::Panic { active, listed },
         Ended::Spent => Reply::Spent,
         Ended::Memory => Reply::NoMemory,
+        Ended::NoQuorum { readable, needed } => Reply::NoQuorum { readable, needed },
+        Ended::TwoDatabases { a, b } => Reply::TwoDatabases { a, b },
     }
 }
 

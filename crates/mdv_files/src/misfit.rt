@@ -1,11 +1,8 @@
-ghost use Rattle.std.specs.Prelude.{◌≡◌, ◌↔◌, ◌∷◌, [], Contains, IsSome, IsTrue, IfSome, IfNone, map};
+ghost use Rattle.std.specs.Prelude.{IsSome, IfSome, IfNone, map};
 ghost use Rattle.std.specs.String.{string_bytes};
-ghost use Rattle.mdv_home.specs.Home.{IsHome};
-ghost use Rattle.mdv_home.specs.declared.geometry.Home.{Home};
 ghost use Rattle.mdv_files.specs.Misfit.{IsMisfit, misfit_text, Fits};
 
-use mdv_base::Name;
-use mdv_home::home_in;
+use mdv_home::host_in;
 use mdv_name::Geometry;
 use std::fmt;
 
@@ -16,8 +13,6 @@ pub enum Misfit {
     Words(usize),
     /// The table doesn't have this host.
     Host,
-    /// The host has no home on its drives.
-    Home,
 }
 
 /// What doesn't fit where the words and the table of drives aren't those of a use.
@@ -29,29 +24,10 @@ pub fn misfit_of(words: &[String], table: &Geometry) -> Option<Misfit>
     let [host] = words else {
         return Some(Misfit::Words(words.len()));
     };
-    let host = host.as_bytes();
-    match home_in(table, host) {
+    match host_in(table.hosts.as_slice(), host.as_bytes()) {
         Some(_) => None,
-        None => Some(misfit_in(host, table)),
+        None => Some(Misfit::Host),
     }
-}
-
-// What doesn't fit where the host has no home in the table.
-fn misfit_in(host: &[u8], table: &Geometry) -> Misfit
-    requires { Fits (host.now ∷ []) table.now → ⊥ }
-    ensures { IsMisfit (host.now ∷ []) table.now result }
-{
-    if has_host(table.hosts.as_slice(), host) {
-        Misfit::Home
-    } else {
-        Misfit::Host
-    }
-}
-
-fn has_host(hosts: &[Name], host: &[u8]) -> bool
-    ensures { IsTrue result ↔ Contains hosts.now host.now }
-{
-    hosts.iter().any(|name| name.as_bytes() == host)
 }
 
 impl fmt::Display for Misfit {
@@ -63,10 +39,6 @@ impl fmt::Display for Misfit {
         match *self {
             Misfit::Words(count) => write!(f, "words: {count} in place of the one host"),
             Misfit::Host => write!(f, "host: drives.tab doesn't have this host"),
-            Misfit::Home => write!(
-                f,
-                "home: not exactly one slice of the host's own drives is marked db, or another slice has a block of it"
-            ),
         }
     }
 }

@@ -5,39 +5,22 @@ use mdv_files::{BOOT_ID, FileSource, JOURNAL, Start, SystemStart, open_table};
 use mdv_port::Source;
 use std::io;
 
-const HOME: &str = "host a
+const TABLE: &str = "host a
 drive c0t0d0 8 a none
 slice c0t0d0s7 0 8 db
 ";
 
 const NO_HOST: &str = "host: drives.tab doesn't have this host";
 
-const NO_HOME: &str =
-    "home: not exactly one slice of the host's own drives is marked db, or another slice has a block of it";
-
 // The words, the table of drives, and what standard error has behind Usage.
 const MISFITS: &[(&[&str], &str, &str)] = &[
-    (&[], HOME, "words: 0 in place of the one host"),
-    (&["a", "b"], HOME, "words: 2 in place of the one host"),
-    (&["b"], HOME, NO_HOST),
+    (&[], TABLE, "words: 0 in place of the one host"),
+    (&["a", "b"], TABLE, "words: 2 in place of the one host"),
+    (&["b"], TABLE, NO_HOST),
+    (&[""], TABLE, NO_HOST),
+    (&["A"], TABLE, NO_HOST),
     (&["a"], "", NO_HOST),
-    (&["a"], "host a\n", NO_HOME),
-    (&["a"], "host a\ndrive c0t0d0 8 a none\n", NO_HOME),
-    (
-        &["b"],
-        "host a\nhost b\ndrive c0t0d0 8 a none\nslice c0t0d0s7 0 8 db\n",
-        NO_HOME,
-    ),
-    (
-        &["a"],
-        "host a\ndrive c0t0d0 8 a none\ndrive c0t1d0 8 a none\nslice c0t0d0s7 0 8 db\nslice c0t1d0s7 0 8 db\n",
-        NO_HOME,
-    ),
-    (
-        &["a"],
-        "host a\ndrive c0t0d0 8 a none\nslice c0t0d0s7 0 8 db\nslice c0t0d0s0 7 1\n",
-        NO_HOME,
-    ),
+    (&["c0t0d0"], TABLE, NO_HOST),
     (
         &["a"],
         "host a\ndrive c0t0d0 8 b none\n",
@@ -62,26 +45,34 @@ fn has_misfit(rt: &HostRuntime, words: &[&str], table: &str, want: &str) -> bool
     }
 }
 
-// A use that fits: the host's own db slice lies on its second drive, and drives of others have such slices too.
-const FITTING: &str = "host a
-host b
-drive c0t0d0 8 b none
-drive c0t1d0 8 a none
-drive c0t2d0 8 a none
-drive c0t3d0 8 shared none
-slice c0t0d0s7 0 8 db
-slice c0t2d0s7 0 8 db
-slice c0t3d0s7 0 8 db
-";
+// Uses that fit: hosts without a drive, without a db slice, with several of them, and with such as have a block of another slice.
+const FITTING: &[(&str, &str)] = &[
+    ("a", "host a\n"),
+    ("a", "host a\ndrive c0t0d0 8 a none\n"),
+    ("a", TABLE),
+    ("a", "host a\ndrive c0t0d0 8 a none\nslice c0t0d0s7 0 8\n"),
+    (
+        "b",
+        "host a\nhost b\ndrive c0t0d0 8 a none\nslice c0t0d0s7 0 8 db\n",
+    ),
+    (
+        "a",
+        "host a\ndrive c0t0d0 8 a none\ndrive c0t1d0 8 a none\nslice c0t0d0s7 0 8 db\nslice c0t1d0s7 0 8 db\n",
+    ),
+    (
+        "a",
+        "host a\ndrive c0t0d0 8 a none\nslice c0t0d0s7 0 8 db\nslice c0t0d0s0 7 1\nslice c0t0d0s6 0 8 db\n",
+    ),
+];
 
 #[test]
 fn tells_what_does_not_fit(rt: HostRuntime) {
     for (words, table, want) in MISFITS {
         assert!(rt; has_misfit(&rt, words, table, want), "{want}");
     }
-    for host in ["a", "b"] {
-        let fitting = misfit(&rt, &[host], FITTING);
-        assert!(rt; matches!(fitting, Ok(None)), "{host}");
+    for (host, table) in FITTING {
+        let fitting = misfit(&rt, &[host], table);
+        assert!(rt; matches!(fitting, Ok(None)), "{table}");
     }
 }
 
@@ -90,16 +81,32 @@ drive c0t0d0 8 a no-such-image
 slice c0t0d0s7 0 8
 ";
 
-fn is_faulty_use(start: &Start) -> bool {
-    let (Some(misfit), [lost]) = (&start.misfit, start.lost.as_slice()) else {
+fn has_lost_drive(start: &Start) -> bool {
+    let (None, [lost]) = (&start.misfit, start.lost.as_slice()) else {
         return false;
     };
-    misfit.as_str() == NO_HOME && lost.as_str() == "c0t0d0 no-such-image: missing"
+    lost.as_str() == "c0t0d0 no-such-image: missing"
+}
+
+fn is_faulty_use(start: &Start) -> bool {
+    let (Some(misfit), []) = (&start.misfit, start.lost.as_slice()) else {
+        return false;
+    };
+    misfit.as_str() == NO_HOST
 }
 
 #[test]
-fn a_faulty_use_is_told_with_its_causes(rt: HostRuntime) {
+fn a_lost_drive_is_told_where_the_use_fits(rt: HostRuntime) {
     let is_told = match start(&rt, &["a"], NO_IMAGE) {
+        Ok(start) => has_lost_drive(&start),
+        Err(_) => false,
+    };
+    assert!(rt; is_told);
+}
+
+#[test]
+fn no_drive_is_opened_in_a_faulty_use(rt: HostRuntime) {
+    let is_told = match start(&rt, &["b"], NO_IMAGE) {
         Ok(start) => is_faulty_use(&start),
         Err(_) => false,
     };

@@ -1,7 +1,6 @@
-pub mod Homes
 pub mod Owning
-pub mod Marked
 pub mod OneItem
 pub mod Places
 pub mod Read
+pub mod Siting
 pub mod Viewing

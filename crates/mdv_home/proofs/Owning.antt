@@ -16,20 +16,23 @@ use Rattle.mdv_name.specs.Geometry.{IsGeometry as IsTable}
 use Rattle.mdv_shelf.specs.Calls.{InDrive}
 use Rattle.mdv_shelf.specs.Drives.{AreDrives}
 use Rattle.mdv_home.specs.Drives.{IsOwnDrive, OwnDrives, is_own, own_drives, own_from, sizes_of}
-use Rattle.mdv_home.proofs.Homes.{one_at}
 use Rattle.mdv_home.proofs.Read.{IsRead, drive_at, least_some, read_table}
 
--- the kind says so
-record IsOf (host : List ℕ) (kind : DriveKind) : Type 0 where
-  name : DriveName
-  own : kind ≡ Own name host
+-- one place of a list has one item
+one_at : {X : Type 0} (xs : List X) (n : ℕ) (x y : X) → slice_get xs n ≡ Some x → slice_get xs n ≡ Some y → x ≡ y
+one_at xs n x y first second = let both : Some x ≡ Some y = sym first ∙ second in cc (both)
 
-owned : (host : List ℕ) (kind : DriveKind) → is_own host kind ≡ true → IsOf host kind
+-- the kind says so
+pub record IsOf (host : List ℕ) (kind : DriveKind) : Type 0 where
+  pub name : DriveName
+  pub own : kind ≡ Own name host
+
+pub owned : (host : List ℕ) (kind : DriveKind) → is_own host kind ≡ true → IsOf host kind
 owned host (Own name owner) so = record { name = name; own = ap (Own name) ((bytes_eq-Decides owner host).0 so) }
 owned host (Shared name) so = absurd (cc (so))
 owned host (Mediator other) so = absurd (cc (so))
 
-of_host : (host : List ℕ) (kind : DriveKind) → IsOf host kind → is_own host kind ≡ true
+pub of_host : (host : List ℕ) (kind : DriveKind) → IsOf host kind → is_own host kind ≡ true
 of_host host kind is = subst (λ (k : DriveKind). is_own host k ≡ true) (sym is.own) ((bytes_eq-Decides host host).1 refl)
 
 -- the line at such a place of these is of a drive of the host's own, whose number is this
@@ -152,7 +155,6 @@ one_owner table host other drive first second =
 pub drives_are_own : OwnDrives
 drives_are_own = record {
   own = λ table host drive. (own_is table host drive, is_own_drive table host drive);
+  one = one_owner;
   drives = own_lie;
-  home = λ table h home. is_own_drive table h.host h.drive (record { line = home.own.drive; place = home.own.place; name = h.slice.drive; own = home.own.own });
-  size = λ table h home. size_at table h.drive.0 home.own.drive home.own.place ∙ ap (λ (n : ℕ). Some n) home.size;
 }

@@ -1,30 +1,28 @@
 -- What a host sees of a table of drives.
-use Rattle.std.proofs.Common.{◌≡◌, ◌⊎◌, ◌==◌, ℕ, Bool, true, false, refl, sym, ◌∙◌, ap, subst, List, [], ◌∷◌, Contains, inl, inr, arith}
+use Rattle.std.proofs.Common.{◌≡◌, ◌⊎◌, ◌==◌, ℕ, Bool, true, sym, ◌∙◌, ap, subst, List, [], ◌∷◌, Contains, inl, inr, arith}
 use Rattle.std.proofs.lemmas.Bool.Decides.{nat_tests}
 use Rattle.std.proofs.lemmas.List.Elements.{Contains-append_cases, Contains-append_left, Contains-append_right, Contains-push}
-use Rattle.std.specs.List.{filter, list_any}
+use Rattle.std.specs.List.{filter}
 use Rattle.mdv_base.specs.declared.drive.DriveNo.{DriveNo}
 use Rattle.mdv_name.specs.declared.geometry.Geometry.{Geometry}
-use Rattle.mdv_name.specs.declared.slice_lines.SliceAt.{SliceAt}
 use Rattle.mdv_name.specs.declared.slice_lines.SliceLine.{SliceLine}
-use Rattle.mdv_name.specs.SliceIndex.{HasSlice, is_among}
-use Rattle.mdv_name.specs.Sound.{IsSound}
+use Rattle.mdv_name.specs.SliceIndex.{is_among}
 use Rattle.mdv_shelf.proofs.Blocks.{both_ways}
 use Rattle.mdv_home.specs.Drives.{own_drives}
 use Rattle.mdv_home.specs.View.{ViewIsOwn, own_view}
 use Rattle.mdv_home.proofs.Owning.{no_item, only_item}
 
-first : {X : Type 0} (y x : X) (xs : List X) → y ≡ x → Contains (y ∷ xs) x
+pub first : {X : Type 0} (y x : X) (xs : List X) → y ≡ x → Contains (y ∷ xs) x
 first {X} y x xs same = subst (Contains (y ∷ xs)) same (Contains-append_left (y ∷ []) xs y (Contains-push [] y))
 
-behind : {X : Type 0} (y x : X) (xs : List X) → Contains xs x → Contains (y ∷ xs) x
+pub behind : {X : Type 0} (y x : X) (xs : List X) → Contains xs x → Contains (y ∷ xs) x
 behind y x xs has = Contains-append_right (y ∷ []) xs x has
 
 first_or_behind : {X : Type 0} (y x : X) (xs : List X) → Contains (y ∷ xs) x → (y ≡ x) ⊎ Contains xs x
 first_or_behind y x xs has = elim (Contains-append_cases (y ∷ []) xs x has) [ inl one ↦ inl (only_item y x one) | inr more ↦ inr more ]
 
 -- what passes a test of a list is what is there and passes it
-in_filter : {X : Type 0} (p : X → Bool) (xs : List X) (x : X) → Contains (filter p xs) x → Contains xs x × (p x ≡ true)
+pub in_filter : {X : Type 0} (p : X → Bool) (xs : List X) (x : X) → Contains (filter p xs) x → Contains xs x × (p x ≡ true)
 in_filter p [] x = λ has. absurd (no_item x has)
 in_filter {X} p (y ∷ xs) x = elim (both_ways (p y)) [
   | inl does ↦ rw does (λ has. elim (first_or_behind y x (filter p xs) has) [

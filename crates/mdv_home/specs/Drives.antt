@@ -3,14 +3,16 @@ use Rattle.std.specs.Prelude.{◌≡◌, ◌↔◌, ℕ, ◌+◌, Bool, false, S
 use Rattle.std.specs.Str.{bytes_eq}
 use Rattle.mdv_base.specs.declared.drive.DriveName.{DriveName}
 use Rattle.mdv_base.specs.declared.drive.DriveNo.{DriveNo}
+use Rattle.mdv_base.specs.declared.drive.SliceName.{SliceName}
 use Rattle.mdv_name.specs.declared.drive_line.DriveKind.{DriveKind}
 use Rattle.mdv_name.specs.declared.drive_line.DriveKind.TheVariants.{Own, Shared, Mediator}
 use Rattle.mdv_name.specs.declared.drive_line.DriveLine.{DriveLine}
 use Rattle.mdv_name.specs.declared.geometry.Geometry.{Geometry}
 use Rattle.mdv_name.specs.Geometry.{IsGeometry as IsTable}
+use Rattle.mdv_name.specs.SliceIndex.{HasSlice}
+use Rattle.mdv_name.specs.declared.slice_lines.SliceAt.{SliceAt}
+use Rattle.mdv_shelf.specs.Calls.{InDrive}
 use Rattle.mdv_shelf.specs.Drives.{AreDrives}
-use Rattle.mdv_home.specs.declared.geometry.Home.{Home}
-use Rattle.mdv_home.specs.Home.{IsHome}
 
 -- how many blocks each drive has, in the order of the lines
 abbrev pub sizes_of : Geometry → List ℕ
@@ -36,9 +38,12 @@ pub record IsOwnDrive (table : Geometry) (host : List ℕ) (drive : DriveNo) : T
   pub name : DriveName
   pub own : line.kind ≡ Own name host
 
--- They are the drives of which this is so; in a table that was read each of them has a block, and a home lies on one of them.
+-- They are the drives of which this is so, and no other host's; in a table that was read each of them has a block.
 pub record OwnDrives : Type 0 where
   pub own : (table : Geometry) (host : List ℕ) (drive : DriveNo) → Contains (own_drives table host) drive ↔ IsOwnDrive table host drive
+  pub one : (table : Geometry) (host other : List ℕ) (drive : DriveNo) → Contains (own_drives table host) drive → Contains (own_drives table other) drive → host ≡ other
   pub drives : (text : List ℕ) (table : Geometry) (host : List ℕ) → IsTable text table → AreDrives (sizes_of table) (own_drives table host)
-  pub home : (table : Geometry) (h : Home) → IsHome table h → Contains (own_drives table h.host) h.drive
-  pub size : (table : Geometry) (h : Home) → IsHome table h → slice_get (sizes_of table) h.drive.0 ≡ Some h.drive_blocks
+
+-- each slice of a table that was read, of whichever drive, has a block and ends within its drive
+abbrev pub SlicesWithin : Type 0
+SlicesWithin = (text : List ℕ) (table : Geometry) (name : SliceName) (at : SliceAt) → IsTable text table → HasSlice table.slices name at → InDrive (sizes_of table) at.drive.0 at.start at.blocks

@@ -1,4 +1,3 @@
-pub mod Home
 pub mod Drives
 pub mod View
-pub mod Placed
+pub mod Sites

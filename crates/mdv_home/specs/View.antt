@@ -1,5 +1,5 @@
 -- What a host sees of a table of drives: of the slices those that lie on the host's own drives.
-use Rattle.std.specs.Prelude.{◌≡◌, ◌↔◌, ℕ, List, Contains}
+use Rattle.std.specs.Prelude.{◌↔◌, ℕ, List, Contains}
 use Rattle.mdv_base.specs.declared.drive.DriveNo.{DriveNo}
 use Rattle.mdv_base.specs.declared.drive.SliceName.{SliceName}
 use Rattle.mdv_name.specs.declared.geometry.Geometry.{Geometry}

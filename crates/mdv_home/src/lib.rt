@@ -1,14 +1,10 @@
-//! Where a host has its state database: on the one slice of its own drives that is set aside for
-//! replicas.
+//! Which drives of a table are a host's own, and that its database has its replicas on slices of these alone.
 #![tactic(auto)]
 
 mod drives;
-mod geometry;
+mod host;
 mod law;
 
 pub use drives::{OwnDrives, has_drives, is_own};
-pub use geometry::{FIRST_BLOCK, Home, home_in, place_at};
-pub use law::{
-    drives_are_own, homes_are_apart, homes_are_one, homes_are_small, plain_slices_apart,
-    slices_are_apart, slices_are_within, views_are_own,
-};
+pub use host::host_in;
+pub use law::{drives_are_own, sites_are_own, slices_are_within, views_are_own};

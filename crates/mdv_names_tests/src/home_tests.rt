@@ -1,169 +1,56 @@
-ghost use Rattle.std.specs.Prelude.{IfOk};
-ghost use Rattle.mdv_home.specs.Home.{IsSmall};
-
-use mdv_base::{DriveNo, Place};
+use mdv_base::DriveNo;
 use mdv_home::*;
-use mdv_name::{Geometry, parse_slice};
-use mdv_replica::PlaceAt;
+use mdv_name::{Geometry, SliceLine};
 use mdv_shelf::MemShelf;
-use std::alloc::{AllocError, Global};
+use std::alloc::Global;
 use std::test::Fail;
 
-const ONE: &[u8] = b"host hostA\ndrive c0t0d0 40000 hostA d0.img\n";
+// Two hosts with two drives each, whose lines alternate, a shared drive and a mediator. Slices are set aside on each host's drives and on the
+// shared one, and two of them have a block in common.
+const MANY: &[u8] = b"host hostA
+host hostB
+host hostC
+drive c0t0d0 40000 hostB b0.img
+drive c0t1d0 30000 hostA a0.img
+mediator hostB 32 mb.img
+drive c1t0d0 20000 shared s0.img
+drive c0t2d0 10000 hostA a1.img
+drive c0t3d0 10000 hostB b1.img
+slice c0t0d0s7 0 40000 db
+slice c0t2d0s7 0 100 db
+slice c1t0d0s7 0 99 db
+slice c0t1d0s0 0 1000
+slice c0t2d0s6 99 100 db
+slice c0t3d0s1 0 10000
+slice c0t1d0s7 1000 100 db
+";
 
-const TWO_HOSTS: &[u8] = b"host hostA\nhost hostB\ndrive c0t0d0 40000 hostA d0.img\n";
-
-const TWO_DRIVES: &[u8] =
-    b"host hostA\ndrive c0t0d0 40000 hostA d0.img\ndrive c0t1d0 40000 hostA d1.img\n";
-
-// Two hosts with two drives each, whose lines alternate, a shared drive and a mediator.
-const MANY: &[u8] =
-    b"host hostA\nhost hostB\ndrive c0t0d0 40000 hostB b0.img\ndrive c0t1d0 30000 hostA a0.img\nmediator hostB 32 mb.img\ndrive c1t0d0 20000 shared s0.img\ndrive c0t2d0 10000 hostA a1.img\ndrive c0t3d0 10000 hostB b1.img\n";
-
-const OTHER_HOST: &[u8] = b"host hostB\ndrive c0t0d0 40000 hostB d0.img\n";
-
-const SHARED: &[u8] = b"host hostA\ndrive c0t0d0 40000 shared d0.img\n";
-
-// Whether the home has so many blocks.
-fn is_home(table: &Geometry, want: Option<u64>) -> bool {
-    match home_in(table, b"hostA") {
-        Some(home) => want == Some(home.blocks),
-        None => want == None,
-    }
-}
-
-fn has_home(alloc: Global, text: &[u8], want: Option<u64>) -> bool {
-    match Geometry::read(alloc, text) {
-        Ok(table) => is_home(&table, want),
-        Err(_) => false,
-    }
-}
-
-fn joined(alloc: Global, head: &[u8], slices: &[u8]) -> Result<Vec<u8>, AllocError> {
-    let mut text = Vec::from_slice(alloc, head)?;
-    text.extend_from_slice(slices)?;
-    Ok(text)
-}
-
-// How many blocks hostA's home has.
-const HOMES: &[(&[u8], &[u8], Option<u64>)] = &[
-    (ONE, b"slice c0t0d0s7 12000 28000 db\n", Some(28000)),
-    (
-        ONE,
-        b"slice c0t0d0s7 12000 100 db\nslice c0t0d0s0 0 12000\nslice c0t0d0s1 12100 9\n",
-        Some(100),
-    ),
-    (
-        ONE,
-        b"slice c0t0d0s2 0 9000\nslice c0t0d0s0 0 12000\nslice c0t0d0s7 12000 1 db\n",
-        Some(1),
-    ),
-    (TWO_HOSTS, b"slice c0t0d0s7 12000 28000 db\n", Some(28000)),
-    (TWO_DRIVES, b"slice c0t0d0s7 12000 28000 db\n", Some(28000)),
-    (
-        TWO_DRIVES,
-        b"slice c0t0d0s7 12000 28000\nslice c0t1d0s7 12000 100 db\n",
-        Some(100),
-    ),
-    (
-        TWO_DRIVES,
-        b"slice c0t0d0s7 12000 28000 db\nslice c0t1d0s7 12000 100 db\n",
-        None,
-    ),
-    (
-        TWO_DRIVES,
-        b"slice c0t1d0s7 12000 100 db\nslice c0t0d0s7 12000 100\nslice c0t1d0s0 12100 9\n",
-        Some(100),
-    ),
-    (
-        TWO_DRIVES,
-        b"slice c0t1d0s7 12000 100 db\nslice c0t1d0s0 12099 9\n",
-        None,
-    ),
-    (
-        MANY,
-        b"slice c0t0d0s7 0 40000 db\nslice c0t2d0s7 0 100 db\nslice c1t0d0s7 0 99 db\n",
-        Some(100),
-    ),
-    (
-        MANY,
-        b"slice c0t0d0s7 0 40000 db\nslice c1t0d0s7 0 99 db\n",
-        None,
-    ),
-    (
-        MANY,
-        b"slice c0t2d0s7 0 100 db\nslice c0t2d0s6 100 100\nslice c0t1d0s7 0 9 db\n",
-        None,
-    ),
-    (
-        MANY,
-        b"slice c0t2d0s7 0 100 db\nslice c0t2d0s6 99 100\n",
-        None,
-    ),
-    (OTHER_HOST, b"slice c0t0d0s7 12000 28000 db\n", None),
-    (SHARED, b"slice c0t0d0s7 12000 28000 db\n", None),
-    (ONE, b"slice c0t0d0s7 12000 28000\n", None),
-    (
-        ONE,
-        b"slice c0t0d0s7 12000 28000 db\nslice c0t0d0s6 0 12000 db\n",
-        None,
-    ),
-    (
-        ONE,
-        b"slice c0t0d0s7 12000 100 db\nslice c0t0d0s0 0 12001\n",
-        None,
-    ),
-    (
-        ONE,
-        b"slice c0t0d0s7 12000 100 db\nslice c0t0d0s1 12099 9\n",
-        None,
-    ),
-    (
-        ONE,
-        b"slice c0t0d0s7 12000 100 db\nslice c0t0d0s2 0 40000\n",
-        None,
-    ),
+// Whether the table has the host.
+const HOSTS: &[(&[u8], bool)] = &[
+    (b"hostA", true),
+    (b"hostB", true),
+    (b"hostC", true),
+    (b"hostD", false),
+    (b"host", false),
+    (b"hostAA", false),
+    (b"HOSTA", false),
+    (b"", false),
+    (b"c0t0d0", false),
 ];
 
-#[test]
-fn tells_homes(rt: HostRuntime) -> Result<(), Fail> {
-    for (head, slices, want) in HOMES {
-        let text = joined(rt.alloc(), head, slices)?;
-        assert!(rt; has_home(rt.alloc(), text.as_slice(), *want), "{text:?}");
+fn is_host(table: &Geometry, host: &[u8], want: bool) -> bool {
+    match host_in(table.hosts.as_slice(), host) {
+        Some(name) => want && name.as_bytes() == host,
+        None => !want,
     }
-    Ok(())
-}
-
-fn small_home(alloc: Global, text: &[u8]) -> Result<Home, Fail>
-    ensures { IfOk result IsSmall }
-{
-    let table = Geometry::read(alloc, text)?;
-    homes_are_small();
-    let home = home_in(&table, b"hostA").ok_or("a home")?;
-    Ok(home)
 }
 
 #[test]
-fn places_the_replica(rt: HostRuntime) -> Result<(), Fail> {
-    let text = joined(
-        rt.alloc(),
-        MANY,
-        b"slice c0t0d0s7 0 40000 db\nslice c0t1d0s7 12000 18000 db\n",
-    )?;
-    let home = small_home(rt.alloc(), text.as_slice())?;
-    assert_eq!(rt; home.drive_blocks, 30000);
-    let expected = PlaceAt {
-        place: Place {
-            slice: parse_slice(b"c0t1d0s7").ok_or("a slice")?,
-            start: 16,
-            blocks: 8192,
-        },
-        drive: DriveNo(1),
-        first: 12016,
-        index: 0,
-        count: 1,
-    };
-    assert_eq!(rt; place_at(&home), expected);
+fn finds_hosts(rt: HostRuntime) -> Result<(), Fail> {
+    let table = Geometry::read(rt.alloc(), MANY)?;
+    for (host, want) in HOSTS {
+        assert!(rt; is_host(&table, host, *want), "{host:?}");
+    }
     Ok(())
 }
 
@@ -177,6 +64,39 @@ fn tells_own_drives(rt: HostRuntime) -> Result<(), Fail> {
     assert!(rt; are_own(&table, b"hostA", &[DriveNo(1), DriveNo(4)]));
     assert!(rt; are_own(&table, b"hostB", &[DriveNo(0), DriveNo(5)]));
     assert!(rt; are_own(&table, b"hostC", &[]));
+    assert!(rt; are_own(&table, b"hostD", &[]));
+    Ok(())
+}
+
+// What a host sees: the drive and the number of each slice.
+const VIEWS: &[(&[u8], &[(u32, u8)])] = &[
+    (b"hostA", &[(4, 7), (1, 0), (4, 6), (1, 7)]),
+    (b"hostB", &[(0, 7), (5, 1)]),
+    (b"hostC", &[]),
+    (b"hostD", &[]),
+];
+
+fn are_slices(slices: &[SliceLine], wanted: &[(u32, u8)]) -> bool {
+    slices.len() == wanted.len()
+        && slices
+            .iter()
+            .zip(wanted)
+            .all(|(line, want)| (line.at.drive.0, line.name.slice) == *want)
+}
+
+fn has_view(alloc: Global, host: &[u8], wanted: &[(u32, u8)]) -> Result<bool, Fail> {
+    let table = Geometry::read(alloc, MANY)?;
+    let own = OwnDrives::of(&table, host);
+    let view = own.view_of(alloc, table)?;
+    Ok(are_slices(view.slices.as_slice(), wanted) && view.drives.as_slice().len() == 6)
+}
+
+#[test]
+fn sees_slices_on_own_drives(rt: HostRuntime) -> Result<(), Fail> {
+    for (host, wanted) in VIEWS {
+        let is = has_view(rt.alloc(), host, wanted)?;
+        assert!(rt; is, "{host:?}");
+    }
     Ok(())
 }
 

@@ -2,6 +2,7 @@ ghost use Rattle.std.specs.Prelude.{IfOk};
 ghost use Rattle.mdv_name.specs.Sound.{IsSound};
 
 use mdv_base::{Key, Name};
+use mdv_home::{OwnDrives, views_are_own};
 use mdv_name::{Geometry, read_geometries_are_sound};
 use mdv_shown::{Site, site_of};
 use std::alloc::Global;
@@ -96,18 +97,45 @@ fn table(alloc: Global) -> Result<Geometry, Fail>
     Ok(geometry)
 }
 
-fn has_site(alloc: Global, case: &Case) -> Result<bool, Fail> {
-    let key = key_of(case)?;
+// What the host of this name sees.
+fn view(alloc: Global, host: &[u8]) -> Result<Geometry, Fail>
+    ensures { IfOk result IsSound }
+{
     let geometry = table(alloc)?;
-    let site = site_of(alloc, &geometry, key)?;
+    views_are_own();
+    let own = OwnDrives::of(&geometry, host);
+    let seen = own.view_of(alloc, geometry)?;
+    Ok(seen)
+}
+
+fn is_site(alloc: Global, geometry: &Geometry, case: &Case) -> Result<bool, Fail>
+    requires { IsSound geometry.now }
+{
+    let key = key_of(case)?;
+    let site = site_of(alloc, geometry, key)?;
     Ok(is_like(&site, case))
+}
+
+fn has_site(alloc: Global, case: &Case) -> Result<bool, Fail> {
+    let geometry = table(alloc)?;
+    is_site(alloc, &geometry, case)
+}
+
+// Whether the view of a host tells its site as well.
+fn sees_site(alloc: Global, case: &Case) -> Result<bool, Fail> {
+    if case.set {
+        return Ok(true);
+    }
+    let seen = view(alloc, case.name)?;
+    is_site(alloc, &seen, case)
 }
 
 #[test]
 fn finds_sites(rt: HostRuntime) -> Result<(), Fail> {
     for case in CASES {
         let is = has_site(rt.alloc(), case)?;
-        assert!(rt; is, "{:?}", case.name);
+        let sees = sees_site(rt.alloc(), case)?;
+        assert!(rt; is && sees, "{:?}", case.name);
     }
     Ok(())
 }

@@ -11,11 +11,26 @@ const SLICE: SliceName = SliceName {
     slice: 7,
 };
 
+const OTHER: SliceName = SliceName {
+    drive: DriveName {
+        controller: 0,
+        target: 2,
+        disk: 2,
+    },
+    slice: 0,
+};
+
+const ONE: &[SliceName] = &[SLICE];
+
+const TWO: &[SliceName] = &[SLICE, OTHER];
+
+const TWICE: &[SliceName] = &[SLICE, SLICE];
+
 // What a line asks, of c0t1d2s7, of d12, and of its block 5.
 enum Asked {
     Boot,
     Tab(&'static [u8]),
-    Create { force: bool, blocks: u32 },
+    Create(&'static [SliceName], bool, u8, u32),
     Stripe(u16),
     Read(u64, u64),
     Write(&'static [u8]),
@@ -28,61 +43,45 @@ const LINES: &[(&[u8], Asked)] = &[
     (b"tab\n", Asked::Tab(b"")),
     (b"tab\nd1 1 1 c0t1d2s7\n", Asked::Tab(b"d1 1 1 c0t1d2s7\n")),
     (b"tab\n\n\x80\nboot\n", Asked::Tab(b"\n\x80\nboot\n")),
-    (
-        b"metadb -a c0t1d2s7",
-        Asked::Create {
-            force: false,
-            blocks: 8192,
-        },
-    ),
+    (b"metadb -a c0t1d2s7", Asked::Create(ONE, false, 1, 8192)),
     (
         b" metadb\t-a  /dev/dsk/c0t1d2s7 ",
-        Asked::Create {
-            force: false,
-            blocks: 8192,
-        },
+        Asked::Create(ONE, false, 1, 8192),
     ),
-    (
-        b"metadb -a -f c0t1d2s7",
-        Asked::Create {
-            force: true,
-            blocks: 8192,
-        },
-    ),
-    (
-        b"metadb -f -a c0t1d2s7",
-        Asked::Create {
-            force: true,
-            blocks: 8192,
-        },
-    ),
-    (
-        b"metadb -fa c0t1d2s7",
-        Asked::Create {
-            force: true,
-            blocks: 8192,
-        },
-    ),
+    (b"metadb -a -f c0t1d2s7", Asked::Create(ONE, true, 1, 8192)),
+    (b"metadb -f -a c0t1d2s7", Asked::Create(ONE, true, 1, 8192)),
+    (b"metadb -fa c0t1d2s7", Asked::Create(ONE, true, 1, 8192)),
     (
         b"metadb -a -f -l 16 c0t1d2s7",
-        Asked::Create {
-            force: true,
-            blocks: 16,
-        },
+        Asked::Create(ONE, true, 1, 16),
     ),
     (
         b"metadb -l 8192 -a c0t1d2s7",
-        Asked::Create {
-            force: false,
-            blocks: 8192,
-        },
+        Asked::Create(ONE, false, 1, 8192),
     ),
     (
         b"metadb -afl4096 c0t1d2s7",
-        Asked::Create {
-            force: true,
-            blocks: 4096,
-        },
+        Asked::Create(ONE, true, 1, 4096),
+    ),
+    (
+        b"metadb -a -c 1 c0t1d2s7",
+        Asked::Create(ONE, false, 1, 8192),
+    ),
+    (
+        b"metadb -a -f -c 50 -l 64 c0t1d2s7",
+        Asked::Create(ONE, true, 50, 64),
+    ),
+    (
+        b"metadb -ac2 c0t1d2s7 c0t2d2s0",
+        Asked::Create(TWO, false, 2, 8192),
+    ),
+    (
+        b"metadb -a c0t1d2s7\t/dev/rdsk/c0t2d2s0 ",
+        Asked::Create(TWO, false, 1, 8192),
+    ),
+    (
+        b"metadb -a -f c0t1d2s7 c0t1d2s7",
+        Asked::Create(TWICE, true, 1, 8192),
     ),
     (b"metainit d0 1 1 c0t1d2s7", Asked::Stripe(0)),
     (b"metainit -f d8191 1 1 c0t1d2s7", Asked::Stripe(8191)),
@@ -129,11 +128,13 @@ const BAD: &[&[u8]] = &[
     b"boot \x80",
     b"metadb",
     b"metadb -i",
-    b"metadb -a -c 1 c0t1d2s7",
+    b"metadb -a -c 0 c0t1d2s7",
+    b"metadb -a -c 51 c0t1d2s7",
     b"metadb -a -f -l 15 c0t1d2s7",
     b"metadb -a -f -l 8193 c0t1d2s7",
-    b"metadb -a -f -c 2 -l 64 c0t1d2s7",
-    b"metadb -a c0t1d2s7 c0t2d2s7",
+    b"metadb -a -f -c 2 -l 64",
+    b"metadb -a c0t1d2s7 mddb01",
+    b"metadb -a c0t1d2s7 d0",
     b"metadb -a mddb01",
     b"metadb -d c0t1d2s7",
     b"metadb -a",
@@ -204,15 +205,15 @@ fn is_command(command: &Command, asked: &Asked) -> bool {
     match (command, asked) {
         (
             Command::Create {
-                slice,
+                slices,
                 force,
+                count,
                 blocks,
             },
-            Asked::Create {
-                force: forced,
-                blocks: length,
-            },
-        ) => *slice == SLICE && force == forced && blocks == length,
+            Asked::Create(named, forced, number, length),
+        ) => {
+            slices.as_slice() == *named && force == forced && count == number && blocks == length
+        }
         (Command::MakeStripe { volume, slice }, Asked::Stripe(number)) => {
             volume.0 == *number && *slice == SLICE
         }

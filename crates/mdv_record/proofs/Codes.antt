@@ -1,17 +1,18 @@
 -- One text stands for one table at most.
-use Rattle.std.proofs.Common.{◌≡◌, ◌<◌, ◌^◌, ◌⊎◌, ℕ, refl, sym, ◌∙◌, ap, subst, List, [], ◌∷◌, ◌++◌, append_assoc, length, Result, Ok, Err, inl, inr, arith}
+use Rattle.std.proofs.Common.{◌≡◌, ◌<◌, ◌≤◌, ◌^◌, ◌⊎◌, ℕ, refl, sym, ◌∙◌, ap, subst, List, [], ◌∷◌, ◌++◌, append_assoc, length, Result, Ok, Err, inl, inr, arith}
 use Rattle.std.proofs.lemmas.List.{append-nil}
 use Rattle.std.specs.Prelude.{All, flat_map}
 use Rattle.byteorder.specs.Endian.{big_bytes, big_number}
 use Rattle.byteorder.specs.Numbers.{big_number-reads_back, length-bytes_high_first}
-use Rattle.mdv_record.specs.Below.{Geometry, Table, IsSound, IsOfGeometry}
+use Rattle.mdv_record.specs.Below.{Geometry, Table, IsSound, IsOfGeometry, places_of}
 use Rattle.mdv_table.proofs.Ascending.{few}
 use Rattle.mdv_record.specs.declared.decoding.Front.{Front}
 use Rattle.mdv_record.specs.declared.record.RecordError.{RecordError}
 use Rattle.mdv_record.specs.declared.record.RecordError.TheVariants.{NotARecord, Memory}
 use Rattle.mdv_record.specs.Fits.{FitsSlice, FitsPlace, FitsPlaces, FitsLists, FitsBase, FitsComponent, FitsStripe, FitsKind, FitsVolume, FitsVolumes, FitsPlan}
 use Rattle.mdv_record.specs.Reading.{Always, byte_text, known_text}
-use Rattle.mdv_record.specs.Record.{IsDecoded}
+use Rattle.mdv_record.specs.Record.{IsDecoded, IsRecordOf}
+use Rattle.mdv_record.specs.Room.{least_slot_bytes}
 use Rattle.mdv_record.specs.Text.{slice_text, place_text, places_text, lists_text, base_text, component_text, stripe_text, kind_text, volume_text, volumes_text, record_text}
 use Rattle.mdv_record.specs.Whole.{FitsFront, front_text, ReadsWhole}
 use Rattle.mdv_record.proofs.Composing.{IsCode, code_pair, code_made}
@@ -96,20 +97,31 @@ module _ (g : Geometry) (sound : IsSound g) where
   one_table t u is also same = one_record t u (plan_fits g sound t.plan is) (plan_fits g sound u.plan also) same
 
   -- what is decoded of a table's text
-  pub decoded_again : (t : Table) (answer : Result Table RecordError) → IsOfGeometry g t → IsDecoded g (record_text t) answer → (answer ≡ Ok t) ⊎ (answer ≡ Err Memory)
-  decoded_again t (Ok u) is decoded = inl (ap Ok (sym (one_table t u is decoded.table.0 decoded.table.1)))
-  decoded_again t (Err NotARecord) is decoded = absurd (decoded.none refl t is refl)
+  pub decoded_again : (t : Table) (answer : Result Table RecordError) → IsRecordOf g (record_text t) t → IsDecoded g (record_text t) answer → (answer ≡ Ok t) ⊎ (answer ≡ Err Memory)
+  decoded_again t (Ok u) is decoded = inl (ap Ok (sym (one_table t u is.of_geometry decoded.table.of_geometry decoded.table.text)))
+  decoded_again t (Err NotARecord) is decoded = absurd (decoded.none refl t is)
   decoded_again t (Err Memory) is decoded = inr refl
 
-  -- where no text is read, or a table that isn't of the geometry
+  -- where no text is read, or a table that isn't of the geometry or too long for its places
   pub none_decoded : {bytes : List ℕ} (answer : Result Table RecordError) (e : RecordError) → answer ≡ Err e → ReadsWhole bytes (Err e) → IsDecoded g bytes answer
   none_decoded answer e is whole = rw is (record {
     table = tt;
-    none = λ told t of_geometry spelled. let memory : e ≡ Memory = whole.spelled t (plan_fits g sound t.plan of_geometry) spelled in cc (told, memory);
+    none = λ told t has. let memory : e ≡ Memory = whole.spelled t (plan_fits g sound t.plan has.of_geometry) has.text in cc (told, memory);
   })
 
-  pub not_of_geometry : {bytes : List ℕ} (u : Table) → (IsOfGeometry g u → ⊥) → ReadsWhole bytes (Ok u) → IsDecoded g bytes (Err NotARecord)
-  not_of_geometry u other whole = record {
+  pub not_a_record : {bytes : List ℕ} (u : Table) → (IsRecordOf g bytes u → ⊥) → ReadsWhole bytes (Ok u) → IsDecoded g bytes (Err NotARecord)
+  not_a_record {bytes} u other whole = record {
     table = tt;
-    none = λ told t of_geometry spelled. other (subst (IsOfGeometry g) (sym (whole.spelled t (plan_fits g sound t.plan of_geometry) spelled)) of_geometry);
+    none = λ told t has. other (subst (IsRecordOf g bytes) (sym (whole.spelled t (plan_fits g sound t.plan has.of_geometry) has.text)) has);
+  }
+
+  pub too_long : {bytes : List ℕ} (u : Table) → (length bytes ≤ least_slot_bytes (places_of u.plan.lists) → ⊥) → ReadsWhole bytes (Ok u) → IsDecoded g bytes (Err NotARecord)
+  too_long u long whole = not_a_record u (λ is. long (subst (λ (text : List ℕ). length text ≤ least_slot_bytes (places_of u.plan.lists)) (sym is.text) is.in_room)) whole
+
+  -- where a table of the geometry is read, and no longer than that
+  pub is_record : {bytes : List ℕ} (u : Table) → IsOfGeometry g u → length bytes ≤ least_slot_bytes (places_of u.plan.lists) → ReadsWhole bytes (Ok u) → IsRecordOf g bytes u
+  is_record u of_geometry short whole = record {
+    of_geometry = of_geometry;
+    text = whole.read.1;
+    in_room = subst (λ (text : List ℕ). length text ≤ least_slot_bytes (places_of u.plan.lists)) whole.read.1 short;
   }

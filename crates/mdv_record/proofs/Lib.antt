@@ -9,4 +9,5 @@ pub mod Lists
 pub mod Parsed
 pub mod Parts
 pub mod Records
+pub mod Rooms
 pub mod Volumes

@@ -1,15 +1,15 @@
 -- What is read of a table's text is that table, and bytes are read exactly where they are a table's text.
 use Rattle.std.proofs.Common.{◌≡◌, ◌+◌, ◌*◌, ℕ, Bool, true, false, refl, sym, ◌∙◌, ap, subst, List, [], ◌∷◌, ◌++◌, append_assoc, length, drop, Option, None, Some, Result, Err, arith}
-use Rattle.std.proofs.lemmas.Bool.{and_parts, and_from}
+use Rattle.std.proofs.lemmas.Bool.{and_parts, and_from, le-leb, leb-true}
 use Rattle.std.proofs.lemmas.List.{append-nil}
 use Rattle.std.proofs.lemmas.List.Elements.{All-head, All-tail}
 use Rattle.std.proofs.lemmas.Slice.Eq.{bytes_eq-Decides}
 use Rattle.std.proofs.Math.Seq.{drop-append_seam, drop-append-add}
-use Rattle.std.specs.Prelude.{◌↔◌, ◌&&◌, if◌then◌else◌, All, flat_map}
+use Rattle.std.specs.Prelude.{◌↔◌, ◌&&◌, if◌then◌else◌, nat_le, All, flat_map}
 use Rattle.std.specs.Str.{bytes_eq}
 use Rattle.byteorder.specs.Endian.{big_bytes, big_number}
 use Rattle.byteorder.specs.Numbers.{big_number-reads_back}
-use Rattle.mdv_record.specs.Below.{Geometry, SliceName, Place, Lists, One, Table, Base, Slice, Component, Volume, VolumeKind, Stripe, IsSound, IsOfGeometry, is_of_geometry}
+use Rattle.mdv_record.specs.Below.{Geometry, SliceName, Place, Lists, One, Table, Base, Slice, Component, Volume, VolumeKind, Stripe, IsSound, is_of_geometry, places_of}
 use Rattle.mdv_table.specs.declared.volume.Stripe.{Stripe as OneStripe}
 use Rattle.mdv_table.proofs.Ascending.{few}
 use Rattle.mdv_table.proofs.Testing.{is_of_geometry-true}
@@ -17,7 +17,8 @@ use Rattle.mdv_record.specs.declared.record.RecordError.{RecordError}
 use Rattle.mdv_record.specs.declared.record.RecordError.TheVariants.{NotARecord}
 use Rattle.mdv_record.specs.Fits.{FitsPlace, FitsLists, FitsComponent, FitsStripe, FitsKind, FitsVolume, FitsVolumes, FitsPlan}
 use Rattle.mdv_record.specs.Parsing.{slice_from, place_from, many_from, base_from, component_from, stripe_from, kind_from, volume_from, volumes_from, table_from, read_of, IsTextOf}
-use Rattle.mdv_record.specs.Record.{IsDecoded}
+use Rattle.mdv_record.specs.Record.{IsDecoded, IsRecordOf}
+use Rattle.mdv_record.specs.Room.{least_slot_bytes}
 use Rattle.mdv_record.specs.Text.{slice_text, place_text, places_text, lists_text, empty_parts, base_text, quiet_state, component_text, stripe_text, kind_text, volume_text, volumes_text, plan_text, record_text}
 use Rattle.mdv_record.proofs.Fitting.{plan_fits}
 use Rattle.mdv_record.proofs.Lengths.{length-place_text, length-base_text, length-volume_text, length-flat_map_of}
@@ -106,27 +107,35 @@ some_where true x y is = (refl, cc (is))
 some_where false x y is = cc (is)
 
 module _ (g : Geometry) (sound : IsSound g) (bytes : List ℕ) where
-  is_text : Table → Bool
-  is_text t = bytes_eq (record_text t) bytes && is_of_geometry g t
+  has_room : Table → Bool
+  has_room t = nat_le (length (record_text t)) (least_slot_bytes (places_of t.plan.lists))
 
-  text_of : (t : Table) → is_text t ≡ true ↔ (IsOfGeometry g t × (bytes ≡ record_text t))
-  unfolding is_text
+  is_text : Table → Bool
+  is_text t = bytes_eq (record_text t) bytes && (is_of_geometry g t && has_room t)
+
+  text_of : (t : Table) → is_text t ≡ true ↔ IsRecordOf g bytes t
+  unfolding is_text has_room
   text_of t =
       let same = bytes_eq-Decides (record_text t) bytes in
-      let of = is_of_geometry-true g sound t in (
-        λ is. let parts = and_parts (bytes_eq (record_text t) bytes) (is_of_geometry g t) is in (of.0 parts.1, sym (same.0 parts.0)),
-        λ has. and_from (bytes_eq (record_text t) bytes) (is_of_geometry g t) (same.1 (sym has.1)) (of.1 has.0),
+      let of = is_of_geometry-true g sound t in
+      let size = length (record_text t) in
+      let room = least_slot_bytes (places_of t.plan.lists) in (
+        λ is.
+            let parts = and_parts (bytes_eq (record_text t) bytes) (is_of_geometry g t && nat_le size room) is in
+            let others = and_parts (is_of_geometry g t) (nat_le size room) parts.1 in
+            record { of_geometry = of.0 others.0; text = sym (same.0 parts.0); in_room = leb-true size room others.1 },
+        λ has. and_from (bytes_eq (record_text t) bytes) (is_of_geometry g t && nat_le size room) (same.1 (sym has.text)) (and_from (is_of_geometry g t) (nat_le size room) (of.1 has.of_geometry) (le-leb size room has.in_room)),
       )
 
-  pub is_read : (t : Table) → IsTextOf g bytes t ↔ (IsOfGeometry g t × (bytes ≡ record_text t))
-  unfolding read_of is_text
+  pub is_read : (t : Table) → IsTextOf g bytes t ↔ IsRecordOf g bytes t
+  unfolding read_of is_text has_room
   is_read t = (
     λ is.
         let table = table_from bytes in
         let here = some_where (is_text table) table t is in
-        subst (λ (u : Table). IsOfGeometry g u × (bytes ≡ record_text u)) here.1 ((text_of table).0 here.0),
+        subst (λ (u : Table). IsRecordOf g bytes u) here.1 ((text_of table).0 here.0),
     λ has.
-        let table : table_from bytes ≡ t = ap table_from has.1 ∙ table_read t (plan_fits g sound t.plan has.0) in
+        let table : table_from bytes ≡ t = ap table_from has.text ∙ table_read t (plan_fits g sound t.plan has.of_geometry) in
         ap (λ (u : Table). if is_text u then Some u else None) table ∙ ap (λ (b : Bool). if b then Some t else None) ((text_of t).1 has),
   )
 
@@ -135,4 +144,4 @@ module _ (g : Geometry) (sound : IsSound g) (bytes : List ℕ) where
     where
       none : (o : Option Table) → read_of g bytes ≡ o → read_of g bytes ≡ None
       none None is = is
-      none (Some t) is = let has = (is_read t).0 is in absurd (decoded.none told t has.0 has.1)
+      none (Some t) is = absurd (decoded.none told t ((is_read t).0 is))

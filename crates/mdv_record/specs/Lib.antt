@@ -6,6 +6,7 @@ pub mod Fits
 pub mod Parsing
 pub mod Reading
 pub mod Record
+pub mod Room
 pub mod Spelling
 pub mod Text
 pub mod Whole

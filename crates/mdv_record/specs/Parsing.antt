@@ -1,8 +1,9 @@
 -- The table whose text some bytes are: each part is read from their front, and at the end the text of what was read is held against them.
-use Rattle.std.specs.Prelude.{◌≡◌, ◌*◌, ◌&&◌, ℕ, zero, suc, List, [], ◌∷◌, drop, slice_index, Option, None, Some, if◌then◌else◌}
+use Rattle.std.specs.Prelude.{◌≡◌, ◌*◌, ◌&&◌, ℕ, zero, suc, List, [], ◌∷◌, length, drop, slice_index, nat_le, Option, None, Some, if◌then◌else◌}
 use Rattle.std.specs.Str.{bytes_eq}
 use Rattle.byteorder.specs.Endian.{big_number}
-use Rattle.mdv_record.specs.Below.{Geometry, SliceName, Place, One, Table, Base, Slice, Component, Volume, VolumeKind, Stripe, is_of_geometry}
+use Rattle.mdv_record.specs.Below.{Geometry, SliceName, Place, One, Table, Base, Slice, Component, Volume, VolumeKind, Stripe, is_of_geometry, places_of}
+use Rattle.mdv_record.specs.Room.{least_slot_bytes}
 use Rattle.mdv_record.specs.Text.{record_text}
 use Rattle.mdv_table.specs.declared.volume.Stripe.{Stripe as OneStripe}
 
@@ -44,12 +45,13 @@ table_from bytes =
     let places = drop 14 bytes in
     record { plan = record { lists = One (many_from place_from 12 count places); volumes = volumes_from (drop 8 (drop (12 * count) places)) }; status = record {} }
 
--- a table of the geometry whose text the bytes are, where there is one
+-- the table of the geometry whose text the bytes are, where there is one and each slot of the places that it lists has room for them
 unfoldable pub read_of : Geometry → List ℕ → Option Table
 read_of g bytes =
     let table = table_from bytes in
-    if bytes_eq (record_text table) bytes && is_of_geometry g table then Some table else None
+    let text = record_text table in
+    if bytes_eq text bytes && (is_of_geometry g table && nat_le (length text) (least_slot_bytes (places_of table.plan.lists))) then Some table else None
 
--- the bytes are the text of this table of the geometry
+-- this table is read of the bytes
 abbrev pub IsTextOf : Geometry → List ℕ → Table → Type 0
 IsTextOf g bytes t = read_of g bytes ≡ Some t

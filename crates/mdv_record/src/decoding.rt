@@ -9,12 +9,14 @@ ghost use Rattle.mdv_table.specs.Slices.{IsSound};
 use crate::reader::Reader;
 use crate::reading::{read_lists, read_volumes};
 use crate::record::RecordError;
+use crate::room::has_room;
 use crate::spelling::{EMPTY_PARTS, HEAD};
 use mdv_name::Geometry;
 use mdv_table::{Lists, Plan, Status, Table};
 use std::alloc::Global;
 
-/// Reads the table whose text these bytes are, where it may be one of a database on these drives.
+/// Reads the table whose text these bytes are, where it may be one of a database on these drives, each of whose
+/// places has room for the text.
 pub fn decode(alloc: Global, geometry: &Geometry, bytes: &[u8]) -> Result<Table, RecordError>
     requires { IsSound geometry.now }
     ensures decoded { IsDecoded geometry.now bytes.now result }
@@ -22,6 +24,9 @@ pub fn decode(alloc: Global, geometry: &Geometry, bytes: &[u8]) -> Result<Table,
     ensures none { result ≡ Err NotARecord → read_of geometry.now bytes.now ≡ None }
 {
     let table = read_record(alloc, bytes)?;
+    if !has_room(&table, bytes.len()) {
+        return Err(RecordError::NotARecord);
+    }
     if table.is_of_geometry(geometry) {
         Ok(table)
     } else {

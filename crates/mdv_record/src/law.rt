@@ -2,7 +2,7 @@ ghost use Rattle.std.specs.Prelude.{◌≡◌, ◌↔◌, ◌⊎◌, ℕ, List, 
 ghost use Rattle.mdv_name.specs.declared.geometry.Geometry.{Geometry};
 ghost use Rattle.mdv_record.specs.declared.record.RecordError.{RecordError};
 ghost use Rattle.mdv_record.specs.Parsing.{IsTextOf};
-ghost use Rattle.mdv_record.specs.Record.{IsDecoded};
+ghost use Rattle.mdv_record.specs.Record.{IsDecoded, IsRecordOf};
 ghost use Rattle.mdv_record.specs.Text.{record_text};
 ghost use Rattle.mdv_table.specs.declared.table.Table.{Table};
 ghost use Rattle.mdv_table.specs.Slices.{IsSound};
@@ -14,15 +14,15 @@ pub fn spells_one_table()
         record_text t ≡ record_text u → t ≡ u }
 {}
 
-/// What is decoded of a table's text is that table, unless memory was wanting.
+/// What is decoded of a table's text, where that fits its places, is that table, unless memory was wanting.
 pub fn reads_what_was_written()
     ensures { (g : Geometry) (t : Table) (answer : Result Table RecordError) → IsSound g →
-        IsOfGeometry g t → IsDecoded g (record_text t) answer →
+        IsRecordOf g (record_text t) t → IsDecoded g (record_text t) answer →
         (answer ≡ Ok t) ⊎ (answer ≡ Err RecordError.Memory) }
 {}
 
-/// Bytes are read as a table of a geometry exactly where they are its text.
+/// Bytes are read as a table of a geometry exactly where they are its text and fit its places.
 pub fn texts_are_read()
     ensures { (g : Geometry) (text : List ℕ) (t : Table) → IsSound g →
-        IsTextOf g text t ↔ (IsOfGeometry g t × (text ≡ record_text t)) }
+        IsTextOf g text t ↔ IsRecordOf g text t }
 {}

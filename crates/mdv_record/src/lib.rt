@@ -7,9 +7,11 @@ mod law;
 mod reader;
 mod reading;
 mod record;
+mod room;
 mod spelling;
 
 pub use decoding::decode;
 pub use encoding::{encode, text_bytes};
 pub use law::{reads_what_was_written, spells_one_table, texts_are_read};
 pub use record::{RecordError, TooLong};
+pub use room::least_room;

@@ -24,7 +24,7 @@ pub struct TooLong {
 /// Why no table is read.
 #[derive(Clone, Copy, Debug, PartialEq, Eq)]
 pub enum RecordError {
-    /// The bytes are the text of no table on these drives.
+    /// The bytes are the text of no table on these drives, or too long for a place that it lists.
     NotARecord,
     Memory,
 }

@@ -1,25 +1,23 @@
 -- One line, answered.
-use Rattle.mdv_base.specs.Causes.{Failures}
 use Rattle.mdv_shelf.specs.Failing.{AreCalm, Outcomes}
-use Rattle.mdv_engine_law.specs.Replies.{HasCommandCause, HasEndCause, HasReplyCause, IsReplyTo, reply_at, reply_to}
+use Rattle.mdv_engine_law.specs.Replies.{Blame, HasCommandCause, HasEndCause, HasReplyCause, IsReplyTo, reply_at, reply_to}
 use Rattle.mdv_engine_law.specs.declared.answer.Ended.{Ended}
 use Rattle.mdv_engine_law.specs.declared.answer.Ended.TheVariants as ended
 use Rattle.mdv_engine_law.specs.declared.answer.Outcome.{Outcome}
 use Rattle.mdv_engine_law.specs.declared.answer.Outcome.TheVariants as outcome
 use Rattle.mdv_engine_law.specs.declared.answer.Reply.TheVariants as reply
-use Rattle.mdv_engine_law.specs.Line.{Nothing, Ask, asked_by, home_calls}
+use Rattle.mdv_engine_law.specs.Line.{Nothing, Ask, asked_by}
 use Rattle.std.proofs.Common.{◌≡◌, Option, Some, inl, inr, ℕ, ◌<◌, List, [], length, take, refl, sym, ◌∙◌, subst, arith}
-use Rattle.mdv_run.specs.Below.{OutOfMemory, TooMany, Answer, IsAnswered, Kept, LinesMoment, Script, line, tab_text, told, Tale, Spelled, Boot, IsLine, Reply, IsReplied, IsTold, IsTurnedDown, Host, Memory, Engine, Executed, Knows, StaysHome, Turned, RanTo, kept_at}
+use Rattle.mdv_run.specs.Below.{OutOfMemory, TooMany, Answer, IsAnswered, Kept, LinesMoment, Script, line, tab_text, told, Tale, Spelled, Boot, IsLine, Reply, IsReplied, IsTold, IsTurnedDown, FailedOnSite, Host, IsLostOnSite, Memory, Engine, Executed, Knows, StaysHome, Turned, RanTo, key_of, kept_at}
 use Rattle.mdv_run.specs.Promise.{IsUncut, IsWorkOf, LineStays, LineStaysAs, LinesStay}
 use Rattle.mdv_run.specs.Turns.{LineAnswered}
 use Rattle.mdv_words.specs.Line as words
 use Rattle.mdv_words.proofs.Lines.{one_line}
-use Rattle.mdv_engine_law.specs.Answers.{accepted, refusing}
+use Rattle.mdv_engine_law.specs.Answers.{EndsByReads, accepted, refusing}
 use Rattle.mdv_engine_law.proofs.Turning.{accepted_none, never_among, refused_none, turned}
 use Rattle.mdv_engine_law.proofs.Knowing.{knows_kept}
 use Rattle.mdv_engine_law.specs.Replies.{IsPlain}
 use Rattle.mdv_engine_law.specs.Standing.{OnlyReplied}
-use Rattle.mdv_engine_law.specs.Home.{key_of}
 use Rattle.mdv_volumes.specs.History.{Created}
 use Rattle.mdv_base.specs.declared.refusal.Refusal.{Refusal}
 use Rattle.mdv_base.specs.declared.refusal.Refusal.TheVariants.{IoFault}
@@ -73,15 +71,54 @@ pub loud_ok : (failed : Type 0) (given : Reply) → IsReplyTo failed outcome.Ok 
 loud_ok failed given (inl whole) quiet = subst IsQuietRefusal whole quiet
 loud_ok failed given (inr cut) quiet = subst IsQuietRefusal cut.0 quiet
 
+-- a boot ended the run by what it read
+abbrev pub IsReadAlone : Reply → Type 0
+IsReadAlone reply.Ok = ⊥
+IsReadAlone (reply.Refused refusal) = ⊥
+IsReadAlone (reply.Panic active listed) = ⊥
+IsReadAlone reply.Spent = ⊥
+IsReadAlone reply.NoMemory = ⊥
+IsReadAlone reply.Told = ⊥
+IsReadAlone (reply.NoQuorum readable needed) = Unit {0}
+IsReadAlone (reply.TwoDatabases a b) = Unit {0}
+
+read_reply : (failed : Type 0) (answer : Answer) (given : Reply) (piece : List ℕ) → IsTold failed answer given piece → EndsByReads answer → IsReadAlone given
+read_reply failed (Said this) given piece told reads = absurd reads
+read_reply failed (Ends (ended.NoQuorum readable needed)) given piece told reads = subst IsReadAlone (sym told.0) tt
+read_reply failed (Ends (ended.TwoDatabases a b)) given piece told reads = subst IsReadAlone (sym told.0) tt
+read_reply failed (Ends (ended.Lost active listed)) given piece told reads = absurd reads
+read_reply failed (Ends ended.Spent) given piece told reads = absurd reads
+read_reply failed (Ends ended.Memory) given piece told reads = absurd reads
+
+-- which no command does, nor what is only told
+pub command_reads : (blame : Blame) (spends replies : Type 0) (given : Reply) → HasCommandCause blame spends replies given → IsReadAlone given → ⊥
+command_reads blame spends replies reply.Ok cause reads = reads
+command_reads blame spends replies (reply.Refused refusal) cause reads = reads
+command_reads blame spends replies (reply.Panic active listed) cause reads = reads
+command_reads blame spends replies reply.Spent cause reads = reads
+command_reads blame spends replies reply.NoMemory cause reads = reads
+command_reads blame spends replies reply.Told cause reads = reads
+command_reads blame spends replies (reply.NoQuorum readable needed) cause reads = cause
+command_reads blame spends replies (reply.TwoDatabases a b) cause reads = cause
+
+pub said_reads : (failed : Type 0) (said : Outcome) (given : Reply) → IsReplyTo failed said given → IsReadAlone given → ⊥
+said_reads failed said given (inl whole) reads = by said (subst IsReadAlone whole reads) where
+  by : (said : Outcome) → IsReadAlone (reply_to said) → ⊥
+  by outcome.Ok reads = reads
+  by (outcome.Values text) reads = reads
+  by (outcome.Refused refusal) reads = reads
+said_reads failed said given (inr cut) reads = subst IsReadAlone cut.0 reads
+
 -- a line that was carried out is answered
 pub line_executed : (text : List ℕ) (spelled : Spelled) → IsLine text spelled → (outcomes : Outcomes) (replies : Type 0) (made : Made) (host : Host) (old new : Memory) (given : Reply) (t u : Tale) → Executed outcomes replies made host spelled old new given t u → LineWrites host spelled old t u
-    → (IsQuietRefusal given → KeptOutside nowhere t u) → (given ≡ reply.Ok → (command : Command) → spelled ≡ words.Exec command → LeavesDone host old command u) → (given ≡ reply.Ok → spelled ≡ Boot → AreSynced host outcomes u) → LineAnswered outcomes replies made host text old new given t u
-line_executed text spelled is outcomes replies made host old new given t u done writes unwritten leaves synced = record {
+    → (IsQuietRefusal given → KeptOutside nowhere t u) → (IsReadAlone given → KeptOutside nowhere t u) → (given ≡ reply.Ok → (command : Command) → spelled ≡ words.Exec command → LeavesDone host old command u) → (given ≡ reply.Ok → spelled ≡ Boot → AreSynced host outcomes u) → LineAnswered outcomes replies made host text old new given t u
+line_executed text spelled is outcomes replies made host old new given t u done writes unwritten unread leaves synced = record {
   answer = done.answer;
   done = inr (inl (spelled, is, done.carried));
   calls = inr (inl (spelled, is, done.effort));
   writes = inr (spelled, is, writes);
   unwritten = λ on quiet. unwritten (quiet_reply replies done.answer given done.replied.piece done.replied.as_told on quiet);
+  unread = λ reads. unread (read_reply replies done.answer given done.replied.piece done.replied.as_told reads);
   leaves = λ on ok.
       let told = accepted_reply replies done.answer given done.replied.piece done.replied.as_told on ok in
       record { done = λ command here. leaves told command (one_line text spelled (words.Exec command) is here); synced = λ here. synced told (one_line text spelled Boot is here) };
@@ -105,6 +142,7 @@ answered_too {outcomes} {replies} {one} {host} {text} {old} {new} {reply} {t} {u
   calls = text_too outcomes _ _ (replied_too one other too done.answer) host (kept_at old t) (kept_at new u) text done.answer done.calls;
   writes = done.writes;
   unwritten = done.unwritten;
+  unread = done.unread;
   leaves = done.leaves;
   replied = done.replied;
 }
@@ -200,22 +238,24 @@ pub many_comes : (lines : List ℕ) (outcomes : Outcomes) (host : Host) (kept ne
 many_comes lines outcomes host kept next answer many calm down = inr (inl (words.Tab lines, refl, came.unfit calm TooMany (inl many) down))
 
 -- why a line is replied to so: by what its command came to, by what was only told, or by the end of its boot
-pub command_reply : (blamed : Failures) (lost spends home replies : Type 0) → (lost → home) → (given : Reply) → HasCommandCause blamed lost spends replies given → HasReplyCause home replies given
-command_reply blamed lost spends home replies lose reply.Ok cause = tt
-command_reply blamed lost spends home replies lose (reply.Refused refusal) cause = tt
-command_reply blamed lost spends home replies lose (reply.Panic active listed) cause = (lose cause.0, cause.1, cause.2)
-command_reply blamed lost spends home replies lose reply.Spent cause = tt
-command_reply blamed lost spends home replies lose reply.NoMemory cause = tt
-command_reply blamed lost spends home replies lose reply.Told cause = cause
+pub command_reply : (blame : Blame) (Lost : ℕ → ℕ → Type 0) (spends replies : Type 0) (given : Reply) → ((active listed : ℕ) → given ≡ reply.Panic active listed → Lost active listed) → HasCommandCause blame spends replies given → HasReplyCause Lost replies given
+command_reply blame Lost spends replies reply.Ok lose cause = tt
+command_reply blame Lost spends replies (reply.Refused refusal) lose cause = tt
+command_reply blame Lost spends replies (reply.Panic active listed) lose cause = lose active listed refl
+command_reply blame Lost spends replies reply.Spent lose cause = tt
+command_reply blame Lost spends replies reply.NoMemory lose cause = tt
+command_reply blame Lost spends replies reply.Told lose cause = cause
+command_reply blame Lost spends replies (reply.NoQuorum readable needed) lose cause = absurd cause
+command_reply blame Lost spends replies (reply.TwoDatabases a b) lose cause = absurd cause
 
-said_reply : (drive replies : Type 0) (said : Outcome) → HasReplyCause drive replies (reply_to said)
-said_reply drive replies outcome.Ok = tt
-said_reply drive replies (outcome.Values text) = tt
-said_reply drive replies (outcome.Refused refusal) = tt
+said_reply : (Lost : ℕ → ℕ → Type 0) (replies : Type 0) (said : Outcome) → HasReplyCause Lost replies (reply_to said)
+said_reply Lost replies outcome.Ok = tt
+said_reply Lost replies (outcome.Values text) = tt
+said_reply Lost replies (outcome.Refused refusal) = tt
 
-pub told_reply : (drive replies : Type 0) (said : Outcome) (given : Reply) → IsReplyTo replies said given → HasReplyCause drive replies given
-told_reply drive replies said given (inl whole) = subst (HasReplyCause drive replies) (sym whole) (said_reply drive replies said)
-told_reply drive replies said given (inr cut) = subst (HasReplyCause drive replies) (sym cut.0) cut.1
+pub told_reply : (Lost : ℕ → ℕ → Type 0) (replies : Type 0) (said : Outcome) (given : Reply) → IsReplyTo replies said given → HasReplyCause Lost replies given
+told_reply Lost replies said given (inl whole) = subst (HasReplyCause Lost replies) (sym whole) (said_reply Lost replies said)
+told_reply Lost replies said given (inr cut) = subst (HasReplyCause Lost replies) (sym cut.0) cut.1
 
 -- a reply to what is only said was told whole, unless it was cut short
 pub uncut_replied : (replies : Type 0) (said : Outcome) (given : Reply) → IsReplyTo replies said given → IsUncut given → IsReplied given
@@ -231,7 +271,9 @@ pub reply_more : (replies more : Type 0) → (replies → more) → (said : Outc
 reply_more replies more cause said given (inl whole) = inl whole
 reply_more replies more cause said given (inr cut) = inr (cut.0, cause cut.1)
 
-pub ended_reply : (host : Host) (outcomes : Outcomes) (replies : Type 0) (end : Ended) → HasEndCause (home_calls host outcomes) end → HasReplyCause (home_calls host outcomes).some replies (reply_at end)
+pub ended_reply : (host : Host) (outcomes : Outcomes) (replies : Type 0) (end : Ended) → HasEndCause (FailedOnSite outcomes host) end → HasReplyCause (IsLostOnSite outcomes host) replies (reply_at end)
+ended_reply host outcomes replies (ended.NoQuorum readable needed) cause = cause
+ended_reply host outcomes replies (ended.TwoDatabases a b) cause = cause
 ended_reply host outcomes replies (ended.Lost active listed) cause = cause
 ended_reply host outcomes replies ended.Spent cause = tt
 ended_reply host outcomes replies ended.Memory cause = tt

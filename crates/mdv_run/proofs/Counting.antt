@@ -1,31 +1,27 @@
 -- How the calls of a run's turns add up.
-use Rattle.std.proofs.Common.{◌≡◌, ◌≤◌, ◌+◌, ◌*◌, inl, inr, ℕ, Bool, List, length, Option, None, Some, refl, sym, ◌∙◌, ap, subst, arith}
-use Rattle.mdv_shelf.specs.Between.{TookBetween}
+use Rattle.std.proofs.Common.{◌≡◌, ◌≤◌, ◌+◌, inl, inr, ℕ, Bool, List, Option, None, Some, IfSome, sym, ◌∙◌, ap, subst, arith}
 use Rattle.mdv_shelf.specs.Calls.{RoseByAtMost}
-use Rattle.mdv_shelf.specs.Made.{made_of}
 use Rattle.mdv_shelf.specs.Shelves.{MadeCalls}
 use Rattle.mdv_shelf.specs.declared.shelf.Shelf.{Ghosts}
-use Rattle.mdv_base.specs.DriveSet.{Drives}
-use Rattle.mdv_base.specs.declared.drive.DriveNo.{DriveNo}
-use Rattle.mdv_engine.specs.Below.{Newest}
-use Rattle.mdv_shelf.proofs.Between.{between_of, between_then}
 use Rattle.mdv_shelf.proofs.Counts.{at_most_more, rose_at_most}
-use Rattle.mdv_engine.specs.Counts.{IsBootedCounted, IsOpenedCounted, IsPlaceCounted}
+use Rattle.mdv_engine.specs.Counts.{IsBootedCounted, calls_of}
 use Rattle.mdv_engine_law.specs.Answers.{accepted}
 use Rattle.mdv_engine_law.specs.Line.{Memory}
 use Rattle.mdv_engine_law.specs.declared.answer.Answer.{Answer}
-use Rattle.mdv_engine_law.specs.declared.answer.Answer.TheVariants.{Said, Over as Ends}
+use Rattle.mdv_engine_law.specs.declared.answer.Answer.TheVariants.{Over as Ends}
 use Rattle.mdv_engine_law.specs.declared.answer.Ended.{Ended}
-use Rattle.mdv_engine_law.specs.declared.answer.Ended.TheVariants as ended
 use Rattle.mdv_engine_law.specs.declared.answer.Reply.{Reply}
 use Rattle.mdv_engine_law.specs.declared.answer.Reply.TheVariants as reply
-use Rattle.mdv_run.specs.Below.{Host, Script, too_long, line, Spelled, IsLine}
-use Rattle.mdv_run.specs.Calls.{CallsLeft, OpenedTook, PlaceTook, ScriptCalls, TextCalls, TurnTook, line_calls}
+use Rattle.mdv_engine.specs.Engine.{IsHeldBy}
+use Rattle.mdv_run.specs.Below.{Command, Create, Host, IsLine, IsWell, Read, Script, Spelled, Write, line, too_long}
+use Rattle.mdv_run.specs.Calls.{CallsLeft, ScriptCalls, TextCalls, TurnTook, boot_calls, command_calls, line_calls}
 use Rattle.mdv_run.specs.Turns.{turn_of}
 use Rattle.mdv_run_law.specs.Run.{IsNoCommand}
+use Rattle.mdv_store.proofs.Sitting.{active_most}
+use Rattle.mdv_store.specs.Opened.{Opened}
 use Rattle.mdv_words.specs.Line as words
+use Rattle.mdv_words.specs.declared.command.Command.TheVariants as asked
 use Rattle.mdv_words.proofs.Lines.{one_line}
-use Rattle.mdv_store_law.specs.Effort.{BroughtUpBy}
 
 -- a line takes what it spells
 module _ (host : Host) where
@@ -67,6 +63,8 @@ module _ (host : Host) (old new : Option ℕ) where
     by reply.Spent = ends
     by reply.NoMemory = ends
     by reply.Told = ends
+    by (reply.NoQuorum readable needed) = ends
+    by (reply.TwoDatabases a b) = ends
 
   pub line_took : (script : Script) (left : Option Script) (text : List ℕ) (more : Script) → script ≡ line text more → left ≡ Some more → ((k : ℕ) → TextCalls host text k → RoseByAtMost k old new)
       → (n : ℕ) → ScriptCalls host script n → (r : Reply) (any : Bool) → TurnTook host (turn_of r any) left old new n
@@ -101,48 +99,28 @@ module _ (host other : Host) (same : other ≡ host) (first mid last : Option �
   took_over before so_far turn = at_most_more so_far.made so_far.rest n first mid last so_far.within so_far.took
       (turn so_far.script so_far.is_left so_far.rest (subst (λ (h : Host). ScriptCalls h so_far.script so_far.rest) (sym same) so_far.for_rest))
 
--- a boot, by its drives and by its place
-module _ {S : Type 0} (shelf : Ghosts S) where
-  opened_most : (a b : S) (brought : ℕ) (opened : Option Newest) → IsOpenedCounted shelf.calls shelf.written a b brought opened → RoseByAtMost (brought + 11) (shelf.calls a) (shelf.calls b)
-  opened_most a b brought (Some newest) took = took.at_most.in_calls
-  opened_most a b brought None took = wider (shelf.calls a) (shelf.calls b) (brought + 3) (brought + 11) (omega arith) took.at_most.in_calls
+-- a command, where the open database is one of the host's
+pub exec_calls : (host : Host) (memory : Memory) → IsWell host memory → (command : Command) (old new : Option ℕ) → RoseByAtMost (1 + calls_of host memory.opened command) old new → RoseByAtMost (1 + command_calls host command) old new
+exec_calls host memory well command old new took = wider old new (1 + calls_of host memory.opened command) (1 + command_calls host command) (let most = command_most host memory.opened well.database command in omega (arith, most)) took where
+  command_most : (host : Host) (opened : Option Opened) → IfSome opened (IsHeldBy host) → (command : Command) → calls_of host opened command ≤ command_calls host command
+  command_most host opened held (Create slices force count blocks) = omega arith
+  command_most host None held (asked.MakeStripe volume slice) = omega arith
+  command_most host (Some o) held (asked.MakeStripe volume slice) = (let few = held.few in let active = active_most o.seats in omega (arith, few, active))
+  command_most host opened held (Read volume at count) = omega arith
+  command_most host opened held (Write volume at block) = omega arith
+  command_most host opened held (asked.Print names) = omega arith
 
-  ended_most : (a b : S) (brought : ℕ) (end : Ended) (memory : Memory) → IsPlaceCounted shelf.calls shelf.written a b brought (Ends end) memory → RoseByAtMost (brought + 11) (shelf.calls a) (shelf.calls b)
-  ended_most a b brought (ended.Lost active listed) memory took = took.at_most.in_calls
-  ended_most a b brought ended.Spent memory took = wider (shelf.calls a) (shelf.calls b) (brought + 3) (brought + 11) (omega arith) took.at_most.in_calls
-  ended_most a b brought ended.Memory memory took = wider (shelf.calls a) (shelf.calls b) (brought + 3) (brought + 11) (omega arith) took.at_most.in_calls
-
-  place_most : (a b : S) (brought : ℕ) (answer : Answer) (memory : Memory) → IsPlaceCounted shelf.calls shelf.written a b brought answer memory → RoseByAtMost (brought + 11) (shelf.calls a) (shelf.calls b)
-  place_most a b brought (Said this) memory took = opened_most a b brought memory.opened took
-  place_most a b brought (Ends end) memory took = ended_most a b brought end memory took
-
-  -- two calls at most for each of the drives, and those at the place
-  pub booted_calls : (a b : S) (own : List DriveNo) (answer : Answer) (memory : Memory) → IsBootedCounted shelf.calls shelf.written a b own answer memory → RoseByAtMost (2 * length own + 11) (shelf.calls a) (shelf.calls b)
-  booted_calls a b own answer memory took = wider (shelf.calls a) (shelf.calls b) (took.brought + 11) (2 * length own + 11) (let most = took.by.most in omega (arith, most)) (place_most a b took.brought answer memory took.place)
+-- a boot
+module _ {S : Type 0} (shelf : Ghosts S) (host : Host) where
+  pub booted_calls : (a b : S) (answer : Answer) (memory : Memory) → IsBootedCounted shelf a b host answer memory → RoseByAtMost (boot_calls host) (shelf.calls a) (shelf.calls b)
+  booted_calls a b answer memory took = took.most.at_most.in_calls
 
   -- one that was answered, and its reply; and one that wasn't
-  pub boot_calls : (a b c : S) (own : List DriveNo) (memory : Memory) → IsBootedCounted shelf.calls shelf.written a b own accepted memory → MadeCalls shelf b c 1 0 → (n : ℕ) → n ≡ 2 * length own + 12 → RoseByAtMost n (shelf.calls a) (shelf.calls c)
-  boot_calls a b c own memory took told n is = at_most_more (2 * length own + 11) 1 n (shelf.calls a) (shelf.calls b) (shelf.calls c) (omega (arith, is)) (booted_calls a b own accepted memory took) (rose_at_most 1 1 (shelf.calls b) (shelf.calls c) (omega arith) told.in_calls)
+  pub accepted_calls : (a b c : S) (memory : Memory) → IsBootedCounted shelf a b host accepted memory → MadeCalls shelf b c 1 0 → (n : ℕ) → n ≡ boot_calls host + 1 → RoseByAtMost n (shelf.calls a) (shelf.calls c)
+  accepted_calls a b c memory took told n is = at_most_more (boot_calls host) 1 n (shelf.calls a) (shelf.calls b) (shelf.calls c) (omega (arith, is)) (booted_calls a b accepted memory took) (rose_at_most 1 1 (shelf.calls b) (shelf.calls c) (omega arith) told.in_calls)
 
-  pub over_calls : (a b : S) (own : List DriveNo) (end : Ended) (memory : Memory) → IsBootedCounted shelf.calls shelf.written a b own (Ends end) memory → (n : ℕ) → n ≡ 2 * length own + 12 → RoseByAtMost n (shelf.calls a) (shelf.calls b)
-  over_calls a b own end memory took n is = wider (shelf.calls a) (shelf.calls b) (2 * length own + 11) n (omega (arith, is)) (booted_calls a b own (Ends end) memory took)
-
-  more : (least most blocks low high : ℕ) → low ≤ least + 1 → most + 1 ≤ high → (a b c : S) → TookBetween shelf.calls shelf.written a b least most blocks → MadeCalls shelf b c 1 0 → TookBetween shelf.calls shelf.written a c low high blocks
-  more least most blocks low high below above a b c took told =
-      between_then shelf.calls shelf.written a b c least most blocks 1 1 0 low high blocks below above (omega arith) took
-      (between_of shelf.calls shelf.written b c 1 0 1 1 0 (omega arith) (omega arith) (omega arith) told)
-
-  place_took : (a b c : S) (brought : ℕ) (opened : Option Newest) → IsOpenedCounted shelf.calls shelf.written a b brought opened → MadeCalls shelf b c 1 0 → PlaceTook (made_of shelf a c) brought opened
-  place_took a b c brought (Some newest) took told = more (brought + 10) (brought + 11) 4097 (brought + 11) (brought + 12) (omega arith) (omega arith) a b c took told
-  place_took a b c brought None took told = more brought (brought + 3) 0 (brought + 1) (brought + 4) (omega arith) (omega arith) a b c took told
-
-  -- what it took by what it opened
-  pub opened_took : (a b c : S) (host : Host) (memory : Memory) → IsBootedCounted shelf.calls shelf.written a b host.own accepted memory → MadeCalls shelf b c 1 0 → OpenedTook host (made_of shelf a c) memory
-  opened_took a b c host memory took told = record {
-    brought = took.brought;
-    by = subst (λ (up : Drives). BroughtUpBy host.own up took.brought) (took.tied refl) took.by;
-    place = place_took a b c took.brought memory.opened took.place told;
-  }
+  pub over_calls : (a b : S) (end : Ended) (memory : Memory) → IsBootedCounted shelf a b host (Ends end) memory → (n : ℕ) → n ≡ boot_calls host + 1 → RoseByAtMost n (shelf.calls a) (shelf.calls b)
+  over_calls a b end memory took n is = wider (shelf.calls a) (shelf.calls b) (boot_calls host) n (omega (arith, is)) (booted_calls a b (Ends end) memory took)
 
 -- a boot and the lines behind it
 pub run_calls : (a b c : Option ℕ) (boot n : ℕ) → RoseByAtMost boot a b → RoseByAtMost n b c → RoseByAtMost (boot + n) a c

@@ -1,8 +1,8 @@
 -- What was told of the lines of a run by each of its moments, turn after turn.
-use Rattle.std.proofs.Common.{◌≡◌, inl, inr, ℕ, ◌+◌, ◌≤◌, Bool, false, List, [], ◌++◌, length, Option, Some, refl, sym, ◌∙◌, ap, subst, append_assoc, arith}
+use Rattle.std.proofs.Common.{◌≡◌, inl, inr, ℕ, ◌+◌, ◌≤◌, Bool, false, List, [], ◌++◌, length, Option, None, Some, refl, sym, ◌∙◌, ap, subst, append_assoc, arith}
 use Rattle.std.proofs.lemmas.List.{append-nil, length-append}
 use Rattle.std.specs.Option.{option_map}
-use Rattle.mdv_run.specs.Below.{At, Counts, Ends, Host, IsRebooted, IsToldBy, Knows, LinesMoment, Memory, RanTo, Script, Stretch, Tale, kept_at, told, unbooted}
+use Rattle.mdv_run.specs.Below.{At, Counts, Ends, Host, IsRebooted, IsToldBy, Knows, LinesMoment, Memory, RanTo, Script, Stretch, Tale, kept_at, site_area, told, unbooted}
 use Rattle.mdv_run.specs.Promise.{between, point_of}
 use Rattle.mdv_run.specs.Turns.{LinesFront, Point, at}
 use Rattle.mdv_run.proofs.Answering.{same_within}
@@ -18,9 +18,7 @@ use Rattle.mdv_shelf.specs.Made.{Made, effort_of, made_of, tally_of}
 use Rattle.mdv_shelf.proofs.Frame.{kept_outside_same}
 use Rattle.mdv_shelf.proofs.Made.{by_efforts}
 use Rattle.mdv_engine_law.specs.Efforts.{BootCalls}
-use Rattle.mdv_engine_law.specs.Home.{site_of}
 use Rattle.mdv_shelf.specs.Area.{KeptOutside, nowhere}
-use Rattle.mdv_store_law.specs.Site.{area_of}
 use Rattle.mdv_run_law.specs.Run.{FromTo}
 use Rattle.mdv_engine_law.specs.Line.{contents}
 use Rattle.mdv_engine_law.proofs.Efforts.{boot_too}
@@ -151,7 +149,7 @@ module _ (host : Host) (start : Point) (first : Memory) (script : Script) where
 
 -- a moment of a boot, or of no call: nothing was told, and nothing done but on the replica's blocks
 abbrev pub IsBooting : Host → Tale → Tale → Type 0
-IsBooting host t m = (told m ≡ told t) × KeptOutside (area_of (site_of host)) t m
+IsBooting host t m = (told m ≡ told t) × KeptOutside (site_area host.site) t m
 
 -- what a boot came to that was answered, and what it led to
 abbrev pub IsUp : Outcomes → Made → Host → Memory → Tale → Tale → Type 0
@@ -166,9 +164,9 @@ module _ {S : Type 0} (shelf : Ghosts S) (telling : (s : S) → shelf.tale s ≡
   fronts_quiet stretch a b on quiet = moment_weaker shelf (OfTales (IsBooting host)) (IsToldBy host stretch start script) a b (λ t m up below here. quiet_front stretch t m here) (moments_of_tales shelf telling a b (IsBooting host) on quiet)
 
   pub fronts_whole : (a b c : S) (memory : Memory) → KeptInTime shelf a b → let mid = counts (shelf.faults b) start.source in RoseCalmly start mid → GoesOn shelf b c → AtEachTale shelf (IsBooting host) a b
-      → Ends (IsUp (drive_failures start mid) (made_of shelf a b) host memory) (shelf.tale a) (shelf.tale b) → FromTo (KeptOutside (area_of (site_of host))) (shelf.story a) (shelf.story b)
+      → Ends (IsUp (drive_failures start mid) (made_of shelf a b) host memory) (shelf.tale a) (shelf.tale b) → FromTo (KeptOutside (site_area host.site)) (shelf.story a) (shelf.story b) → (memory.opened ≡ None → FromTo (KeptOutside nowhere) (shelf.story a) (shelf.story b))
       → AtEachMoment shelf (RunFront host (between shelf b c) (point_of shelf start.source b) memory script) b c → AtEachMoment shelf (IsToldBy host (between shelf a c) start script) a c
-  fronts_whole a b c memory on rose more booting boots writes lines =
+  fronts_whole a b c memory on rose more booting boots writes unwritten lines =
       each_joined (OfTales (IsBooting host)) (RunFront host (between shelf b c) (point_of shelf start.source b) memory script) (IsToldBy host (between shelf a c) start script) _ _ _ _ _ _
       (λ s u v first turn last there begun ahead m here within. quiet_front (between shelf a c) (moment s _) m here)
       (λ s u v is_s is_u is_v turn m front within ahead.
@@ -187,6 +185,7 @@ module _ {S : Type 0} (shelf : Ghosts S) (telling : (s : S) → shelf.tale s ≡
           by = record { story = shelf.story b; effort = effort_of shelf b };
           calls = boot_too (drive_failures start mid) (drive_failures start mid) (same_within (drive_failures start mid)) _ _ (by_efforts shelf a b) host accepted memory (contents (tale_of s)) booted.2;
           writes = λ x y is_x is_y. writes x y is_x is_y;
+          unwritten = λ none x y is_x is_y. unwritten none x y is_x is_y;
           point = point_between shelf telling a b c start.source (tale_of u) (telling b ∙ ap (λ (o : Option Story). option_map tale_of o) is_u) on quiet more;
           leads = λ x is_x. subst (λ (z : Story). HasBroughtUp host (drive_failures start mid) memory (tale_of s) (tale_of z)) (some_is (shelf.story b) u x is_u is_x) booted.1;
           lines = record {

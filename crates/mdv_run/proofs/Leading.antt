@@ -7,10 +7,17 @@ use Rattle.mdv_shelf.specs.Story.{Effort}
 use Rattle.mdv_engine_law.specs.Efforts.{NoCalls, replied_to}
 use Rattle.mdv_shelf.specs.Area.{KeptOutside, nowhere}
 use Rattle.mdv_run.specs.Promise.{point_of}
-use Rattle.std.proofs.Common.{◌≡◌, ◌≤◌, inl, inr, ℕ, Bool, true, List, [], ◌++◌, Option, Some, refl, sym, ◌∙◌, ap, subst}
-use Rattle.mdv_run.specs.Below.{LineTooLong, Items, Script, at_end, spent, too_long, line, asked_before, IsItem, IsItemTurn, Item, TooLong, End, Spent, Tale, told, Answer, Reply, Host, Memory, IsTold, IsReplied, Kept, IsTurnedDown, kept_at, Replied, RunStatus, Panic, ReadFault, WriteFault, NoMemory, NumbersSpent, At, Counts, NextLine, OnDrive, OnReplies, RanTo, Stretch, IsAnswered, IsSame, contents}
+use Rattle.mdv_run_law.specs.Standing.{ComeOf, Context, NothingLeft, context_of}
+use Rattle.mdv_status.specs.Telling.{replies_in}
+use Rattle.mdv_store_law.specs.Machine.{AreAll}
+use Rattle.mdv_volumes.proofs.Lists.{all_both}
+use Rattle.mdv_volumes.specs.Happening.{IsIssue}
+use Rattle.mdv_volumes.specs.History.{Event}
+use Rattle.std.proofs.Common.{◌≡◌, ◌≤◌, inl, inr, ℕ, Bool, true, List, [], ◌∷◌, ◌++◌, Option, Some, refl, sym, ◌∙◌, ap, subst}
+use Rattle.mdv_run.specs.Below.{LineTooLong, Items, Script, at_end, spent, too_long, line, asked_before, IsItem, IsItemTurn, Item, TooLong, End, Spent, Tale, told, Answer, Reply, Host, IsLostOnSite, Memory, IsTold, IsReplied, Kept, IsTurnedDown, kept_at, Replied, RunStatus, NoQuorum, Panic, ReadFault, TwoDatabases, WriteFault, NoMemory, NumbersSpent, At, Counts, NextLine, OnDrive, OnReplies, RanTo, Stretch, IsAnswered, IsSame, contents}
 use Rattle.mdv_run_law.specs.Run.{AreInTime, EndsAt, FromTo, IsPassage, IsQuiet, Leads as LeadsOn, NextCalls, NextLeaves, NextWrites, giving_failed, OnlyReplying, OnlyUngiven, OnlyUnread, RoseCalmly, drive_failures, Over as IsOver, broken, ended as script_ended, unread, EndsAs, EndsWith, IsSaid, refused_by}
-use Rattle.mdv_engine_law.specs.Answers.{accepted, refusing}
+use Rattle.mdv_engine_law.specs.Answers.{EndsByReads, accepted, refusing}
+use Rattle.mdv_engine_law.specs.Standing.{IsOfRun}
 use Rattle.mdv_engine_law.specs.Replies.{HasReplyCause, IsLost, outcome_text, reply_at, reply_to, text_of}
 use Rattle.mdv_engine_law.specs.declared.answer.Answer.TheVariants.{Said, Over as Ends}
 use Rattle.mdv_engine_law.specs.declared.answer.Ended.{Ended}
@@ -20,7 +27,6 @@ use Rattle.mdv_engine_law.specs.declared.answer.Outcome.TheVariants as outcome
 use Rattle.mdv_engine_law.specs.declared.answer.Reply.TheVariants as reply
 use Rattle.mdv_run.specs.declared.session.Turn.{Turn}
 use Rattle.mdv_run.specs.declared.session.Turn.TheVariants.{On, Over}
-use Rattle.mdv_engine_law.specs.Line.{home_calls}
 use Rattle.mdv_run.specs.Promise.{IsUncut}
 use Rattle.mdv_run.specs.Turns.{LineAnswered, Leads, Point, Turns, at, turn_of, HasTurnCause, IsOn, IsLostTurn}
 use Rattle.std.proofs.lemmas.List.{append-nil}
@@ -117,10 +123,29 @@ ended_uncut : (end : Ended) (r : Reply) → r ≡ reply_at end → IsUncut r
 ended_uncut (ended.Lost active listed) r is told = absurd (cc (is, told))
 ended_uncut ended.Spent r is told = absurd (cc (is, told))
 ended_uncut ended.Memory r is told = absurd (cc (is, told))
+ended_uncut (ended.NoQuorum readable needed) r is told = absurd (cc (is, told))
+ended_uncut (ended.TwoDatabases a b) r is told = absurd (cc (is, told))
 
--- lines that ran to a place lead each history on that was known before them, whatever their events are
+-- each creation that the events of lines issue has the run's word
+module _ (host : Host) (last : Context) where
+  abbrev AreIssued : List Event → Type 0
+  AreIssued = AreAll (IsIssue (IsOfRun host))
+
+  none_issued : (es : List Event) → es ≡ [] → AreIssued es
+  none_issued es none = subst AreIssued (sym none) tt
+
+  lines_issued : (down : Context) (script : Script) (replies : List (List ℕ)) (es : List Event) → ComeOf host (NothingLeft last) down script replies es → AreIssued es
+  lines_issued down script [] es come = none_issued es come.0
+  lines_issued down at_end (reply ∷ replies) es come = none_issued es come.0
+  lines_issued down (spent lines bytes) (reply ∷ replies) es come = none_issued es come.0
+  lines_issued down (too_long more) (reply ∷ replies) es come = subst AreIssued (sym come.2) (all_both (IsIssue (IsOfRun host)) come.0 come.1 come.3.issues (lines_issued down more replies come.1 come.4))
+  lines_issued down (line text more) (reply ∷ replies) es come = subst AreIssued (sym come.2) (all_both (IsIssue (IsOfRun host)) come.0 come.1 come.4.does.issues (lines_issued come.3 more replies come.1 come.6))
+
+-- lines that ran to a place lead each history on that was known before them, by events of the run
 pub led_on : (host : Host) (script left : Script) (old new : Memory) (t u : Tale) → RanTo host script old new left t u → LeadsOn host old new t u
-led_on host script left old new t u ran = λ h known. let gone = ran.goes h known in record { es = gone.es; course = gone.course; come = tt; stands = gone.stands; after = gone.after }
+led_on host script left old new t u ran = λ h known. (
+    let gone = ran.goes h known in
+    record { es = gone.es; course = gone.course; come = lines_issued host (context_of new) (context_of old) script (replies_in ran.bytes) gone.es gone.come; stands = gone.stands; after = gone.after })
 
 -- what its answer says of the drives, where it was told whole, and of each history
 record Tells (host : Host) (from : At) (then : Point) (answer : Answer) (next : Kept) : Type 0 where
@@ -130,7 +155,7 @@ record Tells (host : Host) (from : At) (then : Point) (answer : Answer) (next : 
 
 -- how one turn leads on: its answer is the next line's, by whatever counts each drive failed as often
 module _ (host : Host) (from : At) (then : Point) (r : Reply) (rose : RoseInTurn from.counts then.counts r) (next : Kept) (more : Script) (before : Option Script) (before_is : before ≡ Some more) (answer : Answer)
-    (comes : (c : Counts) → RoseCalmly from.counts c → c.drives ≡ then.counts.drives → NextLine host from.counts from.kept from.script answer c next more) (calls : NextCalls (drive_failures from.counts then.counts) (replied_to answer (made_between from.effort then.effort)) host from.kept from.script answer next) (writes : FromTo (NextWrites host from.kept.memory from.script) from.story then.story) (piece : List ℕ)
+    (comes : (c : Counts) → RoseCalmly from.counts c → c.drives ≡ then.counts.drives → NextLine host from.counts from.kept from.script answer c next more) (calls : NextCalls (drive_failures from.counts then.counts) (replied_to answer (made_between from.effort then.effort)) host from.kept from.script answer next) (writes : FromTo (NextWrites host from.kept.memory from.script) from.story then.story) (unread_by : EndsByReads answer → FromTo (KeptOutside nowhere) from.story then.story) (piece : List ℕ)
     (passage : IsPassage from piece (at then next from.refused more))
   where
     line_on : IsReplied r → Tells host from then answer next → (any : Bool) → IsSaid answer → piece ≡ text_of answer → any ≡ refused_by answer from.refused → Leads host from piece then next before (On any)
@@ -159,32 +184,35 @@ module _ (host : Host) (from : At) (then : Point) (r : Reply) (rose : RoseInTurn
           in_time = subst (λ (o : Option Story). AreInTime from.counts from.story o) (sym ends.quiet) passage.in_time;
           calls = subst (λ (e : Effort). NextCalls (drive_failures from.counts then.counts) (replied_to answer (made_between from.effort e)) host from.kept from.script answer next) (sym ends.uncalled) calls;
           writes = λ s u is_s is_u. writes s u is_s (sym ends.quiet ∙ is_u);
+          unwritten = λ reads s u is_s is_u. unread_by reads s u is_s (sym ends.quiet ∙ is_u);
         }) with
 
 -- what a reply leads to, by its answer
 leads : (host : Host) (from : At) (then : Point) (r : Reply) → RoseInTurn from.counts then.counts r → (next : Kept) (more : Script) (before : Option Script) → before ≡ Some more → (answer : Answer) (piece : List ℕ)
-    → ((c : Counts) → RoseCalmly from.counts c → c.drives ≡ then.counts.drives → NextLine host from.counts from.kept from.script answer c next more) → NextCalls (drive_failures from.counts then.counts) (replied_to answer (made_between from.effort then.effort)) host from.kept from.script answer next → FromTo (NextWrites host from.kept.memory from.script) from.story then.story
+    → ((c : Counts) → RoseCalmly from.counts c → c.drives ≡ then.counts.drives → NextLine host from.counts from.kept from.script answer c next more) → NextCalls (drive_failures from.counts then.counts) (replied_to answer (made_between from.effort then.effort)) host from.kept from.script answer next → FromTo (NextWrites host from.kept.memory from.script) from.story then.story → (EndsByReads answer → FromTo (KeptOutside nowhere) from.story then.story)
     → IsPassage from piece (at then next from.refused more) → (IsReplied r → Tells host from then answer next)
     → IsTold (giving_failed from.counts then.counts) answer r piece → Leads host from piece then next before (turn_of r from.refused)
-leads host from then r rose next more before is (Said this) piece comes calls writes passage tells (inl whole) = subst (λ (x : Reply). Leads host from piece then next before (turn_of x from.refused)) (sym whole.0) (by this comes calls (tells on) whole.1) where
+leads host from then r rose next more before is (Said this) piece comes calls writes unread_by passage tells (inl whole) = subst (λ (x : Reply). Leads host from piece then next before (turn_of x from.refused)) (sym whole.0) (by this comes calls (tells on) whole.1) where
   on : IsReplied r
   on = replied_whole this r whole.0
 
   by : (this : Outcome) → ((c : Counts) → RoseCalmly from.counts c → c.drives ≡ then.counts.drives → NextLine host from.counts from.kept from.script (Said this) c next more) → NextCalls (drive_failures from.counts then.counts) (replied_to (Said this) (made_between from.effort then.effort)) host from.kept from.script (Said this) next → Tells host from then (Said this) next → piece ≡ outcome_text this → Leads host from piece then next before (turn_of (reply_to this) from.refused)
-  by outcome.Ok comes calls tells is_text = line_on host from then r rose next more before is (Said outcome.Ok) comes calls writes piece passage on tells from.refused tt is_text refl
-  by (outcome.Values text) comes calls tells is_text = line_on host from then r rose next more before is (Said (outcome.Values text)) comes calls writes piece passage on tells from.refused tt is_text refl
-  by (outcome.Refused refusal) comes calls tells is_text = line_on host from then r rose next more before is (Said (outcome.Refused refusal)) comes calls writes piece passage on tells true tt is_text refl
-leads host from then r rose next more before is (Said this) piece comes calls writes passage tells (inr cut) =
+  by outcome.Ok comes calls tells is_text = line_on host from then r rose next more before is (Said outcome.Ok) comes calls writes unread_by piece passage on tells from.refused tt is_text refl
+  by (outcome.Values text) comes calls tells is_text = line_on host from then r rose next more before is (Said (outcome.Values text)) comes calls writes unread_by piece passage on tells from.refused tt is_text refl
+  by (outcome.Refused refusal) comes calls tells is_text = line_on host from then r rose next more before is (Said (outcome.Refused refusal)) comes calls writes unread_by piece passage on tells true tt is_text refl
+leads host from then r rose next more before is (Said this) piece comes calls writes unread_by passage tells (inr cut) =
     subst (λ (x : Reply). Leads host from piece then next before (turn_of x from.refused)) (sym cut.given_is)
-    (over_by host from then r rose next more before is (Said this) comes calls writes piece passage (rose_told from.counts then.counts r rose) WriteFault (record { cause = cut.cause; count = cut.count; front = cut.front; ended = refl; keeps = refl }))
-leads host from then r rose next more before is (Ends end) piece comes calls writes passage tells told = subst (λ (x : Reply). Leads host from piece then next before (turn_of x from.refused)) (sym told.0) (by end comes calls) where
+    (over_by host from then r rose next more before is (Said this) comes calls writes unread_by piece passage (rose_told from.counts then.counts r rose) WriteFault (record { cause = cut.cause; count = cut.count; front = cut.front; ended = refl; keeps = refl }))
+leads host from then r rose next more before is (Ends end) piece comes calls writes unread_by passage tells told = subst (λ (x : Reply). Leads host from piece then next before (turn_of x from.refused)) (sym told.0) (by end comes calls unread_by) where
   only : then.counts ≡ carried_by from.counts then.counts
   only = same_carried from.counts then.counts (rose.given (ended_uncut end r told.0))
 
-  by : (end : Ended) → ((c : Counts) → RoseCalmly from.counts c → c.drives ≡ then.counts.drives → NextLine host from.counts from.kept from.script (Ends end) c next more) → NextCalls (drive_failures from.counts then.counts) (replied_to (Ends end) (made_between from.effort then.effort)) host from.kept from.script (Ends end) next → Leads host from piece then next before (turn_of (reply_at end) from.refused)
-  by (ended.Lost active listed) comes calls = over_by host from then r rose next more before is (Ends (ended.Lost active listed)) comes calls writes piece passage only (Panic active listed) (record { silent = told.1; ended = refl; keeps = refl })
-  by ended.Spent comes calls = over_by host from then r rose next more before is (Ends ended.Spent) comes calls writes piece passage only NumbersSpent (record { silent = told.1; ended = refl; keeps = refl })
-  by ended.Memory comes calls = over_by host from then r rose next more before is (Ends ended.Memory) comes calls writes piece passage only NoMemory (record { silent = told.1; ended = refl; keeps = refl })
+  by : (end : Ended) → ((c : Counts) → RoseCalmly from.counts c → c.drives ≡ then.counts.drives → NextLine host from.counts from.kept from.script (Ends end) c next more) → NextCalls (drive_failures from.counts then.counts) (replied_to (Ends end) (made_between from.effort then.effort)) host from.kept from.script (Ends end) next → (EndsByReads (Ends end) → FromTo (KeptOutside nowhere) from.story then.story) → Leads host from piece then next before (turn_of (reply_at end) from.refused)
+  by (ended.Lost active listed) comes calls unread_by = over_by host from then r rose next more before is (Ends (ended.Lost active listed)) comes calls writes unread_by piece passage only (Panic active listed) (record { silent = told.1; ended = refl; keeps = refl })
+  by ended.Spent comes calls unread_by = over_by host from then r rose next more before is (Ends ended.Spent) comes calls writes unread_by piece passage only NumbersSpent (record { silent = told.1; ended = refl; keeps = refl })
+  by ended.Memory comes calls unread_by = over_by host from then r rose next more before is (Ends ended.Memory) comes calls writes unread_by piece passage only NoMemory (record { silent = told.1; ended = refl; keeps = refl })
+  by (ended.NoQuorum readable needed) comes calls unread_by = over_by host from then r rose next more before is (Ends (ended.NoQuorum readable needed)) comes calls writes unread_by piece passage only (NoQuorum readable needed) (record { silent = told.1; ended = refl; keeps = refl })
+  by (ended.TwoDatabases a b) comes calls unread_by = over_by host from then r rose next more before is (Ends (ended.TwoDatabases a b)) comes calls writes unread_by piece passage only (TwoDatabases a b) (record { silent = told.1; ended = refl; keeps = refl })
 
 -- a line
 pub leads_line : (now then : Point) (r : Reply) → RoseInTurn now.counts then.counts r → (host : Host) (old new : Memory) (any : Bool) (s more : Script) (text : List ℕ) (before : Option Script) (t u : Tale) → Passes now then t u
@@ -197,6 +225,7 @@ leads_line now then r rose host old new any s more text before t u passes is nex
       (refl, up, subst (λ (f : ℕ → ℕ). IsAnswered (λ drive. failures_of (now.counts.drives drive) (f drive)) host (kept_at old t) text done.answer (kept_at new u)) (sym same) done.done))
       (subst (λ (x : Script). NextCalls (drive_failures now.counts then.counts) (replied_to done.answer (made_between now.effort then.effort)) host (kept_at old t) x done.answer (kept_at new u)) (sym is) done.calls)
       (from_to now then t u passes (NextWrites host old s) (subst (λ (x : Script). NextWrites host old x t u) (sym is) done.writes))
+      (λ reads. from_to now then t u passes (KeptOutside nowhere) (done.unread reads))
       (passage_of now then t u passes old new any s more done.replied.piece done.replied.is_told)
       (λ on. record {
         unwritten = λ quiet. from_to now then t u passes (KeptOutside nowhere) (done.unwritten on quiet);
@@ -216,6 +245,7 @@ leads_long now then r rose still host old any s more before t u passes is next d
       (λ c up same. subst (λ (x : Script). NextLine host now.counts (kept_at old t) x (refusing LineTooLong) c (kept_at old u) more) (sym is) (refl, up, λ drive. ap (λ (f : ℕ → ℕ). f drive) same ∙ still drive, down))
       (subst (λ (x : Script). NextCalls (drive_failures now.counts then.counts) (replied_to (refusing LineTooLong) (made_between now.effort then.effort)) host (kept_at old t) x (refusing LineTooLong) (kept_at old u)) (sym is) none)
       (from_to now then t u passes (NextWrites host old s) (subst (λ (x : Script). NextWrites host old x t u) (sym is) kept))
+      (λ reads. absurd reads)
       (passage_of now then t u passes old old any s more replied.piece replied.is_told)
       (λ on. record { unwritten = λ quiet. from_to now then t u passes (KeptOutside nowhere) kept; leaves = λ ok. absurd (cc (ok)); leads = from_to now then t u passes (LeadsOn host old old) (led on) }) replied.as_told;
 }
@@ -230,6 +260,8 @@ on_replied r any turn is on = by r (subst IsOn is on) where
   by reply.Spent on = on
   by reply.NoMemory on = on
   by reply.Told on = on
+  by (reply.NoQuorum readable needed) on = on
+  by (reply.TwoDatabases a b) on = on
 
 -- a turn with which the run is over, and nothing is told
 over_turn : (host : Host) (now then : Point) (memory : Memory) (any : Bool) (script : Script) (before : Option Script) (status : RunStatus) (t : Tale)
@@ -253,6 +285,8 @@ lost_reply (reply.Panic active listed) any lost = tt
 lost_reply reply.Spent any lost = tt
 lost_reply reply.NoMemory any lost = tt
 lost_reply reply.Told any lost = lost
+lost_reply (reply.NoQuorum readable needed) any lost = tt
+lost_reply (reply.TwoDatabases a b) any lost = tt
 
 -- one script is left
 pub same_left : {before : Option Script} (left other : Script) → before ≡ Some left → before ≡ Some other → other ≡ left
@@ -261,10 +295,12 @@ same_left left other one two = both (sym two ∙ one) where
   both is = cc
 
 -- the cause of a reply is that of its turn
-pub turn_cause : (host : Host) (now then : Counts) (r : Reply) (any : Bool) → HasReplyCause (home_calls host (drive_failures now then)).some (giving_failed now then) r → HasTurnCause host now then (turn_of r any)
+pub turn_cause : (host : Host) (now then : Counts) (r : Reply) (any : Bool) → HasReplyCause (IsLostOnSite (drive_failures now then) host) (giving_failed now then) r → HasTurnCause host now then (turn_of r any)
 turn_cause host now then reply.Ok any cause = tt
 turn_cause host now then (reply.Refused refusal) any cause = tt
-turn_cause host now then (reply.Panic active listed) any cause = (rose_of_once _ _ cause.0, cause.1, cause.2)
+turn_cause host now then (reply.Panic active listed) any cause = ((cause.0.line, cause.0.one_of, rose_of_once _ _ cause.0.here), cause.1)
 turn_cause host now then reply.Spent any cause = tt
 turn_cause host now then reply.NoMemory any cause = tt
 turn_cause host now then reply.Told any cause = rose_of_once _ _ cause
+turn_cause host now then (reply.NoQuorum readable needed) any cause = cause
+turn_cause host now then (reply.TwoDatabases a b) any cause = cause

@@ -1,8 +1,10 @@
 -- How the turns of a run add up.
-use Rattle.std.proofs.Common.{◌≡◌, ℕ, ◌+◌, ◌≤◌, ◌<◌, Bool, false, List, [], ◌++◌, length, Option, Some, refl, sym, ◌∙◌, ap, subst, append_assoc, arith}
+use Rattle.std.proofs.Common.{◌≡◌, ℕ, ◌+◌, ◌≤◌, ◌<◌, Bool, false, List, [], ◌++◌, length, Option, None, Some, IfSome, refl, sym, ◌∙◌, ap, subst, append_assoc, arith}
 use Rattle.std.proofs.lemmas.List.{append-nil, length-append}
 use Rattle.mdv_run.specs.Below.{Reader, Script, asked_before, asked_of, Tale, told, Moments, Ends, Host, Memory, kept_at, Knows, RunStatus, Done, SomeRefused, Usage, NoQuorum, Panic, ReadFault, WriteFault, NoMemory, TwoDatabases, ScriptTooLong, NumbersSpent, At, Counts, Kept, RoseTo, LineTold, LinesTold, Stretch, IsLastShown, IsShown, contents, HasStatusCause, LinesMoment, RanTo}
+use Rattle.mdv_run.specs.Below.{key_of}
 use Rattle.mdv_shelf.specs.Everywhere.{Image}
+use Rattle.mdv_store.specs.Opened.{IsOpenedAt, Opened}
 use Rattle.mdv_shelf.specs.Made.{made_between}
 use Rattle.mdv_shelf.specs.Story.{Effort}
 use Rattle.mdv_engine_law.specs.Efforts.{replied_to}
@@ -55,6 +57,11 @@ pub record SoFar (host : Host) (stretch : Stretch) (start here : Point) (first n
   pub moments : Moments (LinesMoment host (asked_of input) first) a b
   pub ran : Ends (RanTo host (asked_of input) first now left) a b
   pub went : Ends (λ t u. Knows host first t → Went host stretch start here first now any (asked_of input) left t u) a b
+
+-- what is known of the database that is open, and whose it is
+open_only : (host : Host) (t : Tale) (opened : Option Opened) → IfSome opened (λ o. (o.key ≡ key_of host) × IsOpenedAt host.drives o t) → IfSome opened (λ o. IsOpenedAt host.drives o t)
+open_only host t None is = tt
+open_only host t (Some o) is = is.1
 
 module _ (host : Host) (first : Memory) (input : List ℕ) (start : Point) where
   pub so_far_start : (stretch : Stretch) (before : Option Script) (a : Option Tale) → before ≡ Some (asked_of input) → SoFar host stretch start start first first false input before a a
@@ -144,7 +151,7 @@ module _ (host : Host) (first : Memory) (input : List ℕ) (start : Point) where
                 more = went.so_far ++ turn.piece;
                 is_told = turn.is_told ∙ ap (λ (l : List ℕ). l ++ turn.piece) went.is_told ∙ append_assoc (told t) went.so_far turn.piece;
                 last = kept_at new two.0;
-                left = record { content = λ drive block. refl; opened = λ not_lost. (two.2.knows not_lost (knows_so first_known)).opened };
+                left = record { content = λ drive block. refl; opened = λ not_lost. open_only host two.0 new.opened (two.2.knows not_lost (knows_so first_known)).opened };
                 runs = record { so_far = went.so_far; rest = turn.piece; parts = refl; at = at here (kept_at now one.0) any so_far.left; lines = still t one.0 is one.1 went; over = turn.leads other (length went.so_far) shows.ends (shows.last t one.0 two.0 is one.1 two.1 (length went.so_far) (until t one.0 went)) };
               },
         )
@@ -171,6 +178,7 @@ over_shown host stretch other bytes ends shows end now told status last (broken 
       in_time = subst (λ (o : Option Story). AreInTime now.counts now.story o) (sym ends.quiet) led.in_time;
       calls = subst (λ (e : Effort). NextCalls (drive_failures now.counts later) (replied_to answer (made_between now.effort e)) host now.kept now.script answer next) (sym ends.uncalled) led.calls;
       writes = λ s u is_s is_u. led.writes s u is_s (sym ends.quiet ∙ is_u);
+      unwritten = λ reads s u is_s is_u. led.unwritten reads s u is_s (sym ends.quiet ∙ is_u);
     }) with
 
 -- the same lines, by a stretch that begins earlier
@@ -198,7 +206,7 @@ cause_within host start now then end Done before behind cause = tt
 cause_within host start now then end SomeRefused before behind cause = tt
 cause_within host start now then end Usage before behind cause = cause
 cause_within host start now then end (NoQuorum readable needed) before behind cause = cause
-cause_within host start now then end (Panic active listed) before behind cause = (rose_within _ _ _ _ (before.drives host.home.drive.0) (behind.drives host.home.drive.0) cause.0, cause.1, cause.2)
+cause_within host start now then end (Panic active listed) before behind cause = ((cause.0.0, cause.0.1, rose_within _ _ _ _ (before.drives cause.0.0.at.drive.0) (behind.drives cause.0.0.at.drive.0) cause.0.2), cause.1)
 cause_within host start now then end ReadFault before behind cause = rose_within _ _ _ _ before.source behind.source cause
 cause_within host start now then end WriteFault before behind cause = rose_within _ _ _ _ before.replies behind.replies cause
 cause_within host start now then end NoMemory before behind cause = tt

@@ -1,22 +1,35 @@
 -- How many calls on the bench a run makes at most, by its script.
-use Rattle.std.specs.Prelude.{◌≡◌, ◌⊎◌, ◌≤◌, ◌+◌, ◌*◌, ℕ, List, length, Option, Some, None, Result}
-use Rattle.mdv_shelf.specs.Made.{Made}
-use Rattle.mdv_store_law.specs.Effort.{BroughtUpBy}
-use Rattle.mdv_store_law.specs.Site.{Newest}
+use Rattle.std.specs.Prelude.{◌≡◌, ◌⊎◌, ◌≤◌, ◌+◌, ◌*◌, ℕ, List, length, Option, Some, Result}
 use Rattle.mdv_shelf.specs.Calls.{RoseByAtMost}
-use Rattle.mdv_engine_law.specs.Efforts.{calls_of}
+use Rattle.mdv_engine_law.specs.Efforts.{places_on}
+use Rattle.mdv_engine_law.specs.Hosts.{lines_asked}
 use Rattle.mdv_items.specs.declared.gather.GatherFault.{GatherFault}
-use Rattle.mdv_run.specs.Below.{Host, Memory, IsItem, Script, at_end, spent, too_long, line, Spelled, Boot, IsLine}
+use Rattle.mdv_run.specs.Below.{Boot, Command, Create, Host, IsItem, IsLine, Read, Script, Spelled, Write, at_end, line, spent, too_long}
 use Rattle.mdv_run_law.specs.Run.{IsNoCommand}
+use Rattle.mdv_store.specs.BootCounts.{most_reads}
+use Rattle.mdv_store.specs.Create.{blanked_asked}
+use Rattle.mdv_words.specs.declared.command.Command.TheVariants as command
 use Rattle.mdv_words.specs.Line as words
 use Rattle.mdv_run.specs.declared.session.Turn.{Turn}
 use Rattle.mdv_run.specs.declared.session.Turn.TheVariants.{On, Over}
 
--- what a line takes, its reply among it: a boot two calls for each of the host's own drives, and twelve, and a block of entries its reply's
+-- what a boot takes: two calls for each of the host's own drives, those of its looks, and eight for each of fifty places
+abbrev pub boot_calls : Host → ℕ
+boot_calls host = 2 * length host.site.drives + most_reads host.site + 8 * 50
+
+-- What a command takes: a creation twelve for each place, and two more for each that is blanked before; a change six for each of fifty places; a read one, a write two, and a print none.
+abbrev pub command_calls : Host → Command → ℕ
+command_calls host (Create slices force count blocks) = 2 * blanked_asked (lines_asked host slices) count + 12 * places_on (lines_asked host slices) count
+command_calls host (command.MakeStripe volume slice) = 6 * 50
+command_calls host (Read volume at count) = 1
+command_calls host (Write volume at block) = 2
+command_calls host (command.Print names) = 0
+
+-- what a line takes, its reply among it: a block of entries its reply's alone
 abbrev pub line_calls : Host → Spelled → ℕ
-line_calls host Boot = 2 * length host.own + 12
+line_calls host Boot = boot_calls host + 1
 line_calls host (words.Tab lines) = 1
-line_calls host (words.Exec command) = 1 + calls_of command
+line_calls host (words.Exec command) = 1 + command_calls host command
 
 -- and a line by its text: one that isn't built is refused with one
 abbrev pub TextCalls : Host → List ℕ → ℕ → Type 0
@@ -47,15 +60,3 @@ pub record CallsLeft (host : Host) (before : Option Script) (old new : Option �
 abbrev pub TurnTook : Host → Turn → Option Script → Option ℕ → Option ℕ → ℕ → Type 0
 TurnTook host (On r) before old new n = CallsLeft host before old new n
 TurnTook host (Over status) before old new n = RoseByAtMost n old new
-
--- What a boot took that was answered and told, behind the calls that brought the host's drives up: eleven calls or twelve where it opened a database; and where it found
--- none one to four, and it wrote nothing then.
-abbrev pub PlaceTook : Made → ℕ → Option Newest → Type 0
-PlaceTook made brought (Some newest) = made.within (brought + 11) (brought + 12) 4097
-PlaceTook made brought None = made.within (brought + 1) (brought + 4) 0
-
--- and with those, of drives of which memory has which are up
-pub record OpenedTook (host : Host) (made : Made) (memory : Memory) : Type 0 where
-  pub brought : ℕ
-  pub by : BroughtUpBy host.own memory.up brought
-  pub place : PlaceTook made brought memory.opened

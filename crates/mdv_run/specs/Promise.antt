@@ -1,6 +1,6 @@
 -- What a run promises, of the whole bench and the whole source.
-use Rattle.std.specs.Prelude.{◌≡◌, ◌≢◌, ◌⊎◌, ◌↔◌, ◌≤◌, ◌<◌, ◌+◌, ◌*◌, ℕ, Bool, false, List, length, Option, Some}
-use Rattle.mdv_run.specs.Below.{Reader, Script, line, asked_before, asked_of, Tale, Reply, IsReplied, Host, Memory, Engine, Knows, IsWell, StaysHome, TellsFront, IsAnswered, IsToldBy, kept_at, RunStatus, NoMemory, Usage, Counts, Stretch, counts, HasStatusCause, IsWholeRun, RunMoment, LinesMoment, RanTo}
+use Rattle.std.specs.Prelude.{◌≡◌, ◌≢◌, ◌⊎◌, ◌↔◌, ◌≤◌, ◌<◌, ◌+◌, ℕ, Bool, false, List, Option, Some}
+use Rattle.mdv_run.specs.Below.{Reader, Script, line, asked_before, asked_of, Tale, Reply, IsReplied, Host, Memory, Engine, Knows, IsLostOnSite, IsWell, Site, StaysHome, own_view, site_of, TellsFront, IsAnswered, IsToldBy, kept_at, RunStatus, NoMemory, Usage, Counts, Stretch, counts, HasStatusCause, IsWholeRun, RunMoment, LinesMoment, RanTo}
 use Rattle.mdv_shelf.specs.Calls.{RoseByAtMost}
 use Rattle.mdv_shelf.specs.Shelves.{AtEachMoment, AtEachTale, AtEnd, DriveFailures, EndsTold, GivingFailed, GivingFailures, KeptInTime, RestsOnceTold}
 use Rattle.mdv_shelf.specs.Made.{Made, effort_of, made_of, tally_of}
@@ -9,17 +9,13 @@ use Rattle.mdv_shelf.specs.declared.shelf.Shelf.{Ghosts as Shelf}
 use Rattle.mdv_port.specs.declared.source.Source.{Ghosts as Source}
 use Rattle.mdv_run_law.specs.Told.{WorkWrites}
 use Rattle.mdv_run_law.specs.Usage.{IsUsed}
-use Rattle.mdv_base.specs.declared.drive.DriveNo.{DriveNo}
+use Rattle.mdv_base.specs.declared.name.Key.TheVariants.{Local}
 use Rattle.mdv_shelf.specs.Failing.{Outcomes}
-use Rattle.mdv_home.specs.Drives.{own_drives}
-use Rattle.mdv_home.specs.View.{own_view}
-use Rattle.mdv_home.specs.declared.geometry.Home.{Home}
 use Rattle.mdv_name.specs.declared.geometry.Geometry.{Geometry}
 use Rattle.mdv_run.specs.declared.session.Turn.{Turn}
-use Rattle.mdv_engine_law.specs.Line.{home_calls}
 use Rattle.mdv_engine_law.specs.Replies.{IsLost, HasReplyCause}
 use Rattle.mdv_engine_law.specs.declared.answer.Reply.TheVariants as reply
-use Rattle.mdv_run.specs.Calls.{ScriptCalls, TurnTook}
+use Rattle.mdv_run.specs.Calls.{ScriptCalls, TurnTook, boot_calls}
 use Rattle.mdv_run.specs.Turns.{LineAnswered, LinesFront, LinesRun, Point, TurnFront, Turns, at, HasTurnCause, IsOn, IsLostTurn}
 
 -- how often each part had failed by then
@@ -42,15 +38,20 @@ abbrev pub IsUntouched : {B I : Type 0} → B → I → B → I → Type 0
 IsUntouched old from new to = (new ≡ old) × (to ≡ from)
 
 -- what holds of each host whose words and table of drives these are, with a shelf of such drives
-abbrev pub OfEachUse : List (List ℕ) → List ℕ → List ℕ → (Geometry → Home → Type 0) → Type 0
-OfEachUse words text sizes P = (drives : Geometry) (home : Home) → IsUsed words text sizes drives home → P drives home
+abbrev pub OfEachUse : List (List ℕ) → List ℕ → List ℕ → (Geometry → List ℕ → Type 0) → Type 0
+OfEachUse words text sizes P = (drives : Geometry) (name : List ℕ) → IsUsed words text sizes drives name → P drives name
 
--- a use, and what of its table of drives a run begins with: what the host sees of it, and the host's own drives
-pub record IsStart (words : List (List ℕ)) (text sizes : List ℕ) (view : Geometry) (own : List DriveNo) (home : Home) : Type 0 where
+-- what the host sees of a table of drives, and where its replicas may lie
+pub record IsSeen (table : Geometry) (name : List ℕ) (view : Geometry) (site : Site) : Type 0 where
+  pub view_is : view ≡ own_view table name
+  pub site_is : site ≡ site_of view (Local name)
+
+-- a use, and what of its table of drives a run begins with
+pub record IsStart (words : List (List ℕ)) (text sizes : List ℕ) (view : Geometry) (site : Site) : Type 0 where
   pub table : Geometry
-  pub used : IsUsed words text sizes table home
-  pub view_is : view ≡ own_view table home.host
-  pub own_is : own ≡ own_drives table home.host
+  pub name : List ℕ
+  pub used : IsUsed words text sizes table name
+  pub seen : IsSeen table name view site
 
 -- A faulty use is told exactly where there is none of a host, but for want of memory; and where there is none, nothing was done.
 pub record IsUsageOf (None Untouched : Type 0) (status : RunStatus) : Type 0 where
@@ -63,8 +64,8 @@ pub record IsUnbegun {B I : Type 0} (old : B) (from : I) (new : B) (to : I) (sta
   pub untouched : IsUntouched old from new to
 
 -- The run of a host. Where bench and source tell what they hold, memory was wanting for the table of drives and nothing was done, or the
--- bytes told, the status and what is left are those that the script asks for; and at each moment the drive stands with its history so
--- far, and what was told by then is what the script asks for; nothing happens outside the host's area. Whatever they tell, a status that tells of a failure comes only where one came.
+-- bytes told, the status and what is left are those that the script asks for; and at each moment the drives stand with their history so
+-- far, and what was told by then is what the script asks for; nothing happens outside the host's area. Whatever they tell, a status has its cause.
 -- A boot and the lines of the script take no more calls than these do one by one.
 pub record HasRun {B I : Type 0} (shelf : Shelf B) (source : Source I) (host : Host) (old : B) (from : I) (new : B) (to : I) (status : RunStatus) : Type 0 where
   pub runs : (t : Tale) → shelf.tale old ≡ Some t → (input : List ℕ) → source.left from ≡ Some input
@@ -73,7 +74,7 @@ pub record HasRun {B I : Type 0} (shelf : Shelf B) (source : Source I) (host : H
   pub tells : (input : List ℕ) → source.left from ≡ Some input → AtEachMoment shelf (IsToldBy host (between shelf old new) (by shelf source old from) (asked_of input)) old new
   pub home : AtEachTale shelf (StaysHome host) old new
   pub causes : (status ≡ NoMemory) ⊎ HasStatusCause host (by shelf source old from) (by shelf source new to) status
-  pub counted : (input : List ℕ) → source.left from ≡ Some input → (n : ℕ) → ScriptCalls host (asked_of input) n → RoseByAtMost (2 * length host.own + 11 + n) (shelf.calls old) (shelf.calls new)
+  pub counted : (input : List ℕ) → source.left from ≡ Some input → (n : ℕ) → ScriptCalls host (asked_of input) n → RoseByAtMost (boot_calls host + n) (shelf.calls old) (shelf.calls new)
 
 -- the lines of a run behind its boot, which left this memory
 pub record HaveRun {B I : Type 0} (shelf : Shelf B) (source : Source I) (host : Host) (memory : Memory) (old : B) (from : I) (new : B) (to : I) (status : RunStatus) : Type 0 where
@@ -103,7 +104,7 @@ pub record TurnAnswer (now later : Counts) (host : Host) (engine : Engine) (befo
   pub cause : HasTurnCause host now later turn
   pub source : now.source ≤ later.source
   pub same : engine.host ≡ host
-  pub well : IsWell host engine.state
+  pub well : IsOn turn → IsWell host engine.state
   pub begun : engine.state.begun ≤ after.lines
   pub on : IsOn turn → (before.lines < after.lines) × (after.lines ≤ 1048576)
   pub counted : (script : Script) → asked_before before left ≡ Some script → (n : ℕ) → ScriptCalls host script n → TurnTook host turn (asked_before after rest) calls made n
@@ -168,18 +169,18 @@ pub record LineEnd (outcomes : Outcomes) (replies : Type 0) (made : Made) (host 
 abbrev pub LineEnds : {B : Type 0} → Shelf B → B → B → Host → List ℕ → Memory → Memory → Reply → Type 0
 LineEnds shelf bench on host text old new reply = AtEnd shelf (LineEnd (DriveFailures shelf bench on) (GivingFailed shelf bench on) (made_of shelf bench on) host text old new reply) bench on
 
--- what a reply says whatever the bench tells: its cause, by whether a call on the database's drive failed, what the engine is then, and how many calls were made
-pub record LineReply (drive replies : Type 0) (host : Host) (old : Memory) (Took : ℕ → Type 0) (calls made : Option ℕ) (engine : Engine) (reply : Reply) : Type 0 where
-  pub counted : (n : ℕ) → Took n → RoseByAtMost n calls made
-  pub cause : HasReplyCause drive replies reply
+-- what a reply says whatever the bench tells: its cause, by whether a call failed on the drive of a slice where the host's replicas may lie, what the engine is then, and how many calls were made
+pub record LineReply (calls : Outcomes) (replies : Type 0) (host : Host) (old : Memory) (Took : ℕ → Type 0) (before behind : Option ℕ) (engine : Engine) (reply : Reply) : Type 0 where
+  pub counted : (n : ℕ) → Took n → RoseByAtMost n before behind
+  pub cause : HasReplyCause (IsLostOnSite calls host) replies reply
   pub same : engine.host ≡ host
-  pub well : IsWell host engine.state
+  pub well : IsReplied reply → IsWell host engine.state
   pub begun : engine.state.begun ≤ old.begun + 1
 
 abbrev pub LineReplies : {B : Type 0} → Shelf B → Engine → B → B → (ℕ → Type 0) → Engine → Reply → Type 0
-LineReplies shelf old bench on Took new reply = LineReply (home_calls old.host (DriveFailures shelf bench on)).some (GivingFailed shelf bench on) old.host old.state Took (shelf.calls bench) (shelf.calls on) new reply
+LineReplies shelf old bench on Took new reply = LineReply (DriveFailures shelf bench on) (GivingFailed shelf bench on) old.host old.state Took (shelf.calls bench) (shelf.calls on) new reply
 
--- the reply to a line that boots, which takes two calls for each of the host's own drives, and twelve at most; and no call was made behind one on the same part that failed
+-- the reply to a line that boots, which takes no more calls than a boot, and one; and no call was made behind one on the same part that failed
 pub record BootReplies {B : Type 0} (shelf : Shelf B) (old : Engine) (bench on : B) (new : Engine) (reply : Reply) : Type 0 where
-  pub line : LineReplies shelf old bench on (λ n. n ≡ 2 * length old.host.own + 12) new reply
+  pub line : LineReplies shelf old bench on (λ n. n ≡ boot_calls old.host + 1) new reply
   pub kept : KeptInTime shelf bench on

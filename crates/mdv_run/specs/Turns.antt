@@ -1,8 +1,8 @@
 -- How the lines of a run follow one another.
 use Rattle.mdv_shelf.specs.Failing.{Outcomes}
 use Rattle.std.specs.Prelude.{◌≡◌, ℕ, Bool, true, List, ◌++◌, Option, Some}
-use Rattle.mdv_run.specs.Below.{Script, Tale, told, Answer, Reply, Host, Kept, Memory, kept_at, Replied, RunStatus, Panic, WriteFault, NoMemory, NumbersSpent, At, Counts, IsNextFront, LinesToldBy, LineTold, Runs, Stretch, IsAnswered, IsLeft, HasStatusCause}
-use Rattle.mdv_engine_law.specs.Answers.{accepted}
+use Rattle.mdv_run.specs.Below.{Script, Tale, told, Answer, Reply, Host, Kept, Memory, kept_at, Replied, RunStatus, NoQuorum, Panic, TwoDatabases, WriteFault, NoMemory, NumbersSpent, At, Counts, IsNextFront, LinesToldBy, LineTold, Runs, Stretch, IsAnswered, IsLeft, HasStatusCause}
+use Rattle.mdv_engine_law.specs.Answers.{EndsByReads, accepted}
 use Rattle.mdv_engine_law.specs.Replies.{IsReplied}
 use Rattle.mdv_run_law.specs.Run.{IsQuiet}
 use Rattle.mdv_shelf.specs.Area.{KeptOutside, nowhere}
@@ -16,13 +16,14 @@ use Rattle.mdv_run.specs.declared.session.Turn.{Turn}
 use Rattle.mdv_run.specs.declared.session.Turn.TheVariants.{On, Over}
 
 -- a line that was carried out and replied to, with so many calls, of which those on drives came out so and the giving of its reply may have failed, and the blocks
--- that it may write; none, where it is refused for another cause than a failed call and told so; and what it leaves that was told `ok`
+-- that it may write; none, where it is refused for another cause than a failed call and told so, nor where a boot ended the run by what it read; and what it leaves that was told `ok`
 pub record LineAnswered (outcomes : Outcomes) (replies : Type 0) (made : Made) (host : Host) (text : List ℕ) (old new : Memory) (reply : Reply) (t u : Tale) : Type 0 where
   pub answer : Answer
   pub done : IsAnswered outcomes host (kept_at old t) text answer (kept_at new u)
   pub calls : TextCalls outcomes (replied_to answer made) host (kept_at old t) text answer (kept_at new u)
   pub writes : TextWrites host old text t u
   pub unwritten : IsReplied reply → IsQuiet answer → KeptOutside nowhere t u
+  pub unread : EndsByReads answer → KeptOutside nowhere t u
   pub leaves : IsReplied reply → answer ≡ accepted → TextLeaves outcomes host old text u
   pub replied : Replied replies answer reply t u
 
@@ -34,6 +35,8 @@ turn_of (reply.Panic active listed) any = Over (Panic active listed)
 turn_of reply.Spent any = Over NumbersSpent
 turn_of reply.NoMemory any = Over NoMemory
 turn_of reply.Told any = Over WriteFault
+turn_of (reply.NoQuorum readable needed) any = Over (NoQuorum readable needed)
+turn_of (reply.TwoDatabases a b) any = Over (TwoDatabases a b)
 
 -- the run is over so with this turn
 abbrev pub IsLostTurn : Turn → Type 0

@@ -1,38 +1,39 @@
-ghost use Rattle.std.specs.Prelude.{◌≡◌, Err, IfOk, ◌<◌, ◌≤◌, ◌+◌, ◌^◌, ◌↔◌, ℕ, List, [], ◌∷◌, length, map, string_bytes, Some, IsTrue};
-ghost use Rattle.mdv_shelf.specs.Made.{made_of};
+ghost use Rattle.std.specs.Prelude.{◌≡◌, Err, IfOk, ◌<◌, ◌≤◌, ◌+◌, ◌^◌, ℕ, List, length, map, string_bytes, Some};
 ghost use Rattle.mdv_shelf.specs.Shelves.{AtEachTale, Kept, KeptInTime};
 ghost use Rattle.mdv_port.specs.Script.{Script, line as line_of};
 ghost use Rattle.mdv_items.specs.Items.{IsItem, asked_before};
-ghost use Rattle.mdv_home.specs.declared.geometry.Home.{Home};
 ghost use Rattle.mdv_words.specs.Line.{Boot, IsLine, tab_text};
-ghost use Rattle.mdv_engine_law.specs.Home.{IsReady};
-ghost use Rattle.mdv_engine_law.specs.Replies.{IsReplied};
+ghost use Rattle.mdv_engine_law.specs.Hosts.{IsReady};
 ghost use Rattle.mdv_engine.specs.Engine.{IsWell};
 ghost use Rattle.mdv_name.specs.declared.geometry.Geometry.{Geometry};
 ghost use Rattle.mdv_name.specs.Geometry.{IsGeometry as IsTable};
+ghost use Rattle.mdv_name.specs.Sound.{IsSound};
 ghost use Rattle.mdv_run_law.specs.Lives.{host_of};
 ghost use Rattle.mdv_run_law.specs.Run.{status_at, status_of};
 ghost use Rattle.mdv_run_law.specs.Standing.{LinesMoment};
-ghost use Rattle.mdv_run.specs.Calls.{ItemCalls, OpenedTook, TextCalls};
-ghost use Rattle.mdv_run.specs.Promise.{BootReplies, HasRun, HaveRun, IsStart, IsUncut, IsUntouched, IsUsageOf, LineEnds, LineReplies, LineStaysAs, LinesStay, OfEachUse, TurnAnswers, TurnEnds, TurnStays};
-ghost use Rattle.mdv_run.specs.Turns.{IsOn, turn_of as spec_turn_of};
+ghost use Rattle.mdv_run.specs.Calls.{ItemCalls, TextCalls};
+ghost use Rattle.mdv_run.specs.Promise.{BootReplies, HasRun, HaveRun, IsSeen, IsStart, IsUntouched, IsUsageOf, LineEnds, LineReplies, LineStaysAs, LinesStay, OfEachUse, TurnAnswers, TurnEnds, TurnStays};
+ghost use Rattle.mdv_run.specs.Turns.{turn_of as spec_turn_of};
 
-use mdv_base::{Failed, Refusal};
+use mdv_base::{Failed, Key, Name, Refusal};
 use mdv_engine::Engine;
 use mdv_engine_law::{Ended, Host, Reply, reply_at};
-use mdv_home::{Home, OwnDrives, has_drives, home_in};
+use mdv_home::{OwnDrives, has_drives, host_in};
 use mdv_items::{GatherFault, ItemEnd, ItemReader};
 use mdv_name::{Geometry, GeometryFault};
 use mdv_port::Source;
 use mdv_run_law::RunStatus;
 use mdv_shelf::Bench;
+use mdv_shown::{Site, site_of};
 use mdv_words::{Line, WordsFault, read_line};
 use std::alloc::Global;
 
 /// Runs one host: it boots from its drives, then answers the lines of the script one by one. The words
-/// are the host's name alone, which the table of drives has; of the slices on the drives that are the host's own exactly one
-/// is marked `db`, and no other slice overlaps it. The blocks of all other drives stay as they are. `fresh` has to differ between runs: it is part of the
-/// identity of each database that the run makes. Memory is taken for the table of drives and by boots, without which
+/// are the host's name alone, which the table of drives has. On the slices of the host's own drives that are marked `db`
+/// the replicas of its database may lie: there may be none, one or many of them, and one that shares a block with another or has fewer than
+/// 32 blocks is passed over. No call is made on drives that aren't the host's own, and their blocks stay as they are.
+/// `fresh` has to differ between the runs of one host: it is part of the identity of each database that the run makes, and a boot takes
+/// databases of one identity for one and the same. Memory is taken for the table of drives and by boots, without which
 /// the run ends, and to read lines and blocks and by commands, which are refused without it.
 #[tactic(auto, using(mdv_shelf::proofs::Noted::kept_more))]
 pub fn run<B: Bench, I: Source>(
@@ -55,8 +56,7 @@ pub fn run<B: Bench, I: Source>(
         Ok(start) => {
             let host = Host {
                 drives: start.drives,
-                own: start.own,
-                home: start.home,
+                site: start.site,
                 fresh,
             };
             run_host(host, start.alloc, bench, script)
@@ -88,19 +88,20 @@ fn over(end: Ended) -> RunStatus
     ensures { result ≡ status_at end }
 {
     match end {
+        Ended::NoQuorum { readable, needed } => RunStatus::NoQuorum { readable, needed },
+        Ended::TwoDatabases { a, b } => RunStatus::TwoDatabases { a, b },
         Ended::Lost { active, listed } => RunStatus::Panic { active, listed },
         Ended::Spent => RunStatus::NumbersSpent,
         Ended::Memory => RunStatus::NoMemory,
     }
 }
 
-// What a run begins with: what the host sees of the table of drives, which of them are its own, and its home.
+// What a run begins with: what the host sees of the table of drives, and where its replicas may lie.
 #[derive(Drop)]
 struct Start {
     alloc: Global,
     drives: Geometry,
-    own: OwnDrives,
-    home: Home,
+    site: Site,
 }
 
 // Why no run begins.
@@ -112,7 +113,7 @@ enum Unusable {
 // What a run begins with, where the words and the table of drives are of their form and fit each other and the
 // drives.
 fn usable<B: Bench>(words: &[String], table: &[u8], bench: &B) -> Result<Start, Unusable>
-    ensures value { IfOk result (λ used. IsStart (map string_bytes words.now) table.now (B.sizes bench.now) used.drives used.own used.home) }
+    ensures value { IfOk result (λ used. IsStart (map string_bytes words.now) table.now (B.sizes bench.now) used.drives used.site) }
     ensures none { result ≡ Err Unusable.Usage → OfEachUse (map string_bytes words.now) table.now (B.sizes bench.now) (λ _ _. ⊥) }
 {
     let [host] = words else {
@@ -120,19 +121,30 @@ fn usable<B: Bench>(words: &[String], table: &[u8], bench: &B) -> Result<Start, 
     };
     let alloc = *host.allocator();
     let table = read_table(alloc, table)?;
-    let Some(home) = home_in(&table, host.as_bytes()) else {
+    let Some(name) = host_in(table.hosts.as_slice(), host.as_bytes()) else {
         return Err(Unusable::Usage);
     };
     if !has_drives(bench, &table) {
         return Err(Unusable::Usage);
     }
-    let own = OwnDrives::of(&table, host.as_bytes());
-    match own.view_of(alloc, table) {
-        Ok(drives) => Ok(Start {
+    seen_by(alloc, name, table)
+}
+
+// What the host of this name sees of the table, and where its replicas may lie.
+fn seen_by(alloc: Global, name: Name, table: Geometry) -> Result<Start, Unusable>
+    requires { IsSound table }
+    ensures value { IfOk result (λ used. IsSeen table name used.drives used.site) }
+    ensures never { result ≡ Err Unusable.Usage → ⊥ }
+{
+    let own = OwnDrives::of(&table, name.as_bytes());
+    let Ok(drives) = own.view_of(alloc, table) else {
+        return Err(Unusable::Memory);
+    };
+    match site_of(alloc, &drives, Key::Local(name)) {
+        Ok(site) => Ok(Start {
             alloc,
             drives,
-            own,
-            home,
+            site,
         }),
         Err(_) => Err(Unusable::Memory),
     }
@@ -282,7 +294,6 @@ fn boot_anew<B: Bench>(engine: &mut Engine, alloc: Global, bench: &mut B) -> Rep
     ensures end { (text : List ℕ) → IsLine text Boot → LineEnds B.Shelf bench.old bench.new engine.old.host text engine.old.state engine.new.state result }
     ensures stays { LinesStay B.Shelf engine.old (λ text. text) (λ text. IsLine text Boot) bench.old bench.new result }
     ensures answer { BootReplies B.Shelf engine.old bench.old bench.new engine.new result }
-    ensures opens { IsReplied result → OpenedTook engine.old.host (made_of B.Shelf bench.old bench.new) engine.new.state }
 {
     match engine.reboot(bench, alloc) {
         Ok(()) => engine.accept(bench),
@@ -299,6 +310,11 @@ fn turn_of(reply: Reply, any_refused: bool) -> Turn
             refused: any_refused,
         },
         Reply::Refused(_) => Turn::On { refused: true },
+        Reply::NoQuorum { readable, needed } => Turn::Over(RunStatus::NoQuorum {
+            readable,
+            needed,
+        }),
+        Reply::TwoDatabases { a, b } => Turn::Over(RunStatus::TwoDatabases { a, b }),
         Reply::Panic { active, listed } => Turn::Over(RunStatus::Panic { active, listed }),
         Reply::Spent => Turn::Over(RunStatus::NumbersSpent),
         Reply::NoMemory => Turn::Over(RunStatus::NoMemory),

@@ -1,7 +1,7 @@
 -- What the events of runs begin was asked by their lines, and what they tell their replies tell, in the same order.
 use Rattle.std.proofs.lemmas.List.{append-nil}
 use Rattle.std.proofs.Common.{◌≡◌, inl, inr, ℕ, List, [], ◌∷◌, ◌++◌, Some, refl, sym, ◌∙◌, ap, subst}
-use Rattle.mdv_run_law.specs.Below.{Geometry, Home, Script, at_end, spent, too_long, line, left_in, replies_in, Deed, Event, Host, issuable, issuable_front, issued_by, told_by}
+use Rattle.mdv_run_law.specs.Below.{Geometry, Script, at_end, spent, too_long, line, left_in, replies_in, Deed, Event, Host, issuable, issuable_front, issued_by, told_by}
 use Rattle.mdv_store_law.specs.Part.{IsPart}
 use Rattle.mdv_store_law.proofs.Parts.{part_more}
 use Rattle.mdv_volumes.specs.Happening as history
@@ -93,31 +93,31 @@ ended_answers Asked Said run end between answers = record {
 }
 
 -- those of a run
-run_answers : (host : Host) (script : Script) (bytes : List ℕ) (es : List Event) → AreOfRun host script bytes es → Answers (AreBegun host script (replies_in bytes) (left_in bytes)) (AreTold host script (replies_in bytes) (left_in bytes)) es
+pub run_answers : (host : Host) (script : Script) (bytes : List ℕ) (es : List Event) → AreOfRun host script bytes es → Answers (AreBegun host script (replies_in bytes) (left_in bytes)) (AreTold host script (replies_in bytes) (left_in bytes)) es
 run_answers host script bytes es run =
     let lines = come_answers host (left_in bytes) (Some []) script (replies_in bytes) run.lines run.come in
     answers_both (AreBegun host script (replies_in bytes) (left_in bytes)) (AreTold host script (replies_in bytes) (left_in bytes)) es run.boot run.lines [] lines.asked [] lines.said run.both lines.are_asked lines.are_said
     run.idle.begins lines.begins run.idle.tells lines.tells
 
--- what a run may have begun, and what it told, of the host with this home: nothing, where it is another host's
-abbrev BegunBy : Geometry → Home → Ran → List Deed → Type 0
-BegunBy drives home ran asked = OfHost home ran (AreBegun (host_of drives home ran.fresh) ran.script (replies_in ran.bytes) (left_in ran.bytes) asked) (asked ≡ [])
+-- what a run may have begun, and what it told, of this host: nothing, where it is another host's
+abbrev BegunBy : Geometry → List ℕ → Ran → List Deed → Type 0
+BegunBy drives name ran asked = OfHost name ran (AreBegun (host_of drives name ran.fresh) ran.script (replies_in ran.bytes) (left_in ran.bytes) asked) (asked ≡ [])
 
-abbrev ToldBy : Geometry → Home → Ran → List Deed → Type 0
-ToldBy drives home ran said = OfHost home ran (AreTold (host_of drives home ran.fresh) ran.script (replies_in ran.bytes) (left_in ran.bytes) said) (said ≡ [])
+abbrev ToldBy : Geometry → List ℕ → Ran → List Deed → Type 0
+ToldBy drives name ran said = OfHost name ran (AreTold (host_of drives name ran.fresh) ran.script (replies_in ran.bytes) (left_in ran.bytes) said) (said ≡ [])
 
-host_answers : (drives : Geometry) (home : Home) (ran : Ran) (es : List Event) → OfHost home ran (AreOfRun (host_of drives home ran.fresh) ran.script ran.bytes es) (es ≡ []) → Answers (BegunBy drives home ran) (ToldBy drives home ran) es
-host_answers drives home ran es (inl (same, run)) =
-    let answers = run_answers (host_of drives home ran.fresh) ran.script ran.bytes es run in
+host_answers : (drives : Geometry) (name : List ℕ) (ran : Ran) (es : List Event) → OfHost name ran (AreOfRun (host_of drives name ran.fresh) ran.script ran.bytes es) (es ≡ []) → Answers (BegunBy drives name ran) (ToldBy drives name ran) es
+host_answers drives name ran es (inl (same, run)) =
+    let answers = run_answers (host_of drives name ran.fresh) ran.script ran.bytes es run in
     record { asked = answers.asked; are_asked = inl (same, answers.are_asked); begins = answers.begins; said = answers.said; are_said = inl (same, answers.are_said); tells = answers.tells }
-host_answers drives home ran es (inr (differ, none)) = none_answers (BegunBy drives home ran) (ToldBy drives home ran) es (inr (differ, refl)) (inr (differ, refl)) none
+host_answers drives name ran es (inr (differ, none)) = none_answers (BegunBy drives name ran) (ToldBy drives name ran) es (inr (differ, refl)) (inr (differ, refl)) none
 
 -- the same of runs
-pub runs_answer : (drives : Geometry) (home : Home) (ran : List Ran) (es : List Event) → AreOfRuns drives home ran es → Answers (AreAsked drives home ran) (AreSaid drives home ran) es
-runs_answer drives home [] es none = none_answers (AreAsked drives home []) (AreSaid drives home []) es refl refl none
-runs_answer drives home (ran ∷ before) es are =
-    let old = runs_answer drives home before are.0 are.4 in
-    let new = ended_answers (BegunBy drives home ran) (ToldBy drives home ran) are.1 are.2 are.6 (host_answers drives home ran are.1 are.5) in
-    answers_both (AreAsked drives home (ran ∷ before)) (AreSaid drives home (ran ∷ before)) es are.0 (are.1 ++ are.2) old.asked new.asked old.said new.said are.3
+pub runs_answer : (drives : Geometry) (name : List ℕ) (ran : List Ran) (es : List Event) → AreOfRuns drives name ran es → Answers (AreAsked drives name ran) (AreSaid drives name ran) es
+runs_answer drives name [] es none = none_answers (AreAsked drives name []) (AreSaid drives name []) es refl refl none
+runs_answer drives name (ran ∷ before) es are =
+    let old = runs_answer drives name before are.0 are.4 in
+    let new = ended_answers (BegunBy drives name ran) (ToldBy drives name ran) are.1 are.2 are.6 (host_answers drives name ran are.1 are.5) in
+    answers_both (AreAsked drives name (ran ∷ before)) (AreSaid drives name (ran ∷ before)) es are.0 (are.1 ++ are.2) old.asked new.asked old.said new.said are.3
     (old.asked, old.are_asked, new.asked, new.are_asked, refl) (old.said, old.are_said, new.said, new.are_said, refl)
     old.begins new.begins old.tells new.tells

@@ -1,21 +1,21 @@
 -- A boot, as a line of the script and as the start of a run.
 use Rattle.std.proofs.Common.{◌≡◌, inl, inr, ℕ, List, [], ◌∷◌, ◌++◌, Some, Contains, refl, sym, ◌∙◌, ap, subst, arith}
 use Rattle.std.proofs.lemmas.List.{append-nil}
-use Rattle.mdv_run_law.specs.Below.{Drives, Entry, Script, line, ok_line, Tale, told, Said, left_in, replies_in, Boot, IsLine, History, Deed, Created, Event, history_after, history_after_all, Happening, HasBooted, Host, key_of, site_of, Nothing, ToBoot, Memory, Acks, AcksIn, issuable, issuable_in, issuable_of, StandsAt, IsKnown, BootMoment, BootedTo, TurnMoment, Turned}
+use Rattle.mdv_run_law.specs.Below.{Drives, Entry, Script, line, ok_line, Tale, told, Said, left_in, replies_in, Boot, IsLine, History, Deed, Created, Event, history_after, history_after_all, Happening, HasBooted, Host, key_of, site_area, Nothing, ToBoot, Memory, Acks, AcksIn, AreOwn, Reached, StaysHome, issuable, issuable_in, issuable_of, StandsAt, IsKnown, BootMoment, BootedTo, TurnMoment, Turned}
 use Rattle.mdv_store_law.proofs.Machine.{after_more, course_more}
-use Rattle.mdv_engine_law.proofs.Booting.{booted_first, booting_still}
+use Rattle.mdv_engine_law.proofs.Booting.{booted_first}
 use Rattle.mdv_engine_law.proofs.Plain.{nothing_answers, nothing_said, nothing_acked, nothing_issuable}
 use Rattle.mdv_engine_law.proofs.Going.{goes_more}
 use Rattle.mdv_store_law.proofs.Parts.{part_itself}
-use Rattle.mdv_engine_law.proofs.Staying.{stays_in_replica, stays_more, stays_same}
-use Rattle.mdv_shelf.specs.Area.{nowhere}
-use Rattle.mdv_shelf.proofs.Frame.{kept_outside_more, kept_outside_same}
-use Rattle.mdv_store_law.specs.Site.{area_of}
-use Rattle.mdv_engine_law.specs.Home.{StaysHome}
+use Rattle.mdv_volumes.specs.History.{Boots}
+use Rattle.mdv_volumes.proofs.Lists.{contains_first}
+use Rattle.mdv_engine_law.proofs.Staying.{stays_more, stays_on_site, stays_same}
+use Rattle.mdv_shelf.proofs.Frame.{kept_outside_more}
 use Rattle.mdv_engine_law.specs.Standing as turn
-use Rattle.mdv_run_law.specs.Standing.{AsksBy, AreIdle, AreOfRun, ComeOf, Context, InWork, IsTold, behind, LinesMoment, RanTo, RunMoment}
+use Rattle.mdv_run_law.specs.Standing.{AsksBy, AreIdle, AreOfRun, ComeOf, Context, Goes, InWork, IsTold, behind, LinesMoment, RanTo, RunMoment}
 use Rattle.mdv_run_law.proofs.Coming.{behind_none, told_none, in_work_none}
-use Rattle.mdv_run_law.proofs.Turning.{front_come, front_told, none_acked, only_reply, reply_come, reply_replies, reply_told}
+use Rattle.mdv_run_law.proofs.Made.{run_shows}
+use Rattle.mdv_run_law.proofs.Turning.{front_come, none_acked, only_reply, reply_come, reply_replies}
 
 module _ (host : Host) where
   never : (done : List Deed) → done ≡ [] → Contains done (Created (key_of host)) → ⊥
@@ -37,7 +37,7 @@ module _ (host : Host) where
   -- while the host boots nothing is told
   pub boot_turn : (old : Memory) (t m : Tale) → BootMoment host t m → TurnMoment host ToBoot old t m
   boot_turn old t m moment = record {
-    home = stays_in_replica host t m moment.kept;
+    home = stays_on_site host t m moment.kept;
     within = moment.kept;
     bytes = [];
     is_told = moment.quiet ∙ sym (append-nil (told t));
@@ -50,14 +50,17 @@ module _ (host : Host) where
         subst (λ (may : List Deed). turn.Goes host may [] turn.Reached m h) (sym (nothing_issuable ToBoot)) (record { es = went.es; course = went.course; come = went.come; stands = went.stands; after = tt });
   }
 
-  module _ (old new : Memory) (t u : Tale) (booted : BootedTo host new t u) where
+  module _ (old new : Memory) (t u : Tale) (booted : BootedTo host new t u) (begun : new.begun ≡ old.begun) where
+    own_too : (h : History) → IsKnown host old h t → AreOwn host new.begun h
+    own_too h known = subst (λ (n : ℕ). AreOwn host n h) (sym begun) known.its
+
     told_both : (m : Tale) (bytes : List ℕ) → told m ≡ told u ++ bytes → told m ≡ told t ++ bytes
     told_both m bytes more = more ∙ ap (λ (l : List ℕ). l ++ bytes) booted.quiet
 
     -- the events of a boot, and those of a turn behind it
-    booted_both : (done asks : List Deed) (After : List Event → History → Type 0) (m : Tale) (h : History) → StandsAt host h t → ((g : History) → IsKnown host new g u → turn.Goes host asks done After m g) → turn.Goes host asks done (λ es after. HasBooted (key_of host) new.up es × ((fs : List Event) × After fs after)) m h
-    booted_both done asks After m h stands then_goes =
-        goes_more host [] asks asks [] done (λ es g. IsKnown host new g u × HasBooted (key_of host) new.up es) (λ es after. HasBooted (key_of host) new.up es × ((fs : List Event) × After fs after)) u m h (part_itself asks) (booted.goes h stands)
+    booted_both : (done asks : List Deed) (After : List Event → History → Type 0) (m : Tale) (h : History) → IsKnown host old h t → ((g : History) → IsKnown host new g u → turn.Goes host asks done After m g) → turn.Goes host asks done (λ es after. HasBooted (key_of host) new.up es × ((fs : List Event) × After fs after)) m h
+    booted_both done asks After m h known then_goes =
+        goes_more host [] asks asks [] done (λ es g. IsKnown host new g u × HasBooted (key_of host) new.up es) (λ es after. HasBooted (key_of host) new.up es × ((fs : List Event) × After fs after)) u m h (part_itself asks) (booted.goes h known.stands (own_too h known))
         (λ es g there before. (
         let went = then_goes g before.0 in record { es = went.es; course = went.course; come = went.come; stands = went.stands; after = (booted_first (key_of host) new.up es went.es before.1, (went.es, went.after)) }
         ))
@@ -70,8 +73,8 @@ module _ (host : Host) where
     booted_turn m moment =
         let none = none_acked moment.bytes moment.done moment.acks in
         record {
-          home = stays_more host t u m (stays_in_replica host t u booted.kept) moment.home;
-          within = kept_outside_more (area_of (site_of host)) t u m booted.kept (λ drive block out. moment.within drive block refl);
+          home = stays_more host t u m (stays_on_site host t u booted.kept) moment.home;
+          within = kept_outside_more (site_area host.site) t u m booted.kept (λ drive block out. moment.within drive block refl);
           bytes = moment.bytes;
           is_told = told_both m moment.bytes moment.is_told;
           front = moment.front;
@@ -79,7 +82,7 @@ module _ (host : Host) where
           acks = boot_acks moment.bytes moment.done moment.acks;
           free = λ has. absurd (never moment.done none has);
           goes = λ h known.
-              let both = booted_both moment.done (issuable_of ToBoot moment.bytes) turn.Reached m h known.stands (λ g known. boot_goes m moment g known) in
+              let both = booted_both moment.done (issuable_of ToBoot moment.bytes) turn.Reached m h known (λ g known. boot_goes m moment g known) in
               record { es = both.es; course = both.course; come = both.come; stands = both.stands; after = tt };
         }
 
@@ -91,10 +94,9 @@ module _ (host : Host) where
         record {
           bytes = moment.bytes;
           is_told = told_both m moment.bytes moment.is_told;
-          home = stays_more host t u m (stays_in_replica host t u booted.kept) moment.home;
-          made = λ known told. absurd (never moment.done (none_acked moment.bytes moment.done moment.acks) (front_told host text ToBoot more moment.bytes asks moment.front moment.done acks told));
+          home = stays_more host t u m (stays_on_site host t u booted.kept) moment.home;
           goes = λ h known.
-              let both = booted_both moment.done (issuable_of ToBoot moment.bytes) turn.Reached m h known.stands (λ g known. boot_goes m moment g known) in
+              let both = booted_both moment.done (issuable_of ToBoot moment.bytes) turn.Reached m h known (λ g known. boot_goes m moment g known) in
               record { es = both.es; course = both.course; come = front_come host text ToBoot more old moment.bytes asks moment.front moment.done acks both.es both.come (λ boot ok. (new.up, both.after.0)); stands = both.stands; after = tt };
         }
 
@@ -107,11 +109,10 @@ module _ (host : Host) where
           is_told = told_both v turned.bytes turned.is_told;
           replies = reply_replies turned.bytes turned.reply;
           left_is = ap (behind (line text more)) (only_reply turned.bytes turned.reply) ∙ behind_none more;
-          home = stays_more host t u v (stays_in_replica host t u booted.kept) home;
+          home = stays_more host t u v (stays_on_site host t u booted.kept) home;
           knows = λ known. turned.knows booted.knows;
-          made = λ known told. absurd (never turned.done turned.acks (reply_told host text ToBoot more turned.bytes asks turned.reply turned.done turned.acks told));
           goes = λ h known.
-              let both = booted_both turned.done (issuable ToBoot turned.bytes) (λ es after. IsKnown host new after v) v h known.stands (λ g known. turned.goes g known) in
+              let both = booted_both turned.done (issuable ToBoot turned.bytes) (λ es after. IsKnown host new after v) v h known (λ g known. turned.goes g known) in
               record {
                 es = both.es;
                 course = both.course;
@@ -131,7 +132,6 @@ module _ (host : Host) where
         bytes = [];
         is_told = turned.is_told;
         home = turned.home;
-        made = λ known told. absurd (never [] refl (front_told host text ToBoot more [] asks turned.front [] turned.acks told));
         goes = λ h known.
             let went = turned.goes h known in
             record { es = went.es; course = went.course; come = front_come host text ToBoot more old [] asks turned.front [] turned.acks went.es went.come (λ boot ok. absurd (no_bytes ok)); stands = went.stands; after = tt };
@@ -155,26 +155,27 @@ module _ (host : Host) where
     nothing_told : (deed : Deed) → IsTold host script (replies_in []) deed → ⊥
     nothing_told deed is = told_none host script deed (subst (λ (l : List (List ℕ)). IsTold host script l deed) nothing_answers is)
 
-    pub boot_run : (t m : Tale) → BootMoment host t m → RunMoment host script t m
-    boot_run t m moment = record {
+    -- the moments of a run that has told nothing
+    untold : (t m : Tale) → told m ≡ told t → StaysHome host t m → ((h : History) → StandsAt host h t → AreOwn host 0 h → Goes host (AreOfRun host script []) Reached m h) → RunMoment host script t m
+    untold t m quiet home goes = record {
       bytes = [];
-      is_told = moment.quiet ∙ sym (append-nil (told t));
-      home = stays_in_replica host t m moment.kept;
-      made = λ is. absurd (nothing_told (Created (key_of host)) is);
-      stands = λ h stands.
-          let went = moment.goes h stands in
-          record { es = went.es; course = went.course; come = only_booted went.es went.after.0 went.come went.after.1; stands = went.stands; after = tt };
+      is_told = quiet ∙ sym (append-nil (told t));
+      home = home;
+      made = λ h stands own is. absurd (nothing_told (Created (key_of host)) is);
+      stands = goes;
     }
 
+    pub boot_run : (t m : Tale) → BootMoment host t m → RunMoment host script t m
+    boot_run t m moment = untold t m moment.quiet (stays_on_site host t m moment.kept)
+        (λ h stands own.
+        let went = moment.goes h stands in
+        record { es = went.es; course = went.course; come = only_booted went.es went.after.0 went.come went.after.1; stands = went.stands; after = tt })
+
     -- the lines behind it
-    pub lines_run : (memory : Memory) (t u m : Tale) → memory.entries ≡ [] → BootedTo host memory t u → LinesMoment host script memory u m → RunMoment host script t m
-    lines_run memory t u m fresh booted lines = record {
-      bytes = lines.bytes;
-      is_told = lines.is_told ∙ ap (λ (l : List ℕ). l ++ lines.bytes) booted.quiet;
-      home = stays_more host t u m (stays_in_replica host t u booted.kept) lines.home;
-      made = lines.made booted.knows;
-      stands = λ h stands.
-          let before = booted.goes h stands in
+    module _ (memory : Memory) (t u m : Tale) (fresh : memory.entries ≡ []) (first : memory.begun ≡ 0) (booted : BootedTo host memory t u) (lines : LinesMoment host script memory u m) where
+      lines_goes : (h : History) → StandsAt host h t → AreOwn host 0 h → Goes host (AreOfRun host script lines.bytes) Reached m h
+      lines_goes h stands own =
+          let before = booted.goes h stands (subst (λ (n : ℕ). AreOwn host n h) (sym first) own) in
           let after = lines.goes (history_after_all h before.es) before.after.0 in
           let same : history_after_all (history_after_all h before.es) after.es ≡ history_after_all h (before.es ++ after.es) = sym (after_more history_after h before.es after.es) in
           record {
@@ -183,17 +184,23 @@ module _ (host : Host) where
             come = record { boot = before.es; lines = after.es; both = refl; idle = before.come; booted = (memory.up, before.after.1); come = subst (λ (es : List Entry). ComeOf host (InWork host (left_in lines.bytes)) (Some es) script (replies_in lines.bytes) after.es) fresh after.come };
             stands = subst (λ (x : History). StandsAt host x m) same after.stands;
             after = tt;
-          };
-    }
+          }
+
+      pub lines_run : RunMoment host script t m
+      lines_run = record {
+        bytes = lines.bytes;
+        is_told = lines.is_told ∙ ap (λ (l : List ℕ). l ++ lines.bytes) booted.quiet;
+        home = stays_more host t u m (stays_on_site host t u booted.kept) lines.home;
+        made = λ h stands own is. run_shows host script lines.bytes t m h stands (lines_goes h stands own) is;
+        stands = lines_goes;
+      }
 
     -- a moment before anything was done
     pub nothing_run : (t : Tale) → RunMoment host script t t
-    nothing_run t = record {
-      bytes = [];
-      is_told = sym (append-nil (told t));
-      home = stays_same host t;
-      made = λ is. absurd (nothing_told (Created (key_of host)) is);
-      stands = λ h stands.
-          let went = booting_still host t [] t (kept_outside_same nowhere t) h stands in
-          record { es = went.es; course = went.course; come = only_booted went.es [] went.come went.after.1.0; stands = went.stands; after = tt };
-    }
+    nothing_run t = untold t t refl (stays_same host t) (λ h stands own. record {
+      es = Boots (key_of host) [] ∷ [];
+      course = ((tt, tt), tt);
+      come = only_booted (Boots (key_of host) [] ∷ []) [] (record { tells = refl; issues = (tt, tt); begins = tt }) (contains_first (Boots (key_of host) []) []);
+      stands = record { databases = stands.databases; laid = stands.laid; apart = stands.apart; volumes = stands.volumes };
+      after = tt;
+    })

@@ -1,5 +1,5 @@
 -- The events that come of a script's lines, and what its replies tell.
-use Rattle.std.proofs.Common.{◌≡◌, ◌≢◌, ◌⊎◌, inl, inr, ⊎_elim, ℕ, Bool, true, false, cond, List, [], ◌∷◌, ◌++◌, refl, sym, ◌∙◌, ap, subst, append_assoc, Contains, arith}
+use Rattle.std.proofs.Common.{◌≡◌, ◌≢◌, inl, inr, ℕ, Bool, true, false, cond, List, [], ◌∷◌, ◌++◌, refl, sym, ◌∙◌, ap, subst, append_assoc, Contains, arith}
 use Rattle.std.proofs.lemmas.List.{append-nil}
 use Rattle.std.proofs.lemmas.Slice.Eq.{bytes_eq-Decides}
 use Rattle.std.specs.Fmt.{digits}
@@ -30,7 +30,7 @@ IsDone (Saw key volume at blocks) = ⊥
 pub acked_once : (ask : Ask) (reply : List ℕ) (a b : List Deed) (deed : Deed) → IsDone deed → AcksBy ask reply a → AcksBy ask reply b → Contains a deed → Contains b deed
 acked_once Nothing reply a b deed done one other has = subst (λ (l : List Deed). Contains l deed) (one ∙ sym other) has
 acked_once ToBoot reply a b deed done one other has = subst (λ (l : List Deed). Contains l deed) (one ∙ sym other) has
-acked_once (ToMake key blocks) reply a b deed done one other has = subst (λ (l : List Deed). Contains l deed) (one ∙ sym other) has
+acked_once (ToMake key lines count blocks) reply a b deed done one other has = subst (λ (l : List Deed). Contains l deed) (one ∙ sym other) has
 acked_once (ToDo asked) reply a b deed done one other has = subst (λ (l : List Deed). Contains l deed) (one ∙ sym other) has
 acked_once (ToSee key volume at count) reply a b deed done (inl one) other has = absurd (let in_none : Contains [] deed = subst (λ (l : List Deed). Contains l deed) one.1 has in omega (arith, in_none.1))
 acked_once (ToSee key volume at count) reply a b deed done (inr one) other has = elim (first_or_behind (Saw key volume at one.blocks) deed [] (subst (λ (l : List Deed). Contains l deed) one.seen has)) [
@@ -52,7 +52,7 @@ wanting_deed asked reply done deed wanting acks has = by (bytes_eq reply ok_line
 wanting_acks : (ask : Ask) (reply : List ℕ) (done : List Deed) (deed : Deed) → IsDone deed → IsWanting reply → AcksBy ask reply done → Contains done deed → ⊥
 wanting_acks Nothing reply done deed is wanting acks has = absurd (let none : Contains [] deed = subst (λ (l : List Deed). Contains l deed) acks has in omega (arith, none.1))
 wanting_acks ToBoot reply done deed is wanting acks has = absurd (let none : Contains [] deed = subst (λ (l : List Deed). Contains l deed) acks has in omega (arith, none.1))
-wanting_acks (ToMake key blocks) reply done deed is wanting acks has = wanting_deed (Created key) reply done deed wanting acks has
+wanting_acks (ToMake key lines count blocks) reply done deed is wanting acks has = wanting_deed (Created key) reply done deed wanting acks has
 wanting_acks (ToDo asked) reply done deed is wanting acks has = wanting_deed asked reply done deed wanting acks has
 wanting_acks (ToSee key volume at count) reply done deed is wanting (inl acks) has = absurd (let none : Contains [] deed = subst (λ (l : List Deed). Contains l deed) acks.1 has in omega (arith, none.1))
 wanting_acks (ToSee key volume at count) reply done deed is wanting (inr acks) has = elim (first_or_behind (Saw key volume at acks.blocks) deed [] (subst (λ (l : List Deed). Contains l deed) acks.seen has)) [
@@ -89,16 +89,6 @@ module _ (host : Host) where
   told_none (spent lines bytes) deed is = is
   told_none (too_long more) deed is = is
   told_none (line text more) deed is = is
-
-  -- what some replies told, and what those behind them tell
-  pub told_either : (script : Script) (a b : List (List ℕ)) (deed : Deed) → IsTold host script (a ++ b) deed → IsTold host script a deed ⊎ IsTold host (behind script a) b deed
-  told_either at_end a b deed is = absurd is
-  told_either (spent lines bytes) a b deed is = absurd is
-  told_either (too_long more) [] b deed is = inr is
-  told_either (too_long more) (reply ∷ a) b deed is = told_either more a b deed is
-  told_either (line text more) [] b deed is = inr is
-  told_either (line text more) (reply ∷ a) b deed (inl here) = inl (inl here)
-  told_either (line text more) (reply ∷ a) b deed (inr is) = ⊎_elim (λ first. inl (inr first)) (λ second. inr second) (told_either more a b deed is)
 
   -- nothing happened yet
   pub idle_none : AreIdle host []

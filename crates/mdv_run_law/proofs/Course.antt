@@ -5,7 +5,7 @@ use Rattle.mdv_base.specs.declared.refusal.Refusal.TheVariants.{IoFault}
 use Rattle.mdv_base.proofs.Causes.{rose_of_once, rose_within}
 use Rattle.mdv_listing.proofs.Lines.{listings_are_lines}
 use Rattle.mdv_status.specs.Values.{printed_reply}
-use Rattle.mdv_run_law.specs.Below.{Image, Refusal, BadLine, OutOfMemory, TooMany, Script, at_end, spent, too_long, line, replies_in, Command, Create, MakeStripe, Print, Read, Write, Boot, Line, Answer, Host, site_of, Kept, CameTo, ComesTo, IsRebooted, adopted, empty, down, lost, wanting, IsPlain, IsPlainAnswer, IsReply, refusal_line}
+use Rattle.mdv_run_law.specs.Below.{Image, Refusal, BadLine, OutOfMemory, TooMany, Script, at_end, spent, too_long, line, replies_in, Command, Create, MakeStripe, Print, Read, Write, Boot, Line, Answer, Host, Kept, CameTo, ComesTo, IsRebooted, IsPlain, Spells, IsPlainAnswer, IsReply, refusal_line}
 use Rattle.mdv_words.specs.Line as words
 use Rattle.mdv_engine_law.specs.declared.answer.Answer.TheVariants.{Said, Over as Ends}
 use Rattle.mdv_engine_law.specs.declared.answer.Ended.{Ended}
@@ -15,19 +15,19 @@ use Rattle.mdv_engine_law.specs.Answers.{accepted, refusing}
 use Rattle.mdv_engine_law.specs.Commands as came
 use Rattle.mdv_engine_law.specs.Commands.{Effect, IsTabRefusal, KeepsTab, case_of}
 use Rattle.mdv_shelf.specs.Failing.{Outcomes}
-use Rattle.mdv_engine_law.specs.Line as boot
+use Rattle.mdv_engine_law.specs.Line.{answered_by}
+use Rattle.mdv_store.specs.declared.booting.BootEnd.{BootEnd}
+use Rattle.mdv_store.specs.declared.booting.BootEnd.TheVariants as end
 use Rattle.mdv_status.specs.Telling.{Said as SaidBytes}
 use Rattle.mdv_engine_law.specs.Replies.{text_of}
-use Rattle.mdv_engine_law.proofs.Executing.{comes_more, rebooted_more}
-use Rattle.mdv_engine_law.proofs.Widening.{AreWithin, calm_more}
 use Rattle.mdv_engine_law.proofs.Plain.{bad_line_plain, fault_plain, too_long_plain, too_many_plain, memory_plain, refusal_plain, ok_reply, values_are_reply, refusal_reply}
 use Rattle.mdv_run_law.specs.declared.status.RunStatus.{RunStatus}
 use Rattle.mdv_run_law.specs.declared.status.RunStatus.TheVariants.{NoMemory}
-use Rattle.mdv_run_law.specs.Run.{Counts, RoseTo, RoseCalmly, OnlyReplying, IsUndisturbed, IsSated, Stops, At, NextLine, IsSaid, refused_by, LineTold, LinesTold, Stretch, no_line, one_more, EndsAs, EndsAt, EndsWith, Over, unread, ended as script_ended, broken, Runs, RunsFrom, behind_boot, Progress, IsAnswered, IsLostStatus, IsSameEnd, HasHome, OneCourse, started, drive_failures, giving_failed, status_at}
-use Rattle.mdv_run_law.proofs.Again.{Alike, neither, alike_itself}
+use Rattle.mdv_run_law.specs.Run.{Counts, RoseTo, RoseCalmly, OnlyReplying, IsUndisturbed, IsSated, Stops, At, NextLine, IsSaid, refused_by, LineTold, LinesTold, Stretch, no_line, one_more, EndsAs, EndsAt, EndsWith, Over, unread, ended as script_ended, broken, Runs, RunsFrom, behind_boot, Progress, IsAnswered, IsLostStatus, IsOfTable, AreOnce, IsSameEnd, OneCourse, started, drive_failures, giving_failed, status_at}
 use Rattle.mdv_run_law.proofs.Carrying.{one_answer}
-use Rattle.mdv_run_law.proofs.Extents.{SeesHome}
-use Rattle.mdv_run_law.proofs.Keeping.{IsSatisfied, NeverFailed, Same, One, same_back, stays_same, one_boot}
+use Rattle.mdv_run_law.proofs.Moving.{alike_back, alike_itself, one_text}
+use Rattle.mdv_run_law.proofs.Passing.{NoneFailed}
+use Rattle.mdv_run_law.proofs.Keeping.{IsSatisfied, One, Same, ok, one_boot, same_back, stays_same}
 
 -- what a line comes to is told in whole replies
 module _ (calls : Outcomes) (host : Host) (kept next : Kept) (answer : Answer) where
@@ -37,25 +37,29 @@ module _ (calls : Outcomes) (host : Host) (kept next : Kept) (answer : Answer) w
   ok_plain : answer ≡ accepted → IsPlainAnswer answer
   ok_plain is = subst IsPlainAnswer (sym is) tt
 
-  booted_plain : IsRebooted calls host kept answer next → IsPlainAnswer answer
-  booted_plain (adopted quiet newest up clean ok memory by_calls here is) = ok_plain ok
-  booted_plain (empty quiet up clean ok memory by_calls here none same) = ok_plain ok
-  booted_plain (down so up ok memory by_calls same) = ok_plain ok
-  booted_plain (lost so own found panic left) = subst IsPlainAnswer (sym panic) tt
-  booted_plain (boot.spent quiet own is used same) = subst IsPlainAnswer (sym is) tt
-  booted_plain (wanting quiet own headed is same) = subst IsPlainAnswer (sym is) tt
+  end_plain : (e : BootEnd) → IsPlainAnswer (answered_by e)
+  end_plain (end.Adopted o) = tt
+  end_plain end.Empty = tt
+  end_plain (end.TwoDatabases a b) = tt
+  end_plain (end.NoQuorum readable needed) = tt
+  end_plain (end.Lost active listed) = tt
+  end_plain end.Spent = tt
+  end_plain end.Memory = tt
 
-  effect_plain : (command : Command) → Effect host kept command answer next → IsPlainAnswer answer
-  effect_plain (Create slice force blocks) is = ok_plain is.0
+  booted_plain : IsRebooted calls host kept answer next → IsPlainAnswer answer
+  booted_plain is = subst IsPlainAnswer (sym is.answer_is) (end_plain is.end)
+
+  effect_plain : (command : Command) → Effect calls host kept command answer next → IsPlainAnswer answer
+  effect_plain (Create slices force count blocks) is = ok_plain is.0
   effect_plain (MakeStripe volume slice) is = ok_plain is.0
-  effect_plain (Read volume at count) is = subst IsPlainAnswer (sym is.2) (inl (record { at = at; blocks = _; is = refl }))
-  effect_plain (Write volume at block) is = ok_plain is.2
-  effect_plain (Print names) is = (let are = listings_are_lines is.0.table.plan names in subst IsPlainAnswer (sym is.2) (inr (inr (record { lines = are.lines; quiet = are.quiet; is = ap printed_reply are.joined }))))
+  effect_plain (Read volume at count) is = subst IsPlainAnswer (sym is.3) (inl (record { at = at; blocks = _; is = refl }))
+  effect_plain (Write volume at block) is = ok_plain is.3
+  effect_plain (Print names) is = (let are = listings_are_lines is.1.table.plan names in subst IsPlainAnswer (sym is.3) (inr (inr (record { lines = are.lines; quiet = are.quiet; is = ap printed_reply are.joined }))))
 
   came_plain : (command : Command) → CameTo calls host kept command answer next → IsPlainAnswer answer
   came_plain command (came.refused quiet r is left) = refused_plain r (refusal_plain (case_of host kept) command r is) left.0
   came_plain command (came.wanting quiet is left) = refused_plain OutOfMemory memory_plain is
-  came_plain command (came.done quiet free effect) = effect_plain command effect
+  came_plain command (came.done free effect) = effect_plain command effect
   came_plain command (came.faulted free is fault) = refused_plain IoFault fault_plain is
   came_plain command (came.over end free is gives) = subst IsPlainAnswer (sym is) tt
 
@@ -79,24 +83,10 @@ module _ (calls : Outcomes) (host : Host) (kept next : Kept) (answer : Answer) w
   answer_plain text (inr (inl (spelled, is, comes))) = line_plain spelled comes
   answer_plain text (inr (inr (quiet, refused))) = refused_plain OutOfMemory memory_plain refused.0
 
--- what a line came to may be told of a longer stretch
-pub answered_more : (calls more : Outcomes) (host : Host) (kept next : Kept) (text : List ℕ) (answer : Answer) → AreWithin calls more → IsAnswered calls host kept text answer next → IsAnswered more host kept text answer next
-answered_more calls more host kept next text answer cause (inl (none, quiet, refused)) = inl (none, calm_more calls more cause quiet, refused)
-answered_more calls more host kept next text answer cause (inr (inl (spelled, is, done))) = inr (inl (spelled, is, comes_more calls more cause host kept next answer spelled done))
-answered_more calls more host kept next text answer cause (inr (inr (quiet, refused))) = inr (inr (calm_more calls more cause quiet, refused))
-
--- calls of which none failed
-abbrev unfailing : Outcomes
-unfailing drive = record { some = ⊥; none = Unit {0} }
-
-calm_is : (calls : Outcomes) → NeverFailed calls → AreWithin calls unfailing
-calm_is calls calm drive = record { some = calm drive; none = λ quiet. tt }
-
-none_failed : NeverFailed unfailing
-none_failed drive never = never
-
 -- a run that is over so is lost
 ended_status : (end : Ended) → IsLostStatus (status_at end)
+ended_status (ended.NoQuorum readable needed) = tt
+ended_status (ended.TwoDatabases a b) = tt
 ended_status (ended.Lost active listed) = tt
 ended_status ended.Spent = tt
 ended_status ended.Memory = tt
@@ -148,7 +138,7 @@ calm_within a b c d before behind calm = record {
 }
 
 -- drives that never failed failed in no part of the stretch
-drives_calm : (a b c d : Counts) → NoMore a b → NoMore c d → IsUndisturbed a d → NeverFailed (drive_failures b c)
+drives_calm : (a b c d : Counts) → NoMore a b → NoMore c d → IsUndisturbed a d → NoneFailed (drive_failures b c)
 drives_calm a b c d before behind calm drive once = calm.drive (drive, rose_within _ _ _ _ (before drive) (behind drive) (rose_of_once _ _ once))
 
 -- nor did a giving
@@ -208,18 +198,15 @@ end_satisfied failed calm answer next told status last with sated = record {
 }
 
 -- two runs in which nothing failed
-module _ (host : Host) (content : Image) (has : HasHome host) where
-  sees : SeesHome host
-  sees = record { table = has.table; home = has.home; view = has.view }
-
+module _ (host : Host) (content : Image) (has : IsOfTable host) (once : AreOnce host.drives.slices) where
   -- what the next line of both comes to
   record Next (answer other : Answer) (next also : Kept) (rest left : Script) : Type 0 where
     same : other ≡ answer
     script : left ≡ rest
     plain : IsPlainAnswer answer
-    kept : IsSaid answer → Same host next also
+    kept : IsSaid answer → Same host has once next also
 
-  one_next : (now then from to : Counts) → NeverFailed (drive_failures now then) → NeverFailed (drive_failures from to) → (n m next also : Kept) → Same host n m → (script rest left : Script) (answer other : Answer) → IsSatisfied answer → IsSatisfied other
+  one_next : (now then from to : Counts) → NoneFailed (drive_failures now then) → NoneFailed (drive_failures from to) → (n m next also : Kept) → Same host has once n m → (script rest left : Script) (answer other : Answer) → IsSatisfied answer → IsSatisfied other
       → NextLine host now n script answer then next rest → NextLine host from m script other to also left → Next answer other next also rest left
   one_next now then from to calm calm_too n m next also same at_end rest left answer other enough enough_too one two = absurd one
   one_next now then from to calm calm_too n m next also same (spent lines bytes) rest left answer other enough enough_too one two = absurd one
@@ -227,16 +214,14 @@ module _ (host : Host) (content : Image) (has : HasHome host) where
     same = two.3.0 ∙ sym one.3.0;
     script = two.0 ∙ sym one.0;
     plain = subst IsPlainAnswer (sym one.3.0) too_long_plain;
-    kept = λ heard. stays_same host n m next also same one.3.1 two.3.1;
+    kept = λ heard. stays_same host has once n m next also same one.3.1 two.3.1;
   }
   one_next now then from to calm calm_too n m next also same (line text behind) rest left answer other enough enough_too one two =
-      let here : IsAnswered unfailing host n text answer next = answered_more (drive_failures now then) unfailing host n next text answer (calm_is (drive_failures now then) calm) one.2 in
-      let there : IsAnswered unfailing host m text other also = answered_more (drive_failures from to) unfailing host m also text other (calm_is (drive_failures from to) calm_too) two.2 in
-      let answers = one_answer unfailing none_failed host has.sound sees text n m next also answer other same enough enough_too here there in
+      let answers = one_answer (drive_failures now then) (drive_failures from to) calm calm_too host has once text n m next also answer other same enough enough_too one.2 two.2 in
       record {
         same = sym answers.0;
         script = two.0 ∙ sym one.0;
-        plain = answer_plain unfailing host n next answer text here;
+        plain = answer_plain (drive_failures now then) host n next answer text one.2;
         kept = answers.1;
       }
 
@@ -247,7 +232,7 @@ module _ (host : Host) (content : Image) (has : HasHome host) where
   record Beside (n m : At) : Type 0 where
     script : n.script ≡ m.script
     refused : n.refused ≡ m.refused
-    kept : Same host n.kept m.kept
+    kept : Same host has once n.kept m.kept
 
   one_end : (refused also : Bool) (script left : Script) (s r : RunStatus) → refused ≡ also → script ≡ left → EndsAs refused script s → EndsAs also left r → s ≡ r
   one_end refused also script left s r before scripts one other =
@@ -312,7 +297,7 @@ module _ (host : Host) (content : Image) (has : HasHome host) where
   beside_back n m is = record {
     script = sym is.script;
     refused = sym is.refused;
-    kept = record { memory = same_back n.kept.memory m.kept.memory is.kept.memory; beside = λ drive block out. sym (is.kept.beside drive block out); one = is.kept.other; other = is.kept.one };
+    kept = record { memory = same_back n.kept.memory m.kept.memory is.kept.memory; beside = λ drive block out. sym (is.kept.beside drive block out); alike = alike_back (Spells host.drives) (one_text host.drives) host.site (ok host has once) n.kept.content m.kept.content is.kept.alike; one = is.kept.other; other = is.kept.one };
   }
 
   sated_apart : (piece rest x : List ℕ) (status : RunStatus) → IsSated ((piece ++ rest) ++ x) status → IsSated (piece ++ (rest ++ x)) status
@@ -348,7 +333,7 @@ module _ (host : Host) (content : Image) (has : HasHome host) where
     runs_rose : (w : Stretch) (n : At) (told : List ℕ) → Runs host w e n told s k → NoMore n.counts e
     runs_rose w n told runs = no_more_on n.counts runs.at.counts e (lines_rose host w 0 n runs.at runs.so_far runs.lines).drives (over_rose host w (length runs.so_far) e runs.at runs.rest s k runs.over)
 
-    one_from : (w v : Stretch) (answer : Answer) (now from : Counts) (p q : Progress) (n m : Kept) → (IsSaid answer → Same host n m) → (script : Script) (a b : List ℕ) → IsUndisturbed now e → IsUndisturbed from f → IsSated a s → IsSated b r
+    one_from : (w v : Stretch) (answer : Answer) (now from : Counts) (p q : Progress) (n m : Kept) → (IsSaid answer → Same host has once n m) → (script : Script) (a b : List ℕ) → IsUndisturbed now e → IsUndisturbed from f → IsSated a s → IsSated b r
         → RunsFrom host w e answer now p n script a s k → RunsFrom host v f answer from q m script b r j → SameEnds host a b s r k j
     one_from w v (Said outcome.Ok) now from p q n m same script a b calm calm_too sated sated_too one two =
         let ends = one_run w v 0 0 (length one.so_far) (length two.so_far) (behind_boot now p n script) (behind_boot from q m script) one.at two.at one.so_far two.so_far one.rest two.rest
@@ -372,29 +357,20 @@ module _ (host : Host) (content : Image) (has : HasHome host) where
       not_wanting = λ is. (let stops : (e ≡ now) × EndsAt w p.story p.effort × Stops n NoMemory told s k = subst (λ (x : Answer). RunsFrom host w e x now p n script told s k) is from in sated.end stops.2.ended);
     }
 
-  alike_start : (kept next : Kept) (answer : Answer) → IsSatisfied answer → IsRebooted unfailing host kept answer next → Alike (site_of host) has.sound kept.content kept.content
-  alike_start kept next answer enough (adopted quiet newest up clean ok memory by_calls here is) = alike_itself (site_of host) has.sound kept.content is.head is.replica is.shown
-  alike_start kept next answer enough (empty quiet up clean ok memory by_calls here found same) = neither found found
-  alike_start kept next answer enough (down so up ok memory by_calls same) = absurd so
-  alike_start kept next answer enough (lost so own found panic left) = absurd so
-  alike_start kept next answer enough (boot.spent quiet own is used same) = alike_itself (site_of host) has.sound kept.content used.head used.replica used.shown
-  alike_start kept next answer enough (wanting quiet own headed is same) = absurd (enough.not_wanting is)
-
-  one_start : (n m : Kept) (a b : Answer) → IsSatisfied a → IsSatisfied b → IsRebooted unfailing host (started content) a n → IsRebooted unfailing host (started content) b m → One host n m a b
-  one_start n m a b enough enough_too first second =
-      one_boot host has.sound unfailing none_failed (started content) (started content) n m a b (alike_start (started content) n a enough first) refl (λ drive block out. refl) enough enough_too first second
+  one_start : (calls also : Outcomes) → NoneFailed calls → NoneFailed also → (n m : Kept) (a b : Answer) → IsSatisfied a → IsSatisfied b → IsRebooted calls host (started content) a n → IsRebooted also host (started content) b m → One host has once n m a b
+  one_start calls also calm calm_too n m a b enough enough_too first second =
+      one_boot host has once calls also calm calm_too (started content) (started content) n m a b (alike_itself (Spells host.drives) (one_text host.drives) host.site (ok host has once) content) refl (λ drive block out. refl) enough enough_too first second
 
 pub one_course : OneCourse
-one_course = λ host content has script w v start end from to calm calm_too a b s r k j sated sated_too first second.
-    let up = from_rose host content has end s k w first.answer first.booted first.by first.kept script a first.runs in
-    let up_too = from_rose host content has to r j v second.answer second.booted second.by second.kept script b second.runs in
+one_course = λ host content has once script w v start end from to calm calm_too a b s r k j sated sated_too first second.
+    let up = from_rose host content has once end s k w first.answer first.booted first.by first.kept script a first.runs in
+    let up_too = from_rose host content has once to r j v second.answer second.booted second.by second.kept script b second.runs in
     let here = drives_calm start start first.booted end (no_more_itself start) up calm in
     let there = drives_calm from from second.booted to (no_more_itself from) up_too calm_too in
     let left = calm_within start first.booted end end (calmly_rose start first.booted first.rose) (rose_itself end) calm in
     let left_too = calm_within from second.booted to to (calmly_rose from second.booted second.rose) (rose_itself to) calm_too in
-    let both = one_start host content has first.kept second.kept first.answer second.answer
-    (satisfied_from host content has end s k w first.answer first.booted first.by first.kept script a sated first.runs) (satisfied_from host content has to r j v second.answer second.booted second.by second.kept script b sated_too second.runs)
-    (rebooted_more (drive_failures start first.booted) unfailing (calm_is (drive_failures start first.booted) here) host (started content) first.kept first.answer first.boots)
-    (rebooted_more (drive_failures from second.booted) unfailing (calm_is (drive_failures from second.booted) there) host (started content) second.kept second.answer second.boots) in
-    one_from host content has end to s r k j w v first.answer first.booted second.booted first.by second.by first.kept second.kept both.1 script a b left left_too sated sated_too first.runs
+    let both = one_start host content has once (drive_failures start first.booted) (drive_failures from second.booted) here there first.kept second.kept first.answer second.answer
+    (satisfied_from host content has once end s k w first.answer first.booted first.by first.kept script a sated first.runs) (satisfied_from host content has once to r j v second.answer second.booted second.by second.kept script b sated_too second.runs)
+    first.boots second.boots in
+    one_from host content has once end to s r k j w v first.answer first.booted second.booted first.by second.by first.kept second.kept both.1 script a b left left_too sated sated_too first.runs
     (subst (λ (x : Answer). RunsFrom host v to x second.booted second.by second.kept script b r j) (sym both.0) second.runs)

@@ -1,17 +1,13 @@
 -- What deeds and events say of one key's database.
-use Rattle.std.proofs.Common.{inl, inr, List, [], ◌∷◌, Option, Some, None, IfSome, Contains, refl, sym, ◌∙◌, subst, arith}
-use Rattle.mdv_run_law.specs.Below.{Identity, Key, Change, Log, History, Deed, Created, Changed, Saw, Wrote, Event, Acknowledges, Crashes, Stops, IsCourse, history_after, same_key}
+use Rattle.std.proofs.Common.{inl, inr, List, [], ◌∷◌, Option, Some, None, Contains, refl, sym, ◌∙◌, subst, arith}
+use Rattle.mdv_run_law.specs.Below.{Change, Changed, Created, Deed, Key, Saw, Wrote, same_key}
 use Rattle.mdv_shelf.proofs.Blocks.{both_ways}
-use Rattle.mdv_store_law.specs.Log as log
 use Rattle.mdv_store_law.specs.Log.{changes_of}
-use Rattle.mdv_store_law.specs.Machine.{AreAll}
 use Rattle.mdv_store_law.specs.Part.{IsPart}
 use Rattle.mdv_store_law.proofs.Parts.{part_before}
-use Rattle.mdv_volumes.specs.Happening.{IsIssue, IsLater, deed_of}
-use Rattle.mdv_volumes.specs.History.{Boots, Creation, OfDatabase, OfVolume, Reads, Shows}
-use Rattle.mdv_volumes.specs.HistoryLaws.{database_deeds, log_events_of}
-use Rattle.mdv_volumes.specs.Tables.{Sites}
-use Rattle.mdv_volumes.proofs.Databases.{key_itself}
+use Rattle.mdv_volumes.specs.Happening.{deed_of}
+use Rattle.mdv_volumes.specs.HistoryLaws.{database_deeds}
+use Rattle.mdv_databases.proofs.Lists.{key_itself}
 use Rattle.mdv_volumes.proofs.Lists.{contains_behind, contains_first, first_or_behind}
 
 -- what a part has the whole has
@@ -89,33 +85,3 @@ module _ (key : Key) where
   part_deeds (deed ∷ part) [] is = absurd is
   part_deeds (deed ∷ part) (other ∷ whole) (inl is) = subst (λ (d : Deed). IsPart (database_deeds key (deed ∷ part)) (database_deeds key (d ∷ whole))) is.0 (both_deeds part whole deed (part_deeds part whole is.1))
   part_deeds (deed ∷ part) (other ∷ whole) (inr is) = deed_before (deed ∷ part) whole other (part_deeds (deed ∷ part) whole is)
-
--- what each creation that is issued has, a log's has
-pub issued_has : (P : Identity → Type 0) (lg : Log) (es : List log.Event) → AreAll (log.IsIssue P) es → IfSome lg.issued P → IfSome (log.log_after_all lg es).issued P
-issued_has P lg [] is has = has
-issued_has P lg (log.Issued identity ∷ es) is has = issued_has P (log.log_after lg (log.Issued identity)) es is.1 is.0
-issued_has P lg (log.Writing mark asked before table ∷ es) is has = issued_has P (log.log_after lg (log.Writing mark asked before table)) es is.1 has
-issued_has P lg (log.Written ∷ es) is has = issued_has P (log.log_after lg log.Written) es is.1 has
-issued_has P lg (log.Told which before ∷ es) is has = issued_has P (log.log_after lg (log.Told which before)) es is.1 has
-
--- and what each has that a history's events issue, each that a key's log has among them
-module _ (key : Key) (P : Identity → Type 0) (sites : Sites) where
-  later_issue : (e : log.Event) → IsLater e → log.IsIssue P e
-  later_issue (log.Issued identity) later = absurd later
-  later_issue (log.Writing mark asked before table) later = tt
-  later_issue log.Written later = tt
-  later_issue (log.Told which before) later = tt
-
-  pub log_issues : (h : History) (es : List Event) → IsCourse sites h es → AreAll (IsIssue P) es → AreAll (log.IsIssue P) (log_events_of key es)
-  log_issues h [] course are = tt
-  log_issues h (Creation other identity ∷ es) course are =
-      let rest = log_issues (history_after h (Creation other identity)) es course.1 are.1 in elim (both_ways (same_key key other)) [ inl does ↦ rw does (are.0, rest) | inr never ↦ rw never rest ]
-  log_issues h (OfDatabase other identity e ∷ es) course are =
-      let rest = log_issues (history_after h (OfDatabase other identity e)) es course.1 are.1 in elim (both_ways (same_key key other)) [ inl does ↦ rw does (later_issue e course.0.later, rest) | inr never ↦ rw never rest ]
-  log_issues h (OfVolume other volume e ∷ es) course are = log_issues (history_after h (OfVolume other volume e)) es course.1 are.1
-  log_issues h (Reads other volume at blocks ∷ es) course are = log_issues (history_after h (Reads other volume at blocks)) es course.1 are.1
-  log_issues h (Acknowledges place other volume at blocks ∷ es) course are = log_issues (history_after h (Acknowledges place other volume at blocks)) es course.1 are.1
-  log_issues h (Shows place other volume at blocks ∷ es) course are = log_issues (history_after h (Shows place other volume at blocks)) es course.1 are.1
-  log_issues h (Boots other up ∷ es) course are = log_issues (history_after h (Boots other up)) es course.1 are.1
-  log_issues h (Stops ∷ es) course are = log_issues (history_after h Stops) es course.1 are.1
-  log_issues h (Crashes ∷ es) course are = log_issues (history_after h Crashes) es course.1 are.1

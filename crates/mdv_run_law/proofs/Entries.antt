@@ -26,22 +26,22 @@ module _ (calls : Outcomes) (host : Host) (kept next : Kept) (answer : Answer) w
   entries_same : next.memory ≡ kept.memory → next.memory.entries ≡ kept.memory.entries
   entries_same same = ap (λ (m : Memory). m.entries) same
 
-  effect_entries : (command : Command) → Effect host kept command answer next → next.memory.entries ≡ kept.memory.entries
-  effect_entries (Create slice force blocks) is = ap (λ (m : Memory). m.entries) is.1.memory
-  effect_entries (MakeStripe volume slice) is = ap (λ (m : Memory). m.entries) is.4.memory
-  effect_entries (Read volume at count) is = entries_same is.3.memory
-  effect_entries (Write volume at block) is = entries_same is.3
-  effect_entries (Print names) is = entries_same is.3.memory
+  effect_entries : (command : Command) → Effect calls host kept command answer next → next.memory.entries ≡ kept.memory.entries
+  effect_entries (Create slices force count blocks) is = ap (λ (m : Memory). m.entries) is.1.memory
+  effect_entries (MakeStripe volume slice) is = ap (λ (m : Memory). m.entries) is.3.memory
+  effect_entries (Read volume at count) is = entries_same is.4.memory
+  effect_entries (Write volume at block) is = entries_same is.4
+  effect_entries (Print names) is = entries_same is.4.memory
 
   fault_entries : (command : Command) → Fault calls host kept command next → next.memory.entries ≡ kept.memory.entries
-  fault_entries (Create slice force blocks) is = ap (λ (m : Memory). m.entries) is.1.memory
+  fault_entries (Create slices force count blocks) is = ap (λ (m : Memory). m.entries) is.memory
   fault_entries (MakeStripe volume slice) is = absurd is
   fault_entries (Read volume at count) is = entries_same is.3.memory
   fault_entries (Write volume at block) is = entries_same is.3
   fault_entries (Print names) is = absurd is
 
   wanting_entries : (command : Command) → Wanting host kept command next → next.memory.entries ≡ kept.memory.entries
-  wanting_entries (Create slice force blocks) is = ap (λ (m : Memory). m.entries) is.1.memory
+  wanting_entries (Create slices force count blocks) is = ap (λ (m : Memory). m.entries) is.1.memory
   wanting_entries (MakeStripe volume slice) is = entries_same is.1.memory
   wanting_entries (Read volume at count) is = entries_same is.1.memory
   wanting_entries (Write volume at block) is = absurd is
@@ -50,7 +50,7 @@ module _ (calls : Outcomes) (host : Host) (kept next : Kept) (answer : Answer) w
   came_entries : (command : Command) → CameTo calls host kept command answer next → IsSaid answer → next.memory.entries ≡ kept.memory.entries
   came_entries command (came.refused quiet refusal is left) said = entries_same left.1.memory
   came_entries command (came.wanting quiet is left) said = wanting_entries command left
-  came_entries command (came.done quiet free effect) said = effect_entries command effect
+  came_entries command (came.done free effect) said = effect_entries command effect
   came_entries command (came.faulted free is fault) said = fault_entries command fault
   came_entries command (came.over end free is gives) said = absurd (let never : ⊥ = subst IsSaid is said in never)
 

@@ -1,39 +1,47 @@
 -- What two courses keep in common, as far as a boot and a line can tell.
-use Rattle.std.proofs.Common.{◌≡◌, inl, inr, ℕ, ◌+◌, ◌≤◌, ◌<◌, ◌^◌, Bool, true, false, List, [], ◌∷◌, Option, Some, None, refl, sym, ◌∙◌, ap, subst, arith}
-use Rattle.std.specs.Bool.{MatchBool}
-use Rattle.std.proofs.lemmas.Bool.{cases_eq}
-use Rattle.std.proofs.lemmas.Bool.Decides.{nat_tests}
+use Rattle.std.proofs.Common.{◌≡◌, inl, inr, ℕ, ◌+◌, ◌<◌, Bool, true, false, List, [], ◌∷◌, Option, None, Some, Contains, length, refl, sym, ◌∙◌, ap, subst, arith}
+use Rattle.std.proofs.lemmas.Bool.{cases_Bool, false≢true}
+use Rattle.std.proofs.lemmas.List.Kept.{AllPairs-filter}
 use Rattle.mdv_base.specs.DriveSet.{has_drive}
-use Rattle.mdv_base.specs.declared.drive.DriveNo.{DriveNo}
-use Rattle.mdv_home.proofs.Viewing.{is_there, there_is}
 use Rattle.mdv_map.specs.Maps.{DriveBlock}
-use Rattle.mdv_name.specs.SliceIndex.{is_among}
-use Rattle.mdv_run_law.specs.Below.{Drives, Image, on_site, OutOfMemory, Head, greatest, shows, covers, IsSound, area_of, IsFound, IsReplica, Newest, IsNewestOf, Answer, Host, site_of, Memory, Kept, Stays, ArePut, IsRebooted, adopted, empty, down, lost, wanting}
-use Rattle.mdv_shelf.specs.Area.{range}
+use Rattle.mdv_record.proofs.Parsed.{is_read}
+use Rattle.mdv_record.specs.Text.{record_text}
+use Rattle.mdv_replica.specs.declared.replica.Head.{Head}
+use Rattle.mdv_shown.specs.Found.{IsFound}
+use Rattle.mdv_run_law.specs.Below.{Answer, ArePut, DriveNo, Drives, Host, Image, IsPlanOf, IsRebooted, IsSameBeside, Kept, Memory, Opened, OutOfMemory, Site, SliceLine, Spells, Stays, covers, key_of, site_area, site_of}
 use Rattle.mdv_shelf.proofs.Blocks.{both_ways}
-use Rattle.mdv_store_law.proofs.Frame.{newest_there, none_there, same_within}
+use Rattle.mdv_shelf.specs.Failing.{Outcomes}
+use Rattle.mdv_shown.proofs.Sites.{law_sites}
+use Rattle.mdv_shown.specs.Site.{IsSite}
+use Rattle.mdv_shown.specs.Sites.{is_line_of}
+use Rattle.mdv_store.proofs.Seating.{seated_at}
+use Rattle.mdv_store.proofs.Sitting.{contains_first}
+use Rattle.mdv_store.specs.Boot.{IsEndBy, TakesBoth, is_memory}
+use Rattle.mdv_store.specs.Booting.{boot_area, has_written}
+use Rattle.mdv_store.specs.Seats.{active_of, replicas_of, seats_area}
+use Rattle.mdv_store.specs.Text.{blocks_for}
+use Rattle.mdv_store.specs.declared.booting.BootEnd.{BootEnd}
+use Rattle.mdv_store.specs.declared.booting.BootEnd.TheVariants as end
+use Rattle.mdv_store.specs.declared.seats.Seat.{Seat}
+use Rattle.mdv_survey.specs.declared.replica.Replica.{Replica}
+use Rattle.mdv_survey.specs.declared.replica.Survey.{Survey}
+use Rattle.mdv_table.specs.Plan.{places_of}
+use Rattle.mdv_engine_law.specs.Answers.{accepted, refusing}
+use Rattle.mdv_engine_law.specs.Line.{IsLeftBy, IsOpenOn, IsReadOf, IsUpBy, WritesTo, answered_by, booted_with, opened_by}
 use Rattle.mdv_engine_law.specs.declared.answer.Answer.TheVariants.{Over}
 use Rattle.mdv_engine_law.specs.declared.answer.Ended.TheVariants as ended
-use Rattle.mdv_engine_law.specs.Answers.{refusing}
-use Rattle.mdv_shelf.specs.Failing.{Outcomes}
-use Rattle.mdv_engine_law.specs.Line.{IsUpBy, booted_with, spent}
-use Rattle.mdv_run_law.specs.Run.{IsSaid, IsSameMemory}
-use Rattle.mdv_run_law.proofs.Again.{Alike, neither, alike_opened, never_found, never_lost, same_number, same_adopted}
-use Rattle.mdv_run_law.proofs.Placing.{Opening, shut, wide, opened_twice, never_shut}
-use Rattle.mdv_engine_law.proofs.Within.{outside_replica}
+use Rattle.mdv_run_law.specs.Run.{AreOnce, IsOfTable, IsSaid, IsSameMemory}
+use Rattle.mdv_run_law.proofs.Ending.{one_end}
+use Rattle.mdv_run_law.proofs.Moving.{IsAlike, IsAway, IsChanged, IsThere, alike_beside, found_of, here_beside, here_of, newest_beside, one_text}
+use Rattle.mdv_run_law.proofs.Passing.{NoneFailed, left_active, left_is, rewritten, rewritten_is}
+use Rattle.mdv_run_law.proofs.Placing.{put_at}
+use Rattle.mdv_run_law.proofs.Surveyed.{IsAllOf, one_survey}
+use Rattle.mdv_run_law.proofs.Written.{alike_behind, its_each, written}
 
 -- an answer that tells nothing of a want of memory
 pub record IsSatisfied (answer : Answer) : Type 0 where
   pub not_refused : answer ≡ refusing OutOfMemory → ⊥
   pub not_wanting : answer ≡ Over ended.Memory → ⊥
-
--- one block from some on is that one
-pub put_at : (on first drive b : ℕ) → covers on first 1 drive b ≡ true → (drive ≡ on) × (b ≡ first + 0)
-put_at on first drive b is = (grind (arith, nat_tests), grind (arith, nat_tests))
-
--- no call failed, on whichever drive
-abbrev pub NeverFailed : Outcomes → Type 0
-NeverFailed calls = (drive : ℕ) → (calls drive).some → ⊥
 
 -- memories that are those of others which have the same
 pub same_through : (n k j m : Memory) → n ≡ k → m ≡ j → IsSameMemory k j → IsSameMemory n m
@@ -42,45 +50,92 @@ same_through n k j m one other same = subst (λ (x : Memory). IsSameMemory x m) 
 pub same_back : (k j : Memory) → IsSameMemory k j → IsSameMemory j k
 same_back k j is = record { opened = sym is.opened; up = λ drive. sym (is.up drive); clean = sym is.clean; begun = sym is.begun; entries = sym is.entries }
 
--- which drives a boot brings up by which no call failed: those that are the host's own
-module _ (host : Host) (calls : Outcomes) (calm : NeverFailed calls) where
-  calm_way : (b : Bool) (none some : Type 0) → (some → ⊥) → MatchBool b none some → b ≡ true
-  calm_way true none some never is = refl
-  calm_way false none some never is = absurd (never is)
+-- a boot that was refused memory is answered so
+memory_answer : (e : BootEnd) → is_memory e ≡ true → answered_by e ≡ Over ended.Memory
+memory_answer (end.Adopted o) is = absurd (cc (is))
+memory_answer end.Empty is = absurd (cc (is))
+memory_answer (end.TwoDatabases a b) is = absurd (cc (is))
+memory_answer (end.NoQuorum readable needed) is = absurd (cc (is))
+memory_answer (end.Lost active listed) is = absurd (cc (is))
+memory_answer end.Spent is = absurd (cc (is))
+memory_answer end.Memory is = refl
 
-  all_clean : (up : Drives) (clean : Bool) → IsUpBy calls host up clean → clean ≡ true
-  all_clean up clean is = calm_way clean _ _ (λ on. calm on.0.0 on.2) is.calm
+said_accepted : (e : BootEnd) → IsSaid (answered_by e) → answered_by e ≡ accepted
+said_accepted (end.Adopted o) said = refl
+said_accepted end.Empty said = refl
+said_accepted (end.TwoDatabases a b) said = absurd said
+said_accepted (end.NoQuorum readable needed) said = absurd said
+said_accepted (end.Lost active listed) said = absurd said
+said_accepted end.Spent said = absurd said
+said_accepted end.Memory said = absurd said
 
-  up_is : (up : Drives) (clean : Bool) → IsUpBy calls host up clean → has_drive up host.home.drive ≡ true → (drive : DriveNo) → has_drive up drive ≡ is_among host.own drive
-  up_is up clean is here drive = elim (both_ways (is_among host.own drive)) [
-    | inl one_of ↦ elim (cases_eq drive.0 host.home.drive.0) [
-      | inl same ↦ ap (has_drive up) (λ i. record { 0 = same i }) ∙ here ∙ sym one_of
-      | inr away ↦ calm_way (has_drive up drive) _ _ (calm drive.0) (is.own drive (is_there host.own drive one_of) (λ same. away (ap (λ (d : DriveNo). d.0) same))) ∙ sym one_of
-    ]
-    | inr other ↦ (is.others drive (λ has. absurd (cc (there_is host.own drive has, other)))).0 ∙ sym other
-  ]
+first_of : {X : Type 0} (xs : List X) → 0 < length xs → (x : X) × Contains xs x
+first_of [] some = absurd (omega (arith, some))
+first_of (x ∷ xs) some = (x, contains_first x xs)
+
+-- which drives a boot brings up by which no call failed: those of the host's site
+module _ (host : Host) (calls also : Outcomes) (calm : NoneFailed calls) (calm_too : NoneFailed also) (e : BootEnd) (so : is_memory e ≡ false) where
+  up_is : (failed : Outcomes) → NoneFailed failed → (up over : Drives) (clean other : Bool) → IsUpBy failed host e up clean → (else_calls : Outcomes) → IsUpBy else_calls host e over other → (drive : DriveNo) → has_drive up drive ≡ false → has_drive over drive ≡ true → ⊥
+  up_is failed never up over clean other is else_calls has drive down there =
+      let none = has.others drive (λ one_of. never drive.0 (is.down so drive one_of down)) in
+      false≢true (sym none.0 ∙ there)
+
+  same_up : (up over : Drives) (clean other : Bool) → IsUpBy calls host e up clean → IsUpBy also host e over other → (drive : DriveNo) → has_drive up drive ≡ has_drive over drive
+  same_up up over clean other one two drive = by (has_drive up drive) (has_drive over drive) refl refl where
+    by : (a b : Bool) → has_drive up drive ≡ a → has_drive over drive ≡ b → has_drive up drive ≡ has_drive over drive
+    by true true a b = a ∙ sym b
+    by false false a b = a ∙ sym b
+    by false true a b = absurd (up_is calls calm up over clean other one also two drive a b)
+    by true false a b = absurd (up_is also calm_too over up other clean two calls one drive b a)
+
+  all_clean : (failed : Outcomes) → NoneFailed failed → (up : Drives) (clean : Bool) → IsUpBy failed host e up clean → clean ≡ true
+  all_clean failed never up true is = refl
+  all_clean failed never up false is = elim is.calm [ inl memory ↦ absurd (false≢true (sym so ∙ memory)) | inr one ↦ absurd (never one.0.0 one.2) ]
 
   -- so two boots that find the same have the same in memory
-  pub booted_same : (opened also : Option Newest) (up up_too : Drives) (clean clean_too : Bool) (begun begun_too : ℕ) → opened ≡ also → begun ≡ begun_too → IsUpBy calls host up clean → has_drive up host.home.drive ≡ true
-      → IsUpBy calls host up_too clean_too → has_drive up_too host.home.drive ≡ true → IsSameMemory (booted_with opened up clean begun) (booted_with also up_too clean_too begun_too)
-  booted_same opened also up up_too clean clean_too begun begun_too found number is here is_too here_too = record {
-    opened = found;
-    up = λ drive. up_is up clean is here drive ∙ sym (up_is up_too clean_too is_too here_too drive);
-    clean = all_clean up clean is ∙ sym (all_clean up_too clean_too is_too);
+  booted_same : (opened : Option Opened) (up over : Drives) (clean other : Bool) (begun begun_too : ℕ) → begun ≡ begun_too → IsUpBy calls host e up clean → IsUpBy also host e over other
+      → IsSameMemory (booted_with opened up clean begun) (booted_with opened over other begun_too)
+  booted_same opened up over clean other begun begun_too number is is_too = record {
+    opened = refl;
+    up = same_up up over clean other is is_too;
+    clean = all_clean calls calm up clean is ∙ sym (all_clean also calm_too over other is_too);
     begun = number;
     entries = refl;
   }
 
-module _ (host : Host) where
-  -- the drives have no database, or the one that is open
-  pub data Settled (kept : Kept) : Type 0 where
-    bare : kept.memory.opened ≡ None → IsFound (site_of host) (on_site (site_of host) kept.content) None → Settled kept
-    held : (newest : Newest) → kept.memory.opened ≡ Some newest → (head : Head) → IsNewestOf (site_of host) (on_site (site_of host) kept.content) head newest → Settled kept
+module _ (host : Host) (has : IsOfTable host) (once : AreOnce host.drives.slices) where
+  -- where a boot looks
+  pub ok : IsSite host.site
+  ok = subst IsSite (sym has.site) (law_sites.sites host.drives (key_of host) has.sound)
+
+  once_there : AreOnce host.site.lines
+  once_there = subst (λ (s : Site). AreOnce s.lines) (sym has.site) (AllPairs-filter (λ (a b : SliceLine). a ≡ b → ⊥) (is_line_of host.drives (key_of host)) host.drives.slices once)
+
+  brought : (line : SliceLine) → Contains host.site.lines line → Contains host.site.drives line.at.drive
+  brought line one_of =
+      subst (λ (s : Site). Contains s.drives line.at.drive) (sym has.site) (law_sites.brought host.drives (key_of host) line (subst (λ (s : Site). Contains s.lines line) has.site one_of))
+
+  -- a boot finds the same in both
+  abbrev pub Alike : Image → Image → Type 0
+  Alike c d = IsAlike host.drives host.site ok c d
+
+  abbrev pub There : Image → Replica → Type 0
+  There c r = IsThere host.drives host.site ok c r
+
+  -- the database that is open in memory is on the drives, at one of its places at least
+  pub record IsHeld (o : Opened) (content : Image) : Type 0 where
+    pub key : o.key ≡ key_of host
+    pub some : 0 < active_of o.seats
+    pub on : IsOpenOn host.drives o content
+
+  abbrev pub Settled : Kept → Type 0
+  Settled kept = (o : Opened) → kept.memory.opened ≡ Some o → IsHeld o kept.content
 
   -- the same is in memory, and in each block that no replica may have
   pub record Same (k j : Kept) : Type 0 where
     pub memory : IsSameMemory k.memory j.memory
-    pub beside : (drive block : ℕ) → area_of (site_of host) drive block ≡ false → k.content drive block ≡ j.content drive block
+    pub beside : (drive block : ℕ) → site_area host.site drive block ≡ false → k.content drive block ≡ j.content drive block
+    pub alike : Alike k.content j.content
     pub one : Settled k
     pub other : Settled j
 
@@ -88,117 +143,203 @@ module _ (host : Host) where
   abbrev pub One : Kept → Kept → Answer → Answer → Type 0
   One n m a b = (a ≡ b) × (IsSaid a → Same n m)
 
-  pub opening_of : (kept : Kept) → Settled kept → Opening host kept.memory
-  opening_of kept (bare none found) = shut none
-  opening_of kept (held newest opened head is) = wide newest opened is.has.is.of_geometry
+  some_same : {A : Type 0} (a b : A) → Some a ≡ Some b → a ≡ b
+  some_same a b is = cc (is)
 
-  -- nothing was done on the drive of the database
-  there_settled : (kept next : Kept) → Settled kept → next.memory.opened ≡ kept.memory.opened
-      → ((block : ℕ) → (site_of host).at.first ≤ block → block < (site_of host).at.first + (site_of host).at.place.blocks → on_site (site_of host) next.content block ≡ on_site (site_of host) kept.content block) → Settled next
-  there_settled kept next (bare none found) opened there = bare (opened ∙ none) (none_there (site_of host) (on_site (site_of host) kept.content) (on_site (site_of host) next.content) there found)
-  there_settled kept next (held newest is_open head is) opened there =
-      held newest (opened ∙ is_open) head (newest_there (site_of host) (on_site (site_of host) kept.content) (on_site (site_of host) next.content) head
-      (same_within (site_of host) (on_site (site_of host) kept.content) (on_site (site_of host) next.content) there (on_site (site_of host) kept.content) head is.replica) newest is)
+  -- it lies where a boot of its key looks
+  pub its_site : (o : Opened) → o.key ≡ key_of host → host.site ≡ site_of host.drives o.key
+  its_site o key = has.site ∙ ap (site_of host.drives) (sym key)
 
-  pub stays_settled : (kept next : Kept) → Settled kept → Stays kept next → Settled next
-  stays_settled kept next settled stays = there_settled kept next settled (ap (λ (m : Memory). m.opened) stays.memory) (λ block from to. stays.content host.home.drive.0 block)
+  pub there_each : (o : Opened) (content : Image) → IsHeld o content → (r : Replica) → Contains (replicas_of o.seats) r → There content r
+  there_each o content held = its_each host.drives host.site ok o (its_site o held.key) content held.on
+
+  -- its table is one of the host's drives
+  pub plan_of : (o : Opened) (content : Image) → IsHeld o content → IsPlanOf host.drives o.table.plan
+  plan_of o content held =
+      let one = first_of (replicas_of o.seats) held.some in
+      ((is_read host.drives has.sound _ o.table).0 (held.on.shown one.0 one.1).1.shows.text).of_geometry
+
+  -- where no block of the site changed
+  open_kept : (o : Opened) (old new : Image) → o.key ≡ key_of host → ((drive block : ℕ) → site_area host.site drive block ≡ true → new drive block ≡ old drive block) → IsOpenOn host.drives o old → IsOpenOn host.drives o new
+  open_kept o old new key same opens = record {
+    each = λ r among. (let own = opens.each r among in record {
+      found = subst (λ (s : Site). Found s r new) site (found_of (Spells host.drives) (one_text host.drives) host.site ok new r (here_beside (Spells host.drives) (one_text host.drives) host.site ok old new same r (there r among)) (own.found.of_key ∙ key));
+      of_identity = own.of_identity;
+    });
+    shown = λ r among. (let newest = opens.shown r among in
+        (newest.0, newest_beside (Spells host.drives) (one_text host.drives) host.site ok old new same r (there r among) newest.0 o.mark o.table newest.1));
+  } where
+    site : host.site ≡ site_of host.drives o.key
+    site = its_site o key
+
+    Found : Site → Replica → Image → Type 0
+    Found s r image = IsFound (Spells host.drives) s r.line r.number (image r.line.at.drive.0) r.first r.head
+
+    there : (r : Replica) → Contains (replicas_of o.seats) r → There old r
+    there = its_each host.drives host.site ok o site old opens
+
+  held_kept : (o : Opened) (old new : Image) → ((drive block : ℕ) → site_area host.site drive block ≡ true → new drive block ≡ old drive block) → IsHeld o old → IsHeld o new
+  held_kept o old new same held = record { key = held.key; some = held.some; on = open_kept o old new held.key same held.on }
+
+  pub there_settled : (kept next : Kept) → Settled kept → next.memory.opened ≡ kept.memory.opened → ((drive block : ℕ) → site_area host.site drive block ≡ true → next.content drive block ≡ kept.content drive block) → Settled next
+  there_settled kept next settled opened same o is = held_kept o kept.content next.content same (settled o (sym opened ∙ is))
 
   pub stays_same : (k j n m : Kept) → Same k j → Stays k n → Stays j m → Same n m
   stays_same k j n m same one other = record {
     memory = same_through n.memory k.memory j.memory m.memory one.memory other.memory same.memory;
     beside = λ drive block out. one.content drive block ∙ same.beside drive block out ∙ sym (other.content drive block);
-    one = stays_settled k n same.one one;
-    other = stays_settled j m same.other other;
+    alike = alike_beside (Spells host.drives) (one_text host.drives) host.site ok k.content j.content n.content m.content (λ drive block within. one.content drive block) (λ drive block within. other.content drive block) same.alike;
+    one = there_settled k n same.one (ap (λ (m : Memory). m.opened) one.memory) (λ drive block within. one.content drive block);
+    other = there_settled j m same.other (ap (λ (m : Memory). m.opened) other.memory) (λ drive block within. other.content drive block);
   }
 
-  module _ (sound : IsSound host.drives) where
-    alike_kept : (k j : Kept) → k.memory.opened ≡ j.memory.opened → Settled k → Settled j → Alike (site_of host) sound k.content j.content
-    alike_kept k j same (bare none found) (bare also none_too) = neither found none_too
-    alike_kept k j same (bare none found) (held newest opened head is) = absurd (never_shut j.memory.opened newest (sym same ∙ none) opened)
-    alike_kept k j same (held newest opened head is) (bare none found) = absurd (never_shut k.memory.opened newest (same ∙ none) opened)
-    alike_kept k j same (held newest opened head is) (held other also head_too is_too) =
-        let newests = opened_twice j.memory.opened newest other (sym same ∙ opened) also in
-        alike_opened (site_of host) sound k.content j.content head head_too newest is (subst (λ (n : Newest). IsNewestOf (site_of host) (on_site (site_of host) j.content) head_too n) newests is_too)
+  -- A boot that wasn't refused memory, by its end.
+  record Booted (calls : Outcomes) (k n : Kept) (e : BootEnd) : Type 0 where
+    up : Drives
+    clean : Bool
+    up_by : IsUpBy calls host e up clean
+    survey : Survey
+    all : IsAllOf host.drives host.site ok once_there brought k.content survey
+    by : IsEndBy calls (λ hand table. WritesTo k.content n.content hand.seats) host.site survey e
+    memory : IsSaid (answered_by e) → n.memory ≡ booted_with (opened_by e) up clean k.memory.begun
+    content : IsLeftBy host.drives e n.content
+    beside : IsSameBeside (boot_area host.site (has_written e)) k.content n.content
 
-    -- two boots from blocks that a boot can't tell apart
-    module _ (calls : Outcomes) (calm : NeverFailed calls) (k j n m : Kept) (a b : Answer) (alike : Alike (site_of host) sound k.content j.content) (begun : k.memory.begun ≡ j.memory.begun)
-        (beside : (drive block : ℕ) → area_of (site_of host) drive block ≡ false → k.content drive block ≡ j.content drive block)
-        (sated : IsSatisfied a) (sated_too : IsSatisfied b) where
-      abbrev its : ℕ → List ℕ
-      its = on_site (site_of host) k.content
+  module _ (calls : Outcomes) (calm : NoneFailed calls) (k n : Kept) where
+    read_all : (up : Drives) (survey : Survey) → IsReadOf calls host k.content up survey → IsAllOf host.drives host.site ok once_there brought k.content survey
+    read_all up survey is = record {
+      calm = is.calm;
+      each = λ drive one_of. elim (cases_Bool (has_drive is.calm drive)) [ inl there ↦ there | inr never ↦ absurd (calm drive.0 (is.failed drive one_of never)) ];
+      survey_is = is.survey_is;
+      of = is.of;
+      none = is.none;
+    }
 
-      abbrev others : ℕ → List ℕ
-      others = on_site (site_of host) j.content
-
-      booted_memory : (opened also : Option Newest) (up up_too : Drives) (clean clean_too : Bool) → opened ≡ also → IsUpBy calls host up clean → has_drive up host.home.drive ≡ true → IsUpBy calls host up_too clean_too → has_drive up_too host.home.drive ≡ true
-          → n.memory ≡ booted_with opened up clean k.memory.begun → m.memory ≡ booted_with also up_too clean_too j.memory.begun → IsSameMemory n.memory m.memory
-      booted_memory opened also up up_too clean clean_too found is here is_too here_too one other =
-          same_through n.memory (booted_with opened up clean k.memory.begun) (booted_with also up_too clean_too j.memory.begun) m.memory one other
-          (booted_same host calls calm opened also up up_too clean clean_too k.memory.begun j.memory.begun found begun is here is_too here_too)
-
-      never_both : (x y : Head) → IsReplica (site_of host) its x → shows x ≡ true → IsReplica (site_of host) others y → shows y ≡ true → greatest x + 1 < 2 ^ 63 → 2 ^ 63 ≤ greatest y + 1 → ⊥
-      never_both x y has_x shows_x has_y shows_y low high = (let same = same_number (site_of host) sound k.content j.content alike x y has_x shows_x has_y shows_y in absurd (omega (arith, same, low, high)))
-
-      nor_both : (x y : Head) → IsReplica (site_of host) its x → shows x ≡ true → IsReplica (site_of host) others y → shows y ≡ true → 2 ^ 63 ≤ greatest x + 1 → greatest y + 1 < 2 ^ 63 → ⊥
-      nor_both x y has_x shows_x has_y shows_y high low = (let same = same_number (site_of host) sound k.content j.content alike x y has_x shows_x has_y shows_y in absurd (omega (arith, same, low, high)))
-
-      pub one_boot : IsRebooted calls host k a n → IsRebooted calls host j b m → One n m a b
-      one_boot (adopted quiet newest up clean ok memory by_calls here is) (adopted quiet_too other up_too clean_too also memory_too by_calls_too here_too is_too) =
-          let newests = same_adopted (site_of host) sound k.content j.content alike n.content m.content newest other is is_too in (
-            ok ∙ sym also,
-            λ heard. record {
-              memory = booted_memory (Some newest) (Some other) up up_too clean clean_too (ap (λ (x : Newest). Some x) newests) by_calls here by_calls_too here_too memory memory_too;
-              beside = λ drive block out.
-                  is.beside drive block (outside_replica (site_of host) newest.blocks drive block out) ∙ beside drive block out ∙ sym (is_too.beside drive block (outside_replica (site_of host) other.blocks drive block out));
-              one = held newest (ap (λ (x : Memory). x.opened) memory) _ is.written;
-              other = held other (ap (λ (x : Memory). x.opened) memory_too) _ is_too.written;
-            },
-          )
-      one_boot (empty quiet up clean ok memory by_calls here none same) (empty quiet_too up_too clean_too also memory_too by_calls_too here_too none_too same_too) = (
-        ok ∙ sym also,
-        λ heard. record {
-          memory = booted_memory None None up up_too clean clean_too refl by_calls here by_calls_too here_too memory memory_too;
-          beside = λ drive block out. same drive block ∙ beside drive block out ∙ sym (same_too drive block);
-          one = bare (ap (λ (x : Memory). x.opened) memory) (none_there (site_of host) its (on_site (site_of host) n.content) (λ block from to. same host.home.drive.0 block) none);
-          other = bare (ap (λ (x : Memory). x.opened) memory_too) (none_there (site_of host) others (on_site (site_of host) m.content) (λ block from to. same_too host.home.drive.0 block) none_too);
+    -- it has come to that
+    booted : (a : Answer) → IsSatisfied a → (is : IsRebooted calls host k a n) → (is_memory is.end ≡ false) × Booted calls k n is.end
+    booted a sated is = elim is.by [
+      | inl memory ↦ absurd (sated.not_wanting (is.answer_is ∙ memory_answer is.end memory))
+      | inr by ↦ (
+        elim (cases_Bool (is_memory is.end)) [
+          | inl memory ↦ absurd (sated.not_wanting (is.answer_is ∙ memory_answer is.end memory))
+          | inr so ↦ so
+        ],
+        record {
+          up = is.up;
+          clean = is.clean;
+          up_by = is.up_by;
+          survey = by.0;
+          all = read_all is.up by.0 by.1;
+          by = by.2;
+          memory = λ said. is.memory (is.answer_is ∙ said_accepted is.end said);
+          content = is.content;
+          beside = is.beside;
         },
       )
-      one_boot (spent quiet own is used same) (spent quiet_too own_too also used_too same_too) = (is ∙ sym also, λ heard. absurd (subst IsSaid is heard))
-      one_boot (adopted quiet newest up clean ok memory by_calls here is) (empty quiet_too up_too clean_too also memory_too by_calls_too here_too none same) =
-          absurd (never_found (site_of host) sound k.content j.content alike is.head is.replica is.shown none)
-      one_boot (adopted quiet newest up clean ok memory by_calls here is) (spent quiet_too own also used kept) = absurd (never_both is.head used.head is.replica is.shown used.replica used.shown is.fits used.spent)
-      one_boot (empty quiet up clean ok memory by_calls here none same) (adopted quiet_too other up_too clean_too also memory_too by_calls_too here_too is) =
-          absurd (never_lost (site_of host) sound k.content j.content alike is.head is.replica is.shown none)
-      one_boot (empty quiet up clean ok memory by_calls here none same) (spent quiet_too own also used kept) = absurd (never_lost (site_of host) sound k.content j.content alike used.head used.replica used.shown none)
-      one_boot (spent quiet own ok used kept) (adopted quiet_too other up_too clean_too also memory_too by_calls_too here_too is) = absurd (nor_both used.head is.head used.replica used.shown is.replica is.shown used.spent is.fits)
-      one_boot (spent quiet own ok used kept) (empty quiet_too up_too clean_too also memory_too by_calls_too here_too none same) = absurd (never_found (site_of host) sound k.content j.content alike used.head used.replica used.shown none)
-      one_boot (wanting quiet own headed is same) second = absurd (sated.not_wanting is)
-      one_boot first (wanting quiet own headed is same) = absurd (sated_too.not_wanting is)
-      one_boot (down so up ok memory by_calls same) second = absurd (calm host.home.drive.0 so)
-      one_boot (lost so own found panic left) second = absurd (calm host.home.drive.0 so)
-      one_boot first (down so up ok memory by_calls same) = absurd (calm host.home.drive.0 so)
-      one_boot first (lost so own found panic left) = absurd (calm host.home.drive.0 so)
+    ]
 
-    -- a line `boot`
-    pub boot_same : (calls : Outcomes) → NeverFailed calls → (k j n m : Kept) (a b : Answer) → Same k j → IsSatisfied a → IsSatisfied b → IsRebooted calls host k a n → IsRebooted calls host j b m → One n m a b
-    boot_same calls calm k j n m a b same sated sated_too first second =
-        one_boot calls calm k j n m a b (alike_kept k j same.memory.opened same.one same.other) same.memory.begun same.beside sated sated_too first second
+    -- what was adopted is on the drives
+    adopted_held : (o : Opened) → Booted calls k n (end.Adopted o) → IsHeld o n.content
+    adopted_held o is = record {
+      key = ap (λ (x : Opened). x.key) is.by.is;
+      some = (let active = left_active calls calm _ is.by.seats o.seats is.by.left in let most = is.by.drawn.enough in omega (arith, active, most));
+      on = is.content;
+    }
+
+    -- and nothing was written but there
+    adopted_changed : (o : Opened) (is : Booted calls k n (end.Adopted o)) → (key : host.site ≡ site_of host.drives o.key)
+        → IsChanged (Spells host.drives) (one_text host.drives) host.site ok (IsAway (Spells host.drives) (one_text host.drives) host.site ok (replicas_of o.seats)) (replicas_of o.seats) k.content n.content
+    adopted_changed o is key =
+        written host.drives host.site ok o key head is.by.seats (left_is calls calm (TakesBoth is.by.number bytes) (rewritten is.by.number bytes) (rewritten_is is.by.number bytes) is.by.seats o.seats is.by.left) k.content n.content found wrote is.content where
+          bytes : ℕ
+          bytes = length (record_text is.by.newest.table)
+
+          head : Replica → Head
+          head r = (rewritten is.by.number bytes r).head
+
+          found : (r : Replica) → Contains (replicas_of is.by.seats) r → There k.content r
+          found r among =
+              let hand = is.by.drawn.hand in
+              let at = seated_at is.survey.replicas is.by.replica.head.master.identity (blocks_for bytes) (places_of is.by.newest.table.plan.lists) r (subst (λ (l : List Seat). Contains (replicas_of l) r) hand.seats_are among) in
+              here_of (Spells host.drives) (one_text host.drives) host.site ok k.content r (is.all.of.each r at.1)
+
+          wrote : IsSameBeside (seats_area is.by.seats) k.content n.content
+          wrote = subst (λ (l : List Seat). WritesTo k.content n.content l) is.by.written.seats_are is.by.written.wrote
+
+    no_database : (e : BootEnd) (is : Booted calls k n e) → IsSaid (answered_by e) → opened_by e ≡ None → Settled n
+    no_database e is said none o opened = absurd (let never : None ≡ Some o = sym none ∙ sym (ap (λ (m : Memory). m.opened) (is.memory said)) ∙ opened in cc (never))
+
+    settled_behind : (e : BootEnd) → Booted calls k n e → IsSaid (answered_by e) → Settled n
+    settled_behind (end.Adopted o) is said = λ p opened.
+        subst (λ (x : Opened). IsHeld x n.content) (some_same o p (sym (ap (λ (m : Memory). m.opened) (is.memory said)) ∙ opened)) (adopted_held o is)
+    settled_behind end.Empty is said = no_database end.Empty is said refl
+    settled_behind (end.TwoDatabases a b) is said = absurd said
+    settled_behind (end.NoQuorum readable needed) is said = absurd said
+    settled_behind (end.Lost active listed) is said = absurd said
+    settled_behind end.Spent is said = absurd said
+    settled_behind end.Memory is said = absurd said
+
+    out_behind : (e : BootEnd) → Booted calls k n e → IsSaid (answered_by e) → IsSameBeside (site_area host.site) k.content n.content
+    out_behind (end.Adopted o) is said = is.beside
+    out_behind end.Empty is said = λ drive block out. is.beside drive block refl
+    out_behind (end.TwoDatabases a b) is said = absurd said
+    out_behind (end.NoQuorum readable needed) is said = absurd said
+    out_behind (end.Lost active listed) is said = absurd said
+    out_behind end.Spent is said = absurd said
+    out_behind end.Memory is said = absurd said
+
+  -- two boots from blocks that a boot can't tell apart
+  module _ (calls also : Outcomes) (calm : NoneFailed calls) (calm_too : NoneFailed also) (k j n m : Kept) (a b : Answer) (alike : Alike k.content j.content) (begun : k.memory.begun ≡ j.memory.begun)
+      (beside : (drive block : ℕ) → site_area host.site drive block ≡ false → k.content drive block ≡ j.content drive block) (sated : IsSatisfied a) (sated_too : IsSatisfied b) where
+    alike_end : (e : BootEnd) → Booted calls k n e → Booted also j m e → IsSaid (answered_by e) → Alike n.content m.content
+    alike_end (end.Adopted o) one two said =
+        let key = its_site o (adopted_held calls calm k n o one).key in
+        alike_behind host.drives host.site ok o key (IsAway (Spells host.drives) (one_text host.drives) host.site ok (replicas_of o.seats)) k.content j.content n.content m.content alike
+        (adopted_changed calls calm k n o one key) (adopted_changed also calm_too j m o two key) one.content two.content
+    alike_end end.Empty one two said =
+        alike_beside (Spells host.drives) (one_text host.drives) host.site ok k.content j.content n.content m.content (λ drive block within. one.beside drive block refl) (λ drive block within. two.beside drive block refl) alike
+    alike_end (end.TwoDatabases x y) one two said = absurd said
+    alike_end (end.NoQuorum readable needed) one two said = absurd said
+    alike_end (end.Lost active listed) one two said = absurd said
+    alike_end end.Spent one two said = absurd said
+    alike_end end.Memory one two said = absurd said
+
+    same_end : (e : BootEnd) → is_memory e ≡ false → Booted calls k n e → Booted also j m e → IsSaid (answered_by e) → Same n m
+    same_end e so one two said = record {
+      memory = same_through n.memory (booted_with (opened_by e) one.up one.clean k.memory.begun) (booted_with (opened_by e) two.up two.clean j.memory.begun) m.memory (one.memory said) (two.memory said)
+          (booted_same host calls also calm calm_too e so (opened_by e) one.up two.up one.clean two.clean k.memory.begun j.memory.begun begun one.up_by two.up_by);
+      beside = λ drive block out. out_behind calls calm k n e one said drive block out ∙ beside drive block out ∙ sym (out_behind also calm_too j m e two said drive block out);
+      alike = alike_end e one two said;
+      one = settled_behind calls calm k n e one said;
+      other = settled_behind also calm_too j m e two said;
+    }
+
+    pub one_boot : IsRebooted calls host k a n → IsRebooted also host j b m → One n m a b
+    one_boot first second =
+        let one = booted calls calm k n a sated first in
+        let two = booted also calm_too j m b sated_too second in
+        let surveys = one_survey host.drives host.site ok once_there brought k.content j.content alike one.1.survey two.1.survey one.1.all two.1.all in
+        let ends : second.end ≡ first.end =
+        sym (one_end calls also calm calm_too _ _ host.site one.1.survey two.1.survey surveys.replicas surveys.newest first.end second.end one.0 two.0 one.1.by two.1.by) in (
+          first.answer_is ∙ ap answered_by (sym ends) ∙ sym second.answer_is,
+          λ said. same_end first.end one.0 one.1 (subst (λ (e : BootEnd). Booted also j m e) ends two.1) (subst IsSaid first.answer_is said),
+        )
+
+  -- a line `boot`
+  pub boot_same : (calls also : Outcomes) → NoneFailed calls → NoneFailed also → (k j n m : Kept) (a b : Answer) → Same k j → IsSatisfied a → IsSatisfied b → IsRebooted calls host k a n → IsRebooted also host j b m → One n m a b
+  boot_same calls also calm calm_too k j n m a b same sated sated_too first second =
+      one_boot calls also calm calm_too k j n m a b same.alike same.memory.begun same.beside sated sated_too first second
 
   -- a write puts the same blocks
-  module _ (place : DriveBlock) (block : List ℕ) (beside_home : area_of (site_of host) place.drive (place.block + 0) ≡ false) where
-    put_settled : (kept next : Kept) → next.memory.opened ≡ kept.memory.opened → Settled kept → ArePut place (block ∷ []) kept.content next.content → Settled next
-    put_settled kept next opened settled put = there_settled kept next settled opened (λ b from to. there b (in_place host.home.drive.0 (site_of host).at.first (site_of host).at.place.blocks b from to)) where
-      in_place : (drive first blocks b : ℕ) → first ≤ b → b < first + blocks → range drive first blocks drive b ≡ true
-      in_place drive first blocks b from to = grind (arith, nat_tests)
-
-      there : (b : ℕ) → area_of (site_of host) host.home.drive.0 b ≡ true → on_site (site_of host) next.content b ≡ on_site (site_of host) kept.content b
-      there b within = elim (both_ways (covers place.drive place.block 1 host.home.drive.0 b)) [
-        | inl here ↦
-            let at = put_at place.drive place.block host.home.drive.0 b here in
-            let in_area : area_of (site_of host) place.drive (place.block + 0) ≡ true = sym (λ i. area_of (site_of host) (at.0 i) (at.1 i)) ∙ within in
-            absurd (cc (in_area, beside_home))
-        | inr out ↦ put.elsewhere host.home.drive.0 b out
-      ]
+  module _ (place : DriveBlock) (block : List ℕ) (beside_site : site_area host.site place.drive (place.block + 0) ≡ false) where
+    put_kept : (old new : Image) → ArePut place (block ∷ []) old new → (drive b : ℕ) → site_area host.site drive b ≡ true → new drive b ≡ old drive b
+    put_kept old new put drive b within = elim (both_ways (covers place.drive place.block 1 drive b)) [
+      | inl here ↦
+          let at = put_at place.drive place.block drive b here in
+          let in_area : site_area host.site place.drive (place.block + 0) ≡ true = sym (λ i. site_area host.site (at.0 i) (at.1 i)) ∙ within in
+          absurd (false≢true (sym beside_site ∙ in_area))
+      | inr out ↦ put.elsewhere drive b out
+    ]
 
     pub put_same : (k j n m : Kept) → Same k j → n.memory ≡ k.memory → m.memory ≡ j.memory → ArePut place (block ∷ []) k.content n.content → ArePut place (block ∷ []) j.content m.content → Same n m
     put_same k j n m same memory memory_too put put_too = record {
@@ -207,8 +348,9 @@ module _ (host : Host) where
         | inl here ↦ there n put (put_at place.drive place.block drive b here) ∙ sym (there m put_too (put_at place.drive place.block drive b here))
         | inr away ↦ put.elsewhere drive b away ∙ same.beside drive b out ∙ sym (put_too.elsewhere drive b away)
       ];
-      one = put_settled k n (ap (λ (x : Memory). x.opened) memory) same.one put;
-      other = put_settled j m (ap (λ (x : Memory). x.opened) memory_too) same.other put_too;
+      alike = alike_beside (Spells host.drives) (one_text host.drives) host.site ok k.content j.content n.content m.content (put_kept k.content n.content put) (put_kept j.content m.content put_too) same.alike;
+      one = there_settled k n same.one (ap (λ (x : Memory). x.opened) memory) (put_kept k.content n.content put);
+      other = there_settled j m same.other (ap (λ (x : Memory). x.opened) memory_too) (put_kept j.content m.content put_too);
     } where
       there : (next : Kept) {old : Image} {drive b : ℕ} → ArePut place (block ∷ []) old next.content → (drive ≡ place.drive) × (b ≡ place.block + 0) → next.content drive b ≡ block
       there next {old} {drive} {b} is at = ap (λ (d : ℕ). next.content d b) at.0 ∙ ap (next.content place.drive) at.1 ∙ is.here 0 (omega arith)

@@ -1,7 +1,9 @@
 mod Asked
+pub mod Looked
 pub mod Coming
 pub mod Deeds
 pub mod Made
+pub mod Owning
 pub mod Turning
 pub mod Lining
 pub mod Booting
@@ -9,8 +11,13 @@ pub mod Entries
 pub mod Elsewhere
 pub mod Living
 pub mod Extents
-pub mod Again
 pub mod Placing
+pub mod Moving
+pub mod Once
+pub mod Surveyed
+pub mod Passing
+pub mod Ending
+pub mod Written
 pub mod Keeping
 pub mod Carrying
 pub mod Course

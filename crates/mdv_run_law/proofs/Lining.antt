@@ -1,14 +1,13 @@
 -- How the moments of the lines add up.
-use Rattle.std.proofs.Common.{◌≡◌, ◌⊎◌, inl, inr, ⊎_elim, ℕ, List, [], ◌++◌, refl, sym, ◌∙◌, ap, subst, append_assoc}
+use Rattle.std.proofs.Common.{◌≡◌, ℕ, List, [], ◌++◌, refl, sym, ◌∙◌, ap, subst, append_assoc}
 use Rattle.std.proofs.lemmas.List.{append-nil}
-use Rattle.mdv_run_law.specs.Below.{Script, Tale, told, Said, left_in, replies_in, History, Deed, Created, Event, history_after_all, Host, key_of, Memory, StandsAt, Reached, IsKnown}
+use Rattle.mdv_run_law.specs.Below.{Script, Tale, told, Said, left_in, replies_in, History, Event, Host, Memory, StandsAt, Reached, IsKnown}
 use Rattle.mdv_store_law.proofs.Machine.{goes_more}
 use Rattle.mdv_run_law.specs.Below.{Happening, history_after}
 use Rattle.mdv_engine_law.proofs.Plain.{nothing_answers, nothing_said}
 use Rattle.mdv_engine_law.proofs.Staying.{stays_more, stays_same}
-use Rattle.mdv_run_law.specs.Standing.{ComeOf, Context, IsSettled, context_of, InWork, NothingLeft, IsTold, Goes, behind, AreReplies, LinesMoment, RanTo}
-use Rattle.mdv_run_law.proofs.Coming.{behind_none, behind_more, told_none, told_either, in_work_none, come_more}
-use Rattle.mdv_run_law.proofs.Made.{ours_stays, shows_made}
+use Rattle.mdv_run_law.specs.Standing.{ComeOf, Context, IsSettled, context_of, InWork, NothingLeft, Goes, behind, AreReplies, LinesMoment, RanTo}
+use Rattle.mdv_run_law.proofs.Coming.{behind_none, behind_more, in_work_none, come_more}
 
 -- nothing happened
 goes_nothing : (host : Host) (Come : List Event → Type 0) (After : List Event → History → Type 0) (m : Tale) (h : History) → Come [] → StandsAt host h m → After [] h → Goes host Come After m h
@@ -16,10 +15,6 @@ goes_nothing host Come After m h come stands after = record { es = []; course = 
 
 -- bytes that are whole replies, and what comes behind them
 module _ (script left : Script) (a b : List ℕ) (replies : AreReplies a) (left_is : behind script (replies_in a) ≡ left) where
-  pub told_behind : (host : Host) (deed : Deed) → IsTold host script (replies_in (a ++ b)) deed → IsTold host script (replies_in a) deed ⊎ IsTold host left (replies_in b) deed
-  told_behind host deed is = ⊎_elim (λ first. inl first) (λ second. inr (subst (λ (s : Script). IsTold host s (replies_in b) deed) left_is second))
-      (told_either host script (replies_in a) (replies_in b) deed (subst (λ (l : List (List ℕ)). IsTold host script l deed) (replies.replies b) is))
-
   pub come_behind : (host : Host) (Left : Context → Script → List Event → Type 0) (now down : Context) (es fs : List Event) → IsSettled now → ComeOf host (NothingLeft now) down script (replies_in a) es → ComeOf host Left now left (replies_in b) fs
       → ComeOf host Left down script (replies_in (a ++ b)) (es ++ fs)
   come_behind host Left now down es fs known first second =
@@ -41,15 +36,11 @@ replies_none : AreReplies []
 replies_none = record { replies = λ rest. ap (λ (l : List (List ℕ)). l ++ replies_in rest) (sym nothing_answers); left = λ rest. refl }
 
 module _ (host : Host) (script : Script) (first : Memory) (t : Tale) where
-  nothing_told : (deed : Deed) → IsTold host script (replies_in []) deed → ⊥
-  nothing_told deed is = told_none host script deed (subst (λ (l : List (List ℕ)). IsTold host script l deed) nothing_answers is)
-
   pub lines_start : LinesMoment host script first t t
   lines_start = record {
     bytes = [];
     is_told = sym (append-nil (told t));
     home = stays_same host t;
-    made = λ knows is. absurd (nothing_told (Created (key_of host)) is);
     goes = λ h known. goes_nothing host (ComeOf host (InWork host (left_in [])) (context_of first) script (replies_in [])) Reached t h
         (subst (λ (s : Said). ComeOf host (InWork host s.left) (context_of first) script s.replies []) (sym nothing_said) (in_work_none host (context_of first) script)) known.stands tt;
   }
@@ -62,7 +53,6 @@ module _ (host : Host) (script : Script) (first : Memory) (t : Tale) where
     left_is = ap (behind script) nothing_answers ∙ behind_none script;
     home = stays_same host t;
     knows = λ knows. knows;
-    made = λ knows is. absurd (nothing_told (Created (key_of host)) is);
     goes = λ h known. goes_nothing host (ComeOf host (NothingLeft (context_of first)) (context_of first) script (replies_in [])) (λ es after. IsKnown host first after t) t h
         (subst (λ (l : List (List ℕ)). ComeOf host (NothingLeft (context_of first)) (context_of first) script l []) (sym nothing_answers) (refl, refl)) known.stands known;
   }
@@ -85,13 +75,6 @@ module _ (host : Host) (script : Script) (first : Memory) (t : Tale) where
       bytes = ran.bytes ++ lines.bytes;
       is_told = is_told_both m lines.bytes lines.is_told;
       home = stays_more host t u m ran.home lines.home;
-      made = λ knows is. ⊎_elim
-          (λ before.
-          let has = ran.made knows before in
-          let after = lines.goes has.history has.known in
-          shows_made host has.number (history_after_all has.history after.es) m (ours_stays host has.number has.history after.es after.course (record { issued = has.issued; firm = has.firm })) after.stands)
-          (λ here. lines.made (ran.knows knows) here)
-          (told_behind script left ran.bytes lines.bytes ran.replies ran.left_is host (Created (key_of host)) is);
       goes = λ h known. subst (λ (l : List ℕ). Goes host (ComeOf host (InWork host l) (context_of first) script (replies_in (ran.bytes ++ lines.bytes))) Reached m h) (sym (ran.replies.left lines.bytes))
           (lines_goes (InWork host (left_in lines.bytes)) m lines.bytes (λ g. Unit {0}) h (ran.goes h known) (λ g after. lines.goes g after));
     }
@@ -104,13 +87,5 @@ module _ (host : Host) (script : Script) (first : Memory) (t : Tale) where
       left_is = behind_both script left ran.bytes more.bytes ran.replies ran.left_is rest more.left_is;
       home = stays_more host t u v ran.home more.home;
       knows = λ knows. more.knows (ran.knows knows);
-      made = λ knows is. ⊎_elim
-          (λ before.
-          let has = ran.made knows before in
-          let after = more.goes has.history has.known in
-          let ours = ours_stays host has.number has.history after.es after.course (record { issued = has.issued; firm = has.firm }) in
-          record { history = history_after_all has.history after.es; known = after.after; number = has.number; issued = ours.issued; firm = ours.firm })
-          (λ here. more.made (ran.knows knows) here)
-          (told_behind script left ran.bytes more.bytes ran.replies ran.left_is host (Created (key_of host)) is);
       goes = λ h known. lines_goes (NothingLeft (context_of new)) v more.bytes (λ after. IsKnown host new after v) h (ran.goes h known) (λ g after. more.goes g after);
     }

@@ -1,16 +1,12 @@
 -- One turn, told by the script before it.
-use Rattle.std.proofs.Common.{◌≡◌, ◌⊎◌, inl, inr, ℕ, Bool, true, false, ◌||◌, cond, List, [], ◌∷◌, ◌++◌, Some, None, Contains, refl, sym, ◌∙◌, ap, subst}
+use Rattle.std.proofs.Common.{◌≡◌, ◌⊎◌, inl, inr, ℕ, Bool, true, false, ◌||◌, cond, List, [], ◌∷◌, ◌++◌, Some, None, refl, sym, ◌∙◌, ap, subst}
 use Rattle.std.specs.Str.{bytes_eq}
 use Rattle.std.proofs.lemmas.Slice.Eq.{bytes_eq-Decides}
 use Rattle.mdv_base.specs.declared.refusal.Refusal.TheVariants.{IoFault}
-use Rattle.mdv_run_law.specs.Below.{Drives, Script, too_long, line, Tale, Said, left_in, replies_in, Boot, IsLine, History, Deed, Created, Event, history_after_all, log_of, Host, key_of, Ask, Nothing, Memory, IsFront, IsReply, Acks, AcksBy, AcksFront, AcksIn, is_front_of, issuable, issuable_front, issuable_in, issuable_of, ok_line, refusal_line, HasBooted, StandsAt, Does, Knows, IsKnown, TurnMoment, Turned}
-use Rattle.mdv_engine_law.specs.Home.{StaysHome}
-use Rattle.mdv_engine_law.specs.Standing as turn
-use Rattle.mdv_engine_law.specs.Standing.{IsBare}
-use Rattle.mdv_run_law.specs.Standing.{AsksBy, AreIdle, AreOfLine, ComeOf, context_of, HasEntries, InWork, IsWanting, NothingLeft, IsTold, AreReplies, behind, LinesMoment, RanTo}
-use Rattle.mdv_run_law.proofs.Coming.{acked_by, behind_none, no_ok, told_none, in_work_none, come_line, come_long}
+use Rattle.mdv_run_law.specs.Below.{Drives, Script, too_long, line, Tale, Said, StaysHome, left_in, replies_in, Boot, IsLine, Deed, Event, Host, key_of, Ask, Nothing, Memory, IsFront, IsReply, Acks, AcksBy, AcksFront, AcksIn, is_front_of, issuable, issuable_front, issuable_in, issuable_of, ok_line, refusal_line, HasBooted, Does, Knows, TurnMoment, Turned}
+use Rattle.mdv_run_law.specs.Standing.{AsksBy, AreIdle, AreOfLine, ComeOf, context_of, HasEntries, InWork, IsWanting, NothingLeft, AreReplies, behind, LinesMoment, RanTo}
+use Rattle.mdv_run_law.proofs.Coming.{behind_none, no_ok, in_work_none, come_line, come_long}
 use Rattle.mdv_shelf.proofs.Moments.{some_is}
-use Rattle.mdv_run_law.proofs.Made.{IsOurs, began_known, just_booted, made_ours, shows_made}
 
 -- a whole reply is whole replies
 pub reply_replies : (bytes : List ℕ) → IsReply bytes → AreReplies bytes
@@ -25,27 +21,12 @@ only_reply bytes is = ap (λ (s : Said). s.replies) is.alone
 
 -- one turn, told by the script before it
 module _ (host : Host) (script : Script) (ask : Ask) (old : Memory) (t : Tale) where
-  -- a creation that such a turn told is this run's
-  turn_made : (m : Tale) (may done : List Deed) (After : List Event → History → Type 0) → Knows host old t → Contains done (Created (key_of host)) → (Contains done (Created (key_of host)) → IsBare old)
-      → (goes : (h : History) → IsKnown host old h t → turn.Goes host may done After m h)
-      → (h : History) × StandsAt host h m × ((es : List Event) × After es h) × ((number : ℕ) × IsOurs host number (log_of h.databases (key_of host)))
-  turn_made m may done After knows has free goes =
-      let went = goes (just_booted host old) (began_known host old t knows (free has)) in (
-        history_after_all (just_booted host old) went.es,
-        went.stands,
-        (went.es, went.after),
-        made_ours host old may done m went.es went.course went.come has went.stands,
-      )
-
   pub turn_lines : (m : Tale) (moment : TurnMoment host ask old t m) → ((es : List Event) → Does host (issuable_of ask moment.bytes) moment.done es → ComeOf host (InWork host (left_in moment.bytes)) (context_of old) script (replies_in moment.bytes) es)
-      → (IsTold host script (replies_in moment.bytes) (Created (key_of host)) → Contains moment.done (Created (key_of host))) → LinesMoment host script old t m
-  turn_lines m moment come is_acked = record {
+      → LinesMoment host script old t m
+  turn_lines m moment come = record {
     bytes = moment.bytes;
     is_told = moment.is_told;
     home = moment.home;
-    made = λ knows told.
-        let made = turn_made m (issuable_of ask moment.bytes) moment.done turn.Reached knows (is_acked told) moment.free moment.goes in
-        shows_made host made.3.0 made.0 m made.3.1 made.1;
     goes = λ h known.
         let went = moment.goes h known in
         record { es = went.es; course = went.course; come = come went.es went.come; stands = went.stands; after = tt };
@@ -53,17 +34,14 @@ module _ (host : Host) (script : Script) (ask : Ask) (old : Memory) (t : Tale) w
 
   pub turn_ran : (new : Memory) (left : Script) (u : Tale) (turned : Turned host ask old new t u) → StaysHome host t u
       → (Knows host old t → (es : List Event) → Does host (issuable ask turned.bytes) turned.done es → ComeOf host (NothingLeft (context_of new)) (context_of old) script (replies_in turned.bytes) es)
-      → (IsTold host script (replies_in turned.bytes) (Created (key_of host)) → Contains turned.done (Created (key_of host))) → behind script (replies_in turned.bytes) ≡ left → RanTo host script old new left t u
-  turn_ran new left u turned home come is_acked left_is = record {
+      → behind script (replies_in turned.bytes) ≡ left → RanTo host script old new left t u
+  turn_ran new left u turned home come left_is = record {
     bytes = turned.bytes;
     is_told = turned.is_told;
     replies = reply_replies turned.bytes turned.reply;
     left_is = left_is;
     home = home;
     knows = turned.knows;
-    made = λ knows told.
-        let made = turn_made u (issuable ask turned.bytes) turned.done (λ es after. IsKnown host new after u) knows (is_acked told) turned.free turned.goes in
-        record { history = made.0; known = made.2.1; number = made.3.0; issued = made.3.1.issued; firm = made.3.1.firm };
     goes = λ h known.
         let went = turned.goes h known in
         record { es = went.es; course = went.course; come = come known.knows went.es went.come; stands = went.stands; after = went.after };
@@ -99,24 +77,11 @@ module _ (host : Host) (text : List ℕ) (ask : Ask) (more : Script) where
       } in
       subst (λ (s : Said). ComeOf host (InWork host s.left) (context_of old) (line text more) s.replies es) (sym one) (come_line host (InWork host []) (context_of old) None text more bytes es here (in_work_none host None more))
 
-  -- a creation that the reply tells is among what it acknowledges
-  one_told : (reply : List ℕ) → AsksBy host text reply ask → (done : List Deed) → AcksBy ask reply done → IsTold host (line text more) (reply ∷ []) (Created (key_of host)) → Contains done (Created (key_of host))
-  one_told reply asks done acks (inl here) = acked_by host text reply (Created (key_of host)) tt here.0 here.1 here.2 here.3 here.4 ask asks done acks
-  one_told reply asks done acks (inr is) = absurd (told_none host more (Created (key_of host)) is)
-
-  pub front_told : (bytes : List ℕ) → AsksBy host text bytes ask → IsFront bytes → (done : List Deed) → Acks ask bytes done → IsTold host (line text more) (replies_in bytes) (Created (key_of host)) → Contains done (Created (key_of host))
-  front_told bytes asks (inl none) done acks is = absurd (told_none host (line text more) (Created (key_of host)) (subst (λ (s : Said). IsTold host (line text more) s.replies (Created (key_of host))) none is))
-  front_told bytes asks (inr one) done acks is =
-      one_told bytes asks done (subst (λ (s : Said). AcksIn ask s.replies s.left done) one acks) (subst (λ (s : Said). IsTold host (line text more) s.replies (Created (key_of host))) one is)
-
-  pub reply_told : (bytes : List ℕ) → AsksBy host text bytes ask → IsReply bytes → (done : List Deed) → AcksBy ask bytes done → IsTold host (line text more) (replies_in bytes) (Created (key_of host)) → Contains done (Created (key_of host))
-  reply_told bytes asks is done acks told = one_told bytes asks done acks (subst (λ (s : Said). IsTold host (line text more) s.replies (Created (key_of host))) is.alone told)
-
   -- A turn of a line that is no boot, or that memory was wanting to read.
   pub line_moment : (old : Memory) (t m : Tale) (moment : TurnMoment host ask old t m) → AsksBy host text moment.bytes ask → IsNoBoot text moment.bytes → LinesMoment host (line text more) old t m
   line_moment old t m moment asks other =
       turn_lines host (line text more) ask old t m moment
-      (λ es does. front_come old moment.bytes asks moment.front moment.done moment.acks es does (λ boot ok. absurd (never_boots text moment.bytes other boot ok))) (front_told moment.bytes asks moment.front moment.done moment.acks)
+      (λ es does. front_come old moment.bytes asks moment.front moment.done moment.acks es does (λ boot ok. absurd (never_boots text moment.bytes other boot ok)))
 
   pub reply_come : (old new : Memory) (bytes : List ℕ) → AsksBy host text bytes ask → (is : IsReply bytes) (done : List Deed) → AcksBy ask bytes done → (es : List Event) → Does host (issuable ask bytes) done es → (IsLine text Boot → bytes ≡ ok_line → (up : Drives) × HasBooted (key_of host) up es)
       → HasEntries text bytes (Some old.entries) new.entries → ComeOf host (NothingLeft (context_of new)) (context_of old) (line text more) (replies_in bytes) es
@@ -137,7 +102,7 @@ module _ (host : Host) (text : List ℕ) (ask : Ask) (more : Script) where
   line_ran old new t u turned home asks other leaves =
       turn_ran host (line text more) ask old t new more u turned home
       (λ knows es does. reply_come old new turned.bytes asks turned.reply turned.done turned.acks es does (λ boot ok. absurd (never_boots text turned.bytes other boot ok)) (leaves knows))
-      (reply_told turned.bytes asks turned.reply turned.done turned.acks) (ap (behind (line text more)) (only_reply turned.bytes turned.reply) ∙ behind_none more)
+      (ap (behind (line text more)) (only_reply turned.bytes turned.reply) ∙ behind_none more)
 
 -- where nothing is asked nothing is acknowledged
 pub none_acked : (bytes : List ℕ) (done : List Deed) → Acks Nothing bytes done → done ≡ []
@@ -171,17 +136,12 @@ module _ (host : Host) (more : Script) (old : Memory) where
     by (inl none) quiet = subst (λ (s : Said). ComeOf host (InWork host s.left) (context_of old) (too_long more) s.replies es) (sym none) quiet
     by (inr one) quiet = subst (λ (s : Said). ComeOf host (InWork host s.left) (context_of old) (too_long more) s.replies es) (sym one) (come_long host (InWork host []) (context_of old) more bytes es quiet (in_work_none host (context_of old) more))
 
-  long_told : (bytes : List ℕ) (deed : Deed) → IsFront bytes → IsTold host (too_long more) (replies_in bytes) deed → ⊥
-  long_told bytes deed (inl none) is = told_none host (too_long more) deed (subst (λ (s : Said). IsTold host (too_long more) s.replies deed) none is)
-  long_told bytes deed (inr one) is = told_none host more deed (subst (λ (s : Said). IsTold host (too_long more) s.replies deed) one is)
-
   pub long_moment : (t m : Tale) → TurnMoment host Nothing old t m → LinesMoment host (too_long more) old t m
-  long_moment t m moment = turn_lines host (too_long more) Nothing old t m moment (long_come moment.bytes moment.front moment.done moment.acks) (λ told. absurd (long_told moment.bytes (Created (key_of host)) moment.front told))
+  long_moment t m moment = turn_lines host (too_long more) Nothing old t m moment (long_come moment.bytes moment.front moment.done moment.acks)
 
   pub long_ran : (t u : Tale) → Turned host Nothing old old t u → StaysHome host t u → RanTo host (too_long more) old old more t u
   long_ran t u turned home =
       turn_ran host (too_long more) Nothing old t old more u turned home
       (λ knows es does. subst (λ (l : List (List ℕ)). ComeOf host (NothingLeft (context_of old)) (context_of old) (too_long more) l es) (sym (only_reply turned.bytes turned.reply))
       (come_long host (NothingLeft (context_of old)) (context_of old) more turned.bytes es (idle (issuable Nothing turned.bytes) turned.done (none_issuable_by turned.bytes) turned.acks es does) (refl, refl)))
-      (λ told. absurd (long_told turned.bytes (Created (key_of host)) (inr turned.reply.alone) told))
       (ap (behind (too_long more)) (only_reply turned.bytes turned.reply) ∙ behind_none more)

@@ -4,6 +4,8 @@ pub use Rattle.mdv_base.specs.Refusal.{refusal_text}
 pub use Rattle.mdv_base.specs.declared.drive.SliceName.{SliceName}
 pub use Rattle.mdv_base.specs.declared.mark.Identity.{Identity}
 pub use Rattle.mdv_base.specs.declared.mark.Mark.{Mark}
+pub use Rattle.mdv_base.specs.declared.drive.DriveNo.{DriveNo}
+pub use Rattle.mdv_base.specs.declared.name.Key.TheVariants.{Local}
 pub use Rattle.mdv_base.specs.declared.name.Key.{Key}
 pub use Rattle.mdv_base.specs.declared.name.VolId.{VolId}
 pub use Rattle.mdv_base.specs.declared.refusal.Refusal.{Refusal}
@@ -13,23 +15,23 @@ pub use Rattle.mdv_base.specs.declared.refusal.Refusal.TheVariants.{TooMany, Wro
 pub use Rattle.mdv_base.specs.declared.state_word.StateWord.{StateWord}
 pub use Rattle.mdv_base.specs.DriveSet.{Drives}
 pub use Rattle.mdv_engine_law.specs.Awake.{Happening, HasBooted, IsAwakeAt}
-pub use Rattle.mdv_engine_law.specs.Home.{identity_of, key_of, site_of, sites_of}
+pub use Rattle.mdv_engine_law.specs.Hosts.{StaysHome, host_area, identity_of, key_of}
 pub use Rattle.mdv_engine_law.specs.Commands.{CameTo, ComesTo}
 pub use Rattle.mdv_engine_law.specs.Line.{AreBlocksAt, ArePut, HasVolumeOn}
-pub use Rattle.mdv_engine_law.specs.Line.{IsCommitted, IsCreated, IsNew}
-pub use Rattle.mdv_engine_law.specs.Line.{IsRebooted, IsRewritten, IsSame, IsSameBeside, IsTurnedDown, Kept}
-pub use Rattle.mdv_engine_law.specs.Line.{Ask, Memory, Nothing, Stays, ToBoot, ToDo, ToMake, ToSee, adopted, asked_by, asked_by_line, blocks_of, down, contents, on_site}
-pub use Rattle.mdv_engine_law.specs.Line.{empty, kept_at, lost, record_room}
-pub use Rattle.mdv_engine_law.specs.Line.{unbooted, wanting}
+pub use Rattle.mdv_engine_law.specs.Line.{HasNoTableOn, IsCommitted, IsCreated}
+pub use Rattle.mdv_engine_law.specs.Line.{IsRebooted, IsSame, IsSameBeside, IsTurnedDown, Kept}
+pub use Rattle.mdv_engine_law.specs.Line.{Ask, Memory, Nothing, Stays, ToBoot, ToDo, ToMake, ToSee, asked_by, asked_by_line, blocks_of, contents}
+pub use Rattle.mdv_engine_law.specs.Line.{kept_at, record_room, unbooted}
 pub use Rattle.mdv_engine_law.specs.Replies.{Acks, AcksBy, AcksFront, AcksIn, IsFront, IsPlain, IsRefusal, IsPlainAnswer, IsReplied, IsReply, IsTold, is_front_of, issuable, issuable_front, issuable_in, issuable_of}
 pub use Rattle.mdv_engine_law.specs.Replies.{ok_line, refusal_line}
-pub use Rattle.mdv_engine_law.specs.Standing.{BootMoment, BootedTo, Does, Executed, IsKnown, IsOfRun, Knows, Reached}
+pub use Rattle.mdv_engine_law.specs.Standing.{AreOwn, BootMoment, BootedTo, Does, Executed, IsKnown, IsOfRun, Knows, Reached}
 pub use Rattle.mdv_engine_law.specs.Standing.{StandsAt, TurnMoment, Turned}
 pub use Rattle.mdv_engine_law.specs.declared.answer.Answer.{Answer}
 pub use Rattle.mdv_engine_law.specs.declared.answer.Reply.{Reply}
 pub use Rattle.mdv_engine_law.specs.declared.host.Host.{Host}
-pub use Rattle.mdv_home.specs.Home.{IsHome, line_of}
-pub use Rattle.mdv_home.specs.declared.geometry.Home.{Home}
+pub use Rattle.mdv_home.specs.Drives.{own_drives}
+pub use Rattle.mdv_home.specs.View.{own_view}
+pub use Rattle.mdv_listing.specs.Listing.{listing_of}
 pub use Rattle.mdv_map.specs.Maps.{Map, readings, run_map}
 pub use Rattle.mdv_name.specs.Geometry.{IsGeometry}
 pub use Rattle.mdv_name.specs.SliceIndex.{HasNoSlice, HasSlice}
@@ -38,23 +40,24 @@ pub use Rattle.mdv_name.specs.declared.slice_lines.SliceAt.{SliceAt}
 pub use Rattle.mdv_name.specs.declared.slice_lines.SliceLine.{SliceLine}
 pub use Rattle.mdv_port.specs.Script.{Script, at_end, line, spent, too_long}
 pub use Rattle.mdv_record.specs.Text.{record_text}
-pub use Rattle.mdv_replica.specs.Form.{IsNewest, IsNewestGate, IsSpareSlot, boot_of, gate_of, greatest, other_slot, shows, text_of}
-pub use Rattle.mdv_replica.specs.declared.forms.Gate.{Gate}
-pub use Rattle.mdv_replica.specs.declared.forms.Gate.TheVariants.{Closed, Open}
+pub use Rattle.mdv_replica.specs.Form.{shows}
 pub use Rattle.mdv_replica.specs.declared.replica.Head.{Head}
 pub use Rattle.mdv_replica.specs.declared.replica.Slot.{Slot}
-pub use Rattle.mdv_replica.specs.declared.replica.Slot.TheVariants.{First, Second}
 pub use Rattle.mdv_shelf.specs.Calls.{OnDrive, OnReplies, Part}
 pub use Rattle.mdv_shelf.specs.Everywhere.{Everywhere, Image}
 pub use Rattle.mdv_shelf.specs.Tale.{Among, IsImage, MayLeave, Tale, covers, last, told, values}
 pub use Rattle.mdv_status.specs.Telling.{Said, left_in, one_reply, replies_in, said_in, unsaid}
-pub use Rattle.mdv_listing.specs.Listing.{listing_of}
 pub use Rattle.mdv_status.specs.Values.{entries_reply, printed_reply, values_reply}
+pub use Rattle.mdv_shown.specs.Found.{IsOwn}
+pub use Rattle.mdv_shown.specs.Site.{site_area}
+pub use Rattle.mdv_shown.specs.Sites.{site_of}
+pub use Rattle.mdv_shown.specs.declared.site.Site.{Site}
+pub use Rattle.mdv_standing.specs.Holding.{HasNoReplica}
+pub use Rattle.mdv_standing.specs.Laws.{ShowsNoTable}
+pub use Rattle.mdv_store.specs.Opened.{IsOpenedAt, Opened}
+pub use Rattle.mdv_store.specs.Records.{Spells}
 pub use Rattle.mdv_store_law.specs.Laws.{restarted}
 pub use Rattle.mdv_store_law.specs.Log.{AreMade, Extends, IsLog, Log, Version, answered, empty_log, is_firm, with_asked}
-pub use Rattle.mdv_store_law.specs.Site.{HasTable, IsFound, IsNewestOf, IsReplica, Newest, Site, area_of, sized}
-pub use Rattle.mdv_store_law.specs.Standing.{IsNewestIn, IsOpened, nothing, replica}
-pub use Rattle.mdv_store_law.specs.Steps.{adopted_newest, next_newest}
 pub use Rattle.mdv_tab.specs.Text.{IsTab}
 pub use Rattle.mdv_tab.specs.declared.entry.Entry.{Entry}
 pub use Rattle.mdv_table.specs.Slices.{HasBlock, IsSound}
@@ -70,7 +73,7 @@ pub use Rattle.mdv_table.specs.declared.volume.Component.{Component}
 pub use Rattle.mdv_table.specs.declared.volume.Volume.{Volume}
 pub use Rattle.mdv_table.specs.declared.volume.VolumeKind.{VolumeKind}
 pub use Rattle.mdv_table.specs.declared.volume.VolumeKind.TheVariants.{Stripe}
-pub use Rattle.mdv_volumes.specs.Databases.{log_of, same_key}
+pub use Rattle.mdv_volumes.specs.Databases.{Database, log_of, same_key}
 pub use Rattle.mdv_volumes.specs.Happening.{IsCourse, IsNamed, MayHappen, issued_by, told_by}
 pub use Rattle.mdv_volumes.specs.History.{Acknowledges, Changed, Crashes, Created, Deed, Event, History, Saw, Stops, Wrote, history_after, history_after_all}
 pub use Rattle.mdv_volumes.specs.HistoryLaws.{Lasts, new_history}

@@ -1,23 +1,25 @@
 -- Lives: any number of runs on the same drives, each but the first begun on what the one before left, or a crash in it.
-use Rattle.std.specs.Prelude.{◌≡◌, ◌≢◌, ◌⊎◌, ◌<◌, ℕ, List, [], ◌∷◌, ◌++◌, reverse, None, Contains}
-use Rattle.mdv_run_law.specs.Below.{IsHome, Home, Geometry, Script, Head, Slot, IsNewest, Mark, Image, Tale, Among, last, on_site, Key, VolId, Map, readings, Change, Table, Version, IsSound, restarted, AreMade, HasTable, IsFound, IsReplica, Deed, Acknowledges, Created, Changed, Crashes, Stops, Event, IsNamed, Happening, Lasts, history_after, history_after_all, log_of, new_history, Host, key_of, site_of, sites_of, StandsAt, left_in, replies_in}
-use Rattle.mdv_home.specs.Drives.{own_drives}
-use Rattle.mdv_home.specs.View.{own_view}
+use Rattle.std.specs.Prelude.{◌≡◌, ◌≢◌, ◌⊎◌, ◌<◌, ℕ, List, [], ◌∷◌, ◌++◌, reverse, None, Some, Contains, true}
+use Rattle.mdv_run_law.specs.Below.{Acknowledges, Among, AreMade, BootedTo, Change, Changed, Crashes, Created, Deed, Drives, Event, Geometry, Happening, HasNoReplica, HasNoTableOn, Host, Identity, Image, IsKnown, IsNamed, IsSound, Key, Lasts, Local, Map, Memory, Opened, Script, ShowsNoTable, SliceLine, Spells, StandsAt, Stops, Table, Tale, Version, VolId, history_after, history_after_all, last, left_in, log_of, new_history, own_view, readings, replies_in, restarted, site_of}
 use Rattle.mdv_store_law.specs.Machine as machine
 use Rattle.mdv_store_law.specs.Log.{changes_of}
+use Rattle.mdv_survey.specs.Choice.{IsChoice}
+use Rattle.mdv_survey.specs.Survey.{IsSurvey, IsSurveyOf, answers_in}
+use Rattle.mdv_survey.specs.declared.choosing.Choice.TheVariants as chosen
+use Rattle.mdv_survey.specs.declared.replica.Survey.{Survey}
 use Rattle.mdv_volumes.specs.HistoryLaws.{database_deeds}
 use Rattle.mdv_volumes.specs.Standing.{LeavesNoMore}
-use Rattle.mdv_run_law.specs.Run.{HasHome}
+use Rattle.mdv_run_law.specs.Run.{IsOfTable}
 use Rattle.mdv_store_law.specs.Part.{IsPart}
-use Rattle.mdv_run_law.specs.Standing.{RunMoment, AreBegun, AreOfRun, AreTold, IsTold}
+use Rattle.mdv_run_law.specs.Standing.{RunMoment, AreBegun, AreIdle, AreOfRun, AreTold, IsTold}
 
 -- a host's run, told by the word that its databases' identities have: it sees what is its own of the table of drives
-abbrev pub host_of : Geometry → Home → ℕ → Host
-host_of table home fresh = record { drives = own_view table home.host; own = own_drives table home.host; home = home; fresh = fresh }
+abbrev pub host_of : Geometry → List ℕ → ℕ → Host
+host_of table name fresh = record { drives = own_view table name; site = site_of (own_view table name) (Local name); fresh = fresh }
 
--- a run that was stopped: its host by the home, the word of its identities, its script, and what it had told
+-- a run that was stopped: its host by the name, the word of its identities, its script, and what it had told
 pub record Ran : Type 0 where
-  pub home : Home
+  pub host : List ℕ
   pub fresh : ℕ
   pub script : Script
   pub bytes : List ℕ
@@ -30,105 +32,140 @@ pub data MayBeFound (m : Tale) : Tale → Type 0 where
 
 -- Drives at the start of a run, behind these runs, the newest first, of new drives that held this.
 pub data Life (drives : Geometry) (made : Image) : List Ran → Tale → Type 0 where
-  -- new drives, whatever they hold, on which a boot of any host finds no database
-  new_drives : (told : List ℕ) → ((home : Home) → IsHome drives home → IsFound (site_of (host_of drives home 0)) (on_site (site_of (host_of drives home 0)) made) None) → Life drives made [] (restarted made told)
+  -- new drives, whatever they hold, on which no host finds a replica
+  new_drives : (told : List ℕ) → ((name : List ℕ) → Contains drives.hosts name → HasNoReplica (Spells (own_view drives name)) (own_view drives name) made) → Life drives made [] (restarted made told)
   -- a run of any host and whatever script, with whatever failures, up to one of its moments, the last one too, and what may be found of it
-  run_on : (ran : List Ran) (home : Home) (fresh : ℕ) (t m next : Tale) (script : Script) → Life drives made ran t → IsHome drives home → (moment : RunMoment (host_of drives home fresh) script t m) → MayBeFound m next
-      → Life drives made (record { home = home; fresh = fresh; script = script; bytes = moment.bytes } ∷ ran) next
+  run_on : (ran : List Ran) (name : List ℕ) (fresh : ℕ) (t m next : Tale) (script : Script) → Life drives made ran t → Contains drives.hosts name → (moment : RunMoment (host_of drives name fresh) script t m) → MayBeFound m next
+      → Life drives made (record { host = name; fresh = fresh; script = script; bytes = moment.bytes } ∷ ran) next
 
--- what else the laws need of these runs: nothing today
-abbrev pub IsFair : Geometry → List Ran → Type 0
-IsFair drives ran = Unit {0}
+-- no run of the host among these has the word
+abbrev pub IsNewWord : List ℕ → ℕ → List Ran → Type 0
+IsNewWord name fresh ran = (other : Ran) → Contains ran other → other.host ≡ name → other.fresh ≡ fresh → ⊥
 
--- a life of sound drives
+-- the word is that of a run of the host's among these
+pub record HasWord (name : List ℕ) (ran : List Ran) (fresh : ℕ) : Type 0 where
+  pub run : Ran
+  pub one_of : Contains ran run
+  pub of_host : run.host ≡ name
+  pub word : run.fresh ≡ fresh
+
+-- no two runs of one host have one word
+abbrev pub IsFair : List Ran → Type 0
+IsFair [] = Unit {0}
+IsFair (ran ∷ before) = IsNewWord ran.host ran.fresh before × IsFair before
+
+-- a life of sound drives, in which each run of a host had a word of its own
 pub record IsLife (drives : Geometry) (made : Image) (ran : List Ran) (t : Tale) : Type 0 where
   pub sound : IsSound drives
   pub life : Life drives made ran t
-  pub fair : IsFair drives ran
+  pub fair : IsFair ran
 
 -- what happens between two runs: the one ends, and where there was a crash drives begin anew
 abbrev pub IsBetween : List Event → Type 0
 IsBetween es = (es ≡ Stops ∷ []) ⊎ (es ≡ Stops ∷ Crashes ∷ [])
 
--- the one of a run of the host with this home, and the other of another host's run
-abbrev pub OfHost : Home → Ran → Type 0 → Type 0 → Type 0
-OfHost home ran This That = ((ran.home ≡ home) × This) ⊎ ((ran.home.host ≢ home.host) × That)
+-- the one of a run of this host, and the other of another host's run
+abbrev pub OfHost : List ℕ → Ran → Type 0 → Type 0 → Type 0
+OfHost name ran This That = ((ran.host ≡ name) × This) ⊎ ((ran.host ≢ name) × That)
 
--- the events of these runs for the host with this home, one run behind the other: another host's run has none for it
-abbrev pub AreOfRuns : Geometry → Home → List Ran → List Event → Type 0
-AreOfRuns drives home [] es = es ≡ []
-AreOfRuns drives home (ran ∷ before) es =
-    (first : List Event) × (run : List Event) × (end : List Event) × (es ≡ first ++ (run ++ end)) × AreOfRuns drives home before first
-    × OfHost home ran (AreOfRun (host_of drives home ran.fresh) ran.script ran.bytes run) (run ≡ []) × IsBetween end
+-- the events of these runs for this host, one run behind the other: another host's run has none for it
+abbrev pub AreOfRuns : Geometry → List ℕ → List Ran → List Event → Type 0
+AreOfRuns drives name [] es = es ≡ []
+AreOfRuns drives name (ran ∷ before) es =
+    (first : List Event) × (run : List Event) × (end : List Event) × (es ≡ first ++ (run ++ end)) × AreOfRuns drives name before first
+    × OfHost name ran (AreOfRun (host_of drives name ran.fresh) ran.script ran.bytes run) (run ≡ []) × IsBetween end
 
 -- one of the host's runs told the deed
-abbrev pub IsSaid : Geometry → Home → List Ran → Deed → Type 0
-IsSaid drives home [] deed = ⊥
-IsSaid drives home (ran ∷ before) deed = ((ran.home ≡ home) × IsTold (host_of drives home ran.fresh) ran.script (replies_in ran.bytes) deed) ⊎ IsSaid drives home before deed
+abbrev pub IsSaid : Geometry → List ℕ → List Ran → Deed → Type 0
+IsSaid drives name [] deed = ⊥
+IsSaid drives name (ran ∷ before) deed = ((ran.host ≡ name) × IsTold (host_of drives name ran.fresh) ran.script (replies_in ran.bytes) deed) ⊎ IsSaid drives name before deed
 
 -- all that they told, and what their lines may have begun, in order
-abbrev pub AreSaid : Geometry → Home → List Ran → List Deed → Type 0
-AreSaid drives home [] said = said ≡ []
-AreSaid drives home (ran ∷ before) said =
-    (first : List Deed) × AreSaid drives home before first × (rest : List Deed)
-    × OfHost home ran (AreTold (host_of drives home ran.fresh) ran.script (replies_in ran.bytes) (left_in ran.bytes) rest) (rest ≡ []) × (said ≡ first ++ rest)
+abbrev pub AreSaid : Geometry → List ℕ → List Ran → List Deed → Type 0
+AreSaid drives name [] said = said ≡ []
+AreSaid drives name (ran ∷ before) said =
+    (first : List Deed) × AreSaid drives name before first × (rest : List Deed)
+    × OfHost name ran (AreTold (host_of drives name ran.fresh) ran.script (replies_in ran.bytes) (left_in ran.bytes) rest) (rest ≡ []) × (said ≡ first ++ rest)
 
-abbrev pub AreAsked : Geometry → Home → List Ran → List Deed → Type 0
-AreAsked drives home [] asked = asked ≡ []
-AreAsked drives home (ran ∷ before) asked =
-    (first : List Deed) × AreAsked drives home before first × (rest : List Deed)
-    × OfHost home ran (AreBegun (host_of drives home ran.fresh) ran.script (replies_in ran.bytes) (left_in ran.bytes) rest) (rest ≡ []) × (asked ≡ first ++ rest)
+abbrev pub AreAsked : Geometry → List ℕ → List Ran → List Deed → Type 0
+AreAsked drives name [] asked = asked ≡ []
+AreAsked drives name (ran ∷ before) asked =
+    (first : List Deed) × AreAsked drives name before first × (rest : List Deed)
+    × OfHost name ran (AreBegun (host_of drives name ran.fresh) ran.script (replies_in ran.bytes) (left_in ran.bytes) rest) (rest ≡ []) × (asked ≡ first ++ rest)
 
 -- the changes of a key's table among these deeds, in order
 abbrev pub changes_in : Key → List Deed → List Change
 changes_in key deeds = changes_of (database_deeds key deeds)
 
 -- a history of the host's databases and volumes behind these runs, with which the drives stand
-pub record IsHistoryOf (drives : Geometry) (home : Home) (made : Image) (ran : List Ran) (t : Tale) : Type 0 where
+pub record IsHistoryOf (drives : Geometry) (name : List ℕ) (made : Image) (ran : List Ran) (t : Tale) : Type 0 where
   pub es : List Event
-  pub course : machine.IsCourse history_after (Happening (host_of drives home 0)) new_history es
-  pub come : AreOfRuns drives home ran es
-  pub stands : StandsAt (host_of drives home 0) (history_after_all new_history es) t
+  pub course : machine.IsCourse history_after (Happening (host_of drives name 0)) new_history es
+  pub come : AreOfRuns drives name ran es
+  pub stands : StandsAt (host_of drives name 0) (history_after_all new_history es) t
 
 -- over every life there is one
 abbrev pub LivesStand : Type 0
-LivesStand = (drives : Geometry) (home : Home) (made : Image) (ran : List Ran) (t : Tale) → IsHome drives home → IsLife drives made ran t → IsHistoryOf drives home made ran t
+LivesStand = (drives : Geometry) (name : List ℕ) (made : Image) (ran : List Ran) (t : Tale) → Contains drives.hosts name → IsLife drives made ran t → IsHistoryOf drives name made ran t
 
--- the host has its home, whatever was run
-abbrev pub RunsHaveHome : Type 0
-RunsHaveHome = (drives : Geometry) (home : Home) (made : Image) (ran : List Ran) (t : Tale) (fresh : ℕ) → IsHome drives home → IsLife drives made ran t → HasHome (host_of drives home fresh)
+-- the host sees what is its own, whatever was run
+abbrev pub HostsSee : Type 0
+HostsSee = (drives : Geometry) (name : List ℕ) (made : Image) (ran : List Ran) (t : Tale) (fresh : ℕ) → Contains drives.hosts name → IsLife drives made ran t → IsOfTable (host_of drives name fresh)
 
--- A table of volumes that is one of a history of these runs, made by the changes that the history has for it, the newest first. Lines of these runs asked them,
--- in their order and each once, and what was told of each of these lines is `ok`, or that a call failed, or a front of one of these, as nothing told is; and
--- all that were told ok are among them, in the order in which they were told.
-pub record HasToldChanges (drives : Geometry) (home : Home) (made : Image) (ran : List Ran) (t : Tale) (table : Table) : Type 0 where
-  pub history : IsHistoryOf drives home made ran t
+-- What a boot of the host that began there has adopted, as one that was answered leaves it in memory: the table is one of a history of these runs and this boot, made by the changes that the
+-- history has for it, the newest first. Lines of these runs asked them, in their order and each once, and what was told of each of these lines is `ok`, or that a call failed, or a
+-- front of one of these, as nothing told is; and all that were told ok are among them, in the order in which they were told.
+pub record HasToldChanges (drives : Geometry) (name : List ℕ) (made : Image) (ran : List Ran) (t : Tale) (fresh : ℕ) (memory : Memory) (u : Tale) (table : Table) : Type 0 where
+  pub history : IsHistoryOf drives name made ran t
+  pub boot : List Event
+  pub idle : AreIdle (host_of drives name fresh) boot
+  pub known : IsKnown (host_of drives name fresh) memory (history_after_all new_history (history.es ++ boot)) u
   pub version : Version
-  pub one_of : Contains (log_of (history_after_all new_history history.es).databases (key_of (host_of drives home 0))).family version
+  pub one_of : Contains (log_of (history_after_all new_history (history.es ++ boot)).databases (Local name)).family version
   pub is_table : version.table ≡ table
-  pub by : AreMade (own_view drives home.host) version.changes table
-  pub told : (change : Change) → IsSaid drives home ran (Changed (key_of (host_of drives home 0)) change) → Contains version.changes change
+  pub by : AreMade (own_view drives name) version.changes table
+  pub told : (change : Change) → IsSaid drives name ran (Changed (Local name) change) → Contains version.changes change
   pub said : List Deed
-  pub are_said : AreSaid drives home ran said
-  pub all_said : IsPart (changes_in (key_of (host_of drives home 0)) said) (reverse version.changes)
+  pub are_said : AreSaid drives name ran said
+  pub all_said : IsPart (changes_in (Local name) said) (reverse version.changes)
   pub asked : List Deed
-  pub are_asked : AreAsked drives home ran asked
-  pub all_asked : IsPart (reverse version.changes) (changes_in (key_of (host_of drives home 0)) asked)
+  pub are_asked : AreAsked drives name ran asked
+  pub all_asked : IsPart (reverse version.changes) (changes_in (Local name) asked)
 
--- Once a creation was told ok, every boot that can read its drive finds the database, whatever was run and crashed since; and
--- the table that it finds has every change that was told ok.
+-- A replica shows a table of a database of the host's that one of these runs made.
+pub record ShowsOwn (drives : Geometry) (name : List ℕ) (ran : List Ran) (content : Image) : Type 0 where
+  pub identity : Identity
+  pub of_run : HasWord name ran identity.fresh
+  pub shown : ShowsNoTable (Spells (own_view drives name)) (site_of (own_view drives name) (Local name)) identity content → ⊥
+
+-- what a boot of the host's finds there, whatever it could read of the drives that were up
+pub record BootFinds (drives : Geometry) (name : List ℕ) (up : Drives) (content : Image) (survey : Survey) : Type 0 where
+  pub survey_is : IsSurvey (site_of (own_view drives name) (Local name)) up survey
+  pub of : IsSurveyOf (own_view drives name) (site_of (own_view drives name) (Local name)) up content survey
+
+-- it read each drive with a slice on which replicas of the host's may lie
+abbrev pub HasReadAll : Geometry → List ℕ → Drives → Survey → Type 0
+HasReadAll drives name up survey = (line : SliceLine) → Contains (site_of (own_view drives name) (Local name)).lines line → answers_in up survey.failed line.at.drive ≡ true
+
+-- Once a creation was told ok, some replica shows a table of the host's database, one that a run of the host made, whatever was run and crashed since, so a boot that reads all drives
+-- finds a table; no boot finds two databases, whatever it reads; and the table that a boot adopts has every change that was told ok.
 pub record DatabaseIsFound : Type 0 where
-  pub found : (drives : Geometry) (home : Home) (made : Image) (ran : List Ran) (t : Tale) → IsHome drives home → IsLife drives made ran t → IsSaid drives home ran (Created (key_of (host_of drives home 0))) → IsFound (site_of (host_of drives home 0)) (on_site (site_of (host_of drives home 0)) (last t)) None → ⊥
-  pub table : (drives : Geometry) (home : Home) (made : Image) (ran : List Ran) (t : Tale) (head : Head) (slot : Slot) (mark : Mark) (newest : Table) → IsHome drives home → IsLife drives made ran t
-      → IsReplica (site_of (host_of drives home 0)) (on_site (site_of (host_of drives home 0)) (last t)) head → IsNewest head slot → HasTable (site_of (host_of drives home 0)) (on_site (site_of (host_of drives home 0)) (last t)) head slot mark newest → HasToldChanges drives home made ran t newest
+  pub found : (drives : Geometry) (name : List ℕ) (made : Image) (ran : List Ran) (t : Tale) → Contains drives.hosts name → IsLife drives made ran t → IsSaid drives name ran (Created (Local name)) → HasNoTableOn (own_view drives name) (Local name) (last t) → ⊥
+  pub made : (drives : Geometry) (name : List ℕ) (made : Image) (ran : List Ran) (t : Tale) → Contains drives.hosts name → IsLife drives made ran t → IsSaid drives name ran (Created (Local name)) → ShowsOwn drives name ran (last t)
+  pub not_empty : (drives : Geometry) (name : List ℕ) (made : Image) (ran : List Ran) (t : Tale) (up : Drives) (survey : Survey) → Contains drives.hosts name → IsLife drives made ran t
+      → IsSaid drives name ran (Created (Local name)) → BootFinds drives name up (last t) survey → HasReadAll drives name up survey → survey.newest ≡ None → ⊥
+  pub one : (drives : Geometry) (name : List ℕ) (made : Image) (ran : List Ran) (t : Tale) (up : Drives) (survey : Survey) (a b : Identity) → Contains drives.hosts name → IsLife drives made ran t
+      → BootFinds drives name up (last t) survey → IsChoice survey (chosen.TwoDatabases a b) → ⊥
+  pub table : (drives : Geometry) (name : List ℕ) (made : Image) (ran : List Ran) (t u : Tale) (fresh : ℕ) (memory : Memory) (o : Opened) → Contains drives.hosts name → IsLife drives made ran t → IsNewWord name fresh ran
+      → BootedTo (host_of drives name fresh) memory t u → memory.begun ≡ 0 → memory.opened ≡ Some o → HasToldChanges drives name made ran t fresh memory u o.table
 
 -- Each block of a volume that a boot may find reads as one of the values that a history of these runs has for it. Of a write that was told that is its value,
 -- whatever happened since, or one that was issued since it was answered.
-pub record BlocksAre (drives : Geometry) (home : Home) (made : Image) (ran : List Ran) (t : Tale) : Type 0 where
-  pub history : IsHistoryOf drives home made ran t
-  pub reads : (volume : VolId) (v : Map) → IsNamed (sites_of (host_of drives home 0)) (history_after_all new_history history.es).databases (key_of (host_of drives home 0)) volume v
-      → (b : ℕ) (x : List ℕ) → b < v.blocks → Among (readings v (last t) b) x → Among ((history_after_all new_history history.es).volumes (key_of (host_of drives home 0)) volume b).reads x
+pub record BlocksAre (drives : Geometry) (name : List ℕ) (made : Image) (ran : List Ran) (t : Tale) : Type 0 where
+  pub history : IsHistoryOf drives name made ran t
+  pub reads : (volume : VolId) (v : Map) → IsNamed (own_view drives name) (history_after_all new_history history.es).databases (Local name) volume v
+      → (b : ℕ) (x : List ℕ) → b < v.blocks → Among (readings v (last t) b) x → Among ((history_after_all new_history history.es).volumes (Local name) volume b).reads x
   pub lasts : (es later : List Event) (place : ℕ) (key : Key) (volume : VolId) (at : ℕ) (blocks : List (List ℕ)) → history.es ≡ es ++ Acknowledges place key volume at blocks ∷ later → Lasts new_history es later place key volume at blocks
 
 abbrev pub BlocksHold : Type 0
-BlocksHold = (drives : Geometry) (home : Home) (made : Image) (ran : List Ran) (t : Tale) → IsHome drives home → IsLife drives made ran t → BlocksAre drives home made ran t
+BlocksHold = (drives : Geometry) (name : List ℕ) (made : Image) (ran : List Ran) (t : Tale) → Contains drives.hosts name → IsLife drives made ran t → BlocksAre drives name made ran t

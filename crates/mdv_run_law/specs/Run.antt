@@ -1,15 +1,14 @@
 -- The run of one host, told by what its script asks.
-use Rattle.std.specs.Prelude.{◌≡◌, ◌≢◌, ◌⊎◌, ◌≤◌, ◌<◌, ◌+◌, ℕ, Bool, true, false, List, [], ◌++◌, take, length, Option, Some, IfSome, Contains, if◌then◌else◌}
+use Rattle.std.specs.Prelude.{◌≡◌, ◌≢◌, ◌⊎◌, ◌≤◌, ◌<◌, ◌+◌, ◌*◌, ℕ, Bool, true, false, List, [], ◌++◌, take, length, Option, Some, IfSome, AllPairs, Contains, if◌then◌else◌, None}
 use Rattle.mdv_base.specs.Causes.{RoseOnce, failures_of}
 use Rattle.mdv_base.specs.DriveSet.{has_drive}
 use Rattle.mdv_base.specs.declared.drive.DriveNo.{DriveNo}
 use Rattle.mdv_shelf.specs.Failing.{AreCalm, Outcomes}
-use Rattle.mdv_home.specs.Drives.{own_drives}
 use Rattle.mdv_home.specs.View.{own_view}
 use Rattle.mdv_name.specs.declared.geometry.Geometry.{Geometry}
 use Rattle.mdv_shelf.specs.Made.{Made, made_between}
 use Rattle.mdv_shelf.specs.Settle.{IsSynced}
-use Rattle.mdv_run_law.specs.Below.{Image, on_site, Rose, BadLine, LineTooLong, OutOfMemory, IsHome, Script, at_end, spent, too_long, line, Head, Part, OnDrive, OnReplies, Tale, told, replies_in, IsSound, Line, IsLine, IsFound, IsOpened, Answer, Host, site_of, Kept, IsSame, IsSameBeside, ComesTo, IsRebooted, IsTurnedDown, contents, unbooted}
+use Rattle.mdv_run_law.specs.Below.{Image, IsOpenedAt, Local, Rose, BadLine, LineTooLong, OutOfMemory, Script, key_of, at_end, spent, too_long, line, Part, OnDrive, OnReplies, Tale, told, replies_in, IsSound, Line, IsLine, Answer, Host, site_of, Kept, IsSame, IsSameBeside, ComesTo, IsRebooted, IsTurnedDown, SliceLine, contents, unbooted}
 use Rattle.mdv_shelf.specs.Story.{Effort, Tally, Moment, Story, Mark, marked, AtEach, InTime, tale_of}
 use Rattle.mdv_engine_law.specs.Replies.{outcome_text, refusal_line, text_of}
 use Rattle.mdv_engine_law.specs.declared.answer.Answer.TheVariants.{Said, Over as Ends}
@@ -17,16 +16,17 @@ use Rattle.mdv_engine_law.specs.declared.answer.Ended.{Ended}
 use Rattle.mdv_engine_law.specs.declared.answer.Ended.TheVariants as stop
 use Rattle.mdv_engine_law.specs.declared.answer.Outcome.TheVariants as outcome
 pub use Rattle.mdv_engine_law.specs.Answers.{IsQuiet}
-use Rattle.mdv_engine_law.specs.Answers.{accepted, refusing}
+use Rattle.mdv_engine_law.specs.Answers.{EndsByReads, accepted, refusing}
 use Rattle.mdv_engine_law.specs.Line.{Memory}
 use Rattle.mdv_engine_law.specs.Awake.{Happening}
-use Rattle.mdv_engine_law.specs.Standing.{IsKnown, LeavesDone, LineWrites, StandsAt}
+use Rattle.mdv_engine_law.specs.Standing.{IsKnown, IsOfRun, LeavesDone, LineWrites, StandsAt}
 use Rattle.mdv_store_law.specs.Machine as machine
+use Rattle.mdv_volumes.specs.Happening.{IsIssue}
 use Rattle.mdv_volumes.specs.History.{History, history_after}
 use Rattle.mdv_words.specs.Line.{Boot, Exec}
 use Rattle.mdv_words.specs.declared.command.Command.{Command}
 use Rattle.mdv_shelf.specs.Area.{KeptOutside, nowhere}
-use Rattle.mdv_store_law.specs.Site.{area_of}
+use Rattle.mdv_shown.specs.Site.{site_area}
 use Rattle.mdv_engine_law.specs.Efforts.{BootCalls, LineCalls, NoCalls, replied_to}
 use Rattle.mdv_run_law.specs.declared.status.RunStatus.{RunStatus}
 use Rattle.mdv_run_law.specs.declared.status.RunStatus.TheVariants.{Done, SomeRefused, Usage, NoQuorum, Panic, ReadFault, WriteFault, NoMemory, TwoDatabases, ScriptTooLong, NumbersSpent}
@@ -74,9 +74,9 @@ drive_failures now later drive = failures_of (now.drives drive) (later.drives dr
 abbrev pub drive_failed : Counts → Counts → Type 0
 drive_failed now later = (drive : ℕ) × Rose (now.drives drive) (later.drives drive)
 
--- one on the drive of the host's database
-abbrev pub home_failed : Host → Counts → Counts → Type 0
-home_failed host now later = Rose (now.drives host.home.drive.0) (later.drives host.home.drive.0)
+-- one on a drive with a slice on which replicas of the host's may lie
+abbrev pub site_failed : Host → Counts → Counts → Type 0
+site_failed host now later = (line : SliceLine) × Contains host.site.lines line × Rose (now.drives line.at.drive.0) (later.drives line.at.drive.0)
 
 abbrev pub source_failed : Counts → Counts → Type 0
 source_failed now later = Rose now.source later.source
@@ -101,9 +101,11 @@ abbrev pub IsAnswered : Outcomes → Host → Kept → List ℕ → Answer → K
 IsAnswered calls host kept text answer next =
     (IsNoCommand text × AreCalm calls × IsTurnedDown BadLine kept answer next) ⊎ (((spelled : Line) × IsLine text spelled × ComesTo calls host kept spelled answer next) ⊎ IsUnread calls kept answer next)
 
--- the run is over for want of places, numbers or memory: what a crash leaves then isn't said
+-- the run is over for want of places, numbers or memory, or for two databases: what a crash leaves then isn't said
 abbrev pub IsLostStatus : RunStatus → Type 0
+IsLostStatus (NoQuorum readable needed) = Unit {0}
 IsLostStatus (Panic active listed) = Unit {0}
+IsLostStatus (TwoDatabases a b) = Unit {0}
 IsLostStatus NumbersSpent = Unit {0}
 IsLostStatus NoMemory = Unit {0}
 IsLostStatus other = ⊥
@@ -174,6 +176,8 @@ refused_by other before = before
 
 -- the status of a run that is over with a line, or with its boot
 abbrev pub status_at : Ended → RunStatus
+status_at (stop.NoQuorum readable needed) = NoQuorum readable needed
+status_at (stop.TwoDatabases a b) = TwoDatabases a b
 status_at (stop.Lost active listed) = Panic active listed
 status_at stop.Spent = NumbersSpent
 status_at stop.Memory = NoMemory
@@ -190,9 +194,9 @@ pub record IsPassage (now : At) (piece : List ℕ) (later : At) : Type 0 where
   pub told : (s u : Story) → now.story ≡ Some s → later.story ≡ Some u → told (tale_of u) ≡ told (tale_of s) ++ piece
   pub reads : (u : Story) → later.story ≡ Some u → IsSame later.kept.content (contents (tale_of u))
 
--- of each of the host's own drives on which no call failed a crash leaves then what a read gives
+-- of each of the drives that a boot of the host brings up, on which no call failed, a crash leaves then what a read gives
 abbrev pub AreSynced : Host → Outcomes → Tale → Type 0
-AreSynced host calls u = (drive : DriveNo) → Contains host.own drive → ((calls drive.0).some → ⊥) → IsSynced drive.0 u
+AreSynced host calls u = (drive : DriveNo) → Contains host.site.drives drive → ((calls drive.0).some → ⊥) → IsSynced drive.0 u
 
 -- What a line with this text leaves that was told `ok`, where its calls came out so and this was in memory: a write its blocks on the disk, with all that the drive was
 -- given before; and `boot` each of the host's own drives synced on which no call failed.
@@ -205,9 +209,9 @@ abbrev pub NextLeaves : Outcomes → Host → Memory → Script → Tale → Typ
 NextLeaves calls host memory (line text rest) u = TextLeaves calls host memory text u
 NextLeaves calls host memory other u = Unit {0}
 
--- each history that is known before is led to one that is known behind
+-- each history that is known before is led to one that is known behind, by events of the run: none ends it, and each creation has its word
 abbrev pub Leads : Host → Memory → Memory → Tale → Tale → Type 0
-Leads host old new t u = (h : History) → IsKnown host old h t → machine.Goes history_after (Happening host) (λ es. Unit {0}) (λ g. StandsAt host g u) (λ es after. IsKnown host new after u) h
+Leads host old new t u = (h : History) → IsKnown host old h t → machine.Goes history_after (Happening host) (machine.AreAll (IsIssue (IsOfRun host))) (λ g. StandsAt host g u) (λ es after. IsKnown host new after u) h
 
 -- A line that was answered, and whose reply was told whole: by as many calls as it takes, and one, by which no block was written but those that it may write, none where it was
 -- refused for another cause than a failed call; and a write that was told `ok` is on the disk, and behind a `boot` that was told it the own drives are synced on which
@@ -260,11 +264,12 @@ pub record EndsAt (stretch : Stretch) (story : Option Story) (effort : Effort) :
   pub uncalled : stretch.after.effort ≡ effort
 
 -- It ends behind a line with which a run is over: no call that changed something was made behind one on the same part that failed, and the line took as many calls
--- as it takes, its reply's among them, and wrote no block but those that it may write.
+-- as it takes, its reply's among them, and wrote no block but those that it may write; none, where a boot ended the run by what it read.
 pub record EndsBehind (stretch : Stretch) (host : Host) (now : At) (later : Counts) (answer : Answer) (next : Kept) : Type 0 where
   pub in_time : AreInTime now.counts now.story stretch.new
   pub calls : NextCalls (drive_failures now.counts later) (replied_to answer (made_between now.effort stretch.after.effort)) host now.kept now.script answer next
   pub writes : FromTo (NextWrites host now.kept.memory now.script) now.story stretch.new
+  pub unwritten : EndsByReads answer → FromTo (KeptOutside nowhere) now.story stretch.new
 
 -- A point of what the bench told, by which the parts had failed so often, nothing was told, and the drive's blocks read so; no call until then that changed something was made
 -- behind one on the same part that failed.
@@ -351,7 +356,7 @@ RunsFrom host stretch end (Ends over) later by kept script told status last = (e
 
 -- A whole run, from these counts to those: the boot answers from what the drive's blocks held, by as many calls as that takes, excused by the one that failed until the counts `booted`, and
 -- the script is run from there. They are those of a point of the run, by which the drive's blocks read as the boot left them: the first of the points between two lines, each of which is
--- behind the one before.
+-- behind the one before. A boot that found no database, or ended the run by what it read, wrote no block.
 pub record IsRun (host : Host) (stretch : Stretch) (start end : Counts) (content : Image) (script : Script) (told : List ℕ) (status : RunStatus) (last : Kept) : Type 0 where
   pub answer : Answer
   pub booted : Counts
@@ -360,7 +365,8 @@ pub record IsRun (host : Host) (stretch : Stretch) (start end : Counts) (content
   pub boots : IsRebooted (drive_failures start booted) host (started content) answer kept
   pub by : Progress
   pub calls : BootCalls (drive_failures start booted) (made_between stretch.before.effort by.effort) host answer kept.memory content
-  pub writes : FromTo (KeptOutside (area_of (site_of host))) stretch.old by.story
+  pub writes : FromTo (KeptOutside (site_area host.site)) stretch.old by.story
+  pub unwritten : EndsByReads answer ⊎ ((answer ≡ accepted) × (kept.memory.opened ≡ None)) → FromTo (KeptOutside nowhere) stretch.old by.story
   pub point : IsPoint stretch start.source booted by kept.content
   pub runs : RunsFrom host stretch end answer booted by kept script told status last
 
@@ -386,10 +392,10 @@ abbrev pub StoryGoesOn : Option Story → Option Story → Type 0
 StoryGoesOn old new = (s : Story) → old ≡ Some s → (marks : List Mark) × (new ≡ Some (marked s marks))
 
 -- Each block reads as it was kept. Where a database is open, and the run isn't over for want of places, numbers or memory, whatever a
--- crash leaves has one replica of it, with the newest table that is in memory.
+-- crash leaves has its replica at each active place, with the newest table that is in memory.
 pub record IsLeft (host : Host) (status : RunStatus) (u : Tale) (kept : Kept) : Type 0 where
   pub content : IsSame kept.content (contents u)
-  pub opened : (IsLostStatus status → ⊥) → IfSome kept.memory.opened (λ newest. IsOpened (site_of host) newest u)
+  pub opened : (IsLostStatus status → ⊥) → IfSome kept.memory.opened (λ o. IsOpenedAt host.drives o u)
 
 -- The whole of a run that began at t: what it told and its status are what the script asks for, and every crash at
 -- its end leaves the database that it made, or adopted and wrote anew.
@@ -402,17 +408,18 @@ pub record IsWholeRun (host : Host) (stretch : Stretch) (start end : Counts) (t 
   pub left : IsLeft host status u last
   pub runs : IsRun host stretch start end (contents t) script more status last
 
--- a status that comes only where something failed, a lost place where a call on the database's drive did; and those that this run never has
+-- A status has its cause: too few readable places by their numbers; a call that failed, on a drive of the database's site where too few places are left; two databases that are two. A faulty use is
+-- no run's.
 abbrev pub HasStatusCause : Host → Counts → Counts → RunStatus → Type 0
 HasStatusCause host start end Done = Unit {0}
 HasStatusCause host start end SomeRefused = Unit {0}
 HasStatusCause host start end Usage = ⊥
-HasStatusCause host start end (NoQuorum readable needed) = ⊥
-HasStatusCause host start end (Panic active listed) = home_failed host start end × (active ≡ 0) × (listed ≡ 1)
+HasStatusCause host start end (NoQuorum readable needed) = readable < needed
+HasStatusCause host start end (Panic active listed) = site_failed host start end × (2 * active < listed)
 HasStatusCause host start end ReadFault = source_failed start end
 HasStatusCause host start end WriteFault = replies_failed start end
 HasStatusCause host start end NoMemory = Unit {0}
-HasStatusCause host start end (TwoDatabases a b) = ⊥
+HasStatusCause host start end (TwoDatabases a b) = a ≢ b
 HasStatusCause host start end (ScriptTooLong lines bytes) = Unit {0}
 HasStatusCause host start end NumbersSpent = Unit {0}
 
@@ -437,19 +444,24 @@ pub record IsSameMemory (a b : Memory) : Type 0 where
 
 -- two ends with the same in memory and in each block that no replica may have
 abbrev pub IsSameEnd : Host → Kept → Kept → Type 0
-IsSameEnd host a b = IsSameMemory a.memory b.memory × IsSameBeside (area_of (site_of host)) b.content a.content
+IsSameEnd host a b = IsSameMemory a.memory b.memory × IsSameBeside (site_area host.site) b.content a.content
 
--- the host has its home in a table of drives, and sees of it what is its own, which is sound
-pub record HasHome (host : Host) : Type 0 where
+-- the host sees of a table of drives what is its own, which is sound
+pub record IsOfTable (host : Host) : Type 0 where
   pub table : Geometry
-  pub home : IsHome table host.home
-  pub view : host.drives ≡ own_view table host.home.host
-  pub own : host.own ≡ own_drives table host.home.host
+  pub name : List ℕ
+  pub key : key_of host ≡ Local name
+  pub view : host.drives ≡ own_view table name
+  pub site : host.site ≡ site_of host.drives (key_of host)
   pub sound : IsSound host.drives
 
--- where nothing failed and memory was never wanting, the drive's blocks and the script settle what is told, the status, and, where the run isn't
--- over for want of places or numbers, what is in memory and on the drive at the end
+-- no slice is listed twice
+abbrev pub AreOnce : List SliceLine → Type 0
+AreOnce lines = AllPairs (λ (a b : SliceLine). a ≡ b → ⊥) lines
+
+-- where nothing failed and memory was never wanting, the drives' blocks and the script settle what is told, the status, and, where the run isn't
+-- over for want of places, numbers or memory, or for two databases, what is in memory at the end and in each block that no replica may have
 abbrev pub OneCourse : Type 0
 OneCourse =
-    (host : Host) (content : Image) → HasHome host → (script : Script) (first second : Stretch) (start end from to : Counts) → IsUndisturbed start end → IsUndisturbed from to
+    (host : Host) (content : Image) → IsOfTable host → AreOnce host.drives.slices → (script : Script) (first second : Stretch) (start end from to : Counts) → IsUndisturbed start end → IsUndisturbed from to
     → (a b : List ℕ) (s r : RunStatus) (k j : Kept) → IsSated a s → IsSated b r → IsRun host first start end content script a s k → IsRun host second from to content script b r j → (a ≡ b) × (s ≡ r) × ((IsLostStatus s → ⊥) → IsSameEnd host k j)

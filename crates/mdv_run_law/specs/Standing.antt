@@ -1,7 +1,6 @@
 -- How the drive stands with its history at each moment of a run.
 use Rattle.std.specs.Prelude.{◌≡◌, ◌≢◌, ◌⊎◌, ℕ, true, List, [], ◌∷◌, ◌++◌, length, Option, Some, Contains}
-use Rattle.mdv_run_law.specs.Below.{Drives, OutOfMemory, Entry, on_site, IsTab, Tab, IsRefusal, is_front_of, refusal_line, ok_line, entries_reply, Script, at_end, spent, too_long, line, Head, shows, Tale, told, Everywhere, left_in, replies_in, Line, Boot, IsLine, is_firm, IsReplica, History, Deed, Created, Event, HasBooted, Happening, history_after, log_of, Host, key_of, site_of, identity_of, Ask, Nothing, Memory, asked_by_line, AcksBy, AcksFront, issuable, issuable_front, StandsAt, Does, Reached, Knows, IsKnown}
-use Rattle.mdv_engine_law.specs.Home.{StaysHome}
+use Rattle.mdv_run_law.specs.Below.{AcksBy, AcksFront, AreOwn, Ask, Boot, Created, Deed, Does, Drives, Entry, Event, Everywhere, Happening, HasBooted, History, Host, Identity, IsKnown, IsLine, IsRefusal, IsTab, Knows, Line, Memory, Nothing, OutOfMemory, Reached, Script, ShowsNoTable, Spells, StandsAt, StaysHome, Tab, Tale, asked_by_line, at_end, entries_reply, history_after, is_front_of, issuable, issuable_front, key_of, left_in, line, ok_line, refusal_line, replies_in, site_of, spent, told, too_long}
 use Rattle.mdv_store_law.specs.Machine as machine
 use Rattle.mdv_run_law.specs.Run.{IsNoCommand}
 
@@ -127,23 +126,23 @@ pub record AreOfRun (host : Host) (script : Script) (bytes : List ℕ) (es : Lis
 abbrev pub Goes : Host → (List Event → Type 0) → (List Event → History → Type 0) → Tale → History → Type 0
 Goes host Come After m h = machine.Goes history_after (Happening host) Come (λ g. StandsAt host g m) After h
 
--- whatever a crash leaves is a replica, with a table, of the database that a creation of this run made
+-- whatever a crash leaves, a replica of one of the host's databases shows a table
 pub record ShowsMade (host : Host) (t : Tale) : Type 0 where
-  pub number : ℕ
-  pub each : Everywhere (λ image. (head : Head) × IsReplica (site_of host) (on_site (site_of host) image) head × (shows head ≡ true) × (head.master.identity ≡ identity_of host number)) t
+  pub identity : Identity
+  pub each : Everywhere (λ image. ShowsNoTable (Spells host.drives) (site_of host.drives (key_of host)) identity image → ⊥) t
 
 -- A moment of a run of that script that began at t: nothing happened outside the host's blocks, and the drives stand with each history that it stood with at the start, gone on
 -- by the events of the boot and of the lines so far, in their order; each line's events begin what it asks only where it was answered
 -- `ok`, or that a call failed, or where no more of its reply was told than a front of one of these, and tell exactly what its reply
 -- acknowledges: a deed where it is `ok`, and of a read the values that it tells, each of which its block may have. Blocks of a volume are read and written only
--- where the last boot in the history, if it brought up the volume's drives, has found one value of each, or the volume was made since. Where a creation was told, whatever a crash leaves is a replica of a
--- database that this run made.
+-- where the last boot in the history, if it brought up the volume's drives, has found one value of each, or the volume was made since. Where a creation was told, whatever a crash leaves shows a table of the
+-- host's database, if the drives stood with some such history. The histories are of the host's own databases, none of which has the word of this run as it begins.
 pub record RunMoment (host : Host) (script : Script) (t m : Tale) : Type 0 where
   pub bytes : List ℕ
   pub is_told : told m ≡ told t ++ bytes
   pub home : StaysHome host t m
-  pub made : IsTold host script (replies_in bytes) (Created (key_of host)) → ShowsMade host m
-  pub stands : (h : History) → StandsAt host h t → Goes host (AreOfRun host script bytes) Reached m h
+  pub made : (h : History) → StandsAt host h t → AreOwn host 0 h → IsTold host script (replies_in bytes) (Created (key_of host)) → ShowsMade host m
+  pub stands : (h : History) → StandsAt host h t → AreOwn host 0 h → Goes host (AreOfRun host script bytes) Reached m h
 
 -- what is left of a script behind so many replies
 abbrev pub behind : Script → List (List ℕ) → Script
@@ -164,16 +163,7 @@ pub record LinesMoment (host : Host) (script : Script) (first : Memory) (t m : T
   pub bytes : List ℕ
   pub is_told : told m ≡ told t ++ bytes
   pub home : StaysHome host t m
-  pub made : Knows host first t → IsTold host script (replies_in bytes) (Created (key_of host)) → ShowsMade host m
   pub goes : (h : History) → IsKnown host first h t → Goes host (ComeOf host (InWork host (left_in bytes)) (context_of first) script (replies_in bytes)) Reached m h
-
--- a history that has the database that a creation of this run made
-pub record HasMade (host : Host) (memory : Memory) (t : Tale) : Type 0 where
-  pub history : History
-  pub known : IsKnown host memory history t
-  pub number : ℕ
-  pub issued : (log_of history.databases (key_of host)).issued ≡ Some (identity_of host number)
-  pub firm : is_firm (log_of history.databases (key_of host)) ≡ true
 
 -- lines and their replies, told whole, that led from one memory to the other, and from one script to what is left of it
 pub record RanTo (host : Host) (script : Script) (first now : Memory) (left : Script) (t u : Tale) : Type 0 where
@@ -183,5 +173,4 @@ pub record RanTo (host : Host) (script : Script) (first now : Memory) (left : Sc
   pub left_is : behind script (replies_in bytes) ≡ left
   pub home : StaysHome host t u
   pub knows : Knows host first t → Knows host now u
-  pub made : Knows host first t → IsTold host script (replies_in bytes) (Created (key_of host)) → HasMade host now u
   pub goes : (h : History) → IsKnown host first h t → Goes host (ComeOf host (NothingLeft (context_of now)) (context_of first) script (replies_in bytes)) (λ es after. IsKnown host now after u) u h

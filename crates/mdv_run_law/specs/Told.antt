@@ -1,17 +1,17 @@
 -- What was told of a run by each of its moments, and where it was then: what is known of the drives and of each history at the last place between two lines, and what was done since.
-use Rattle.std.specs.Prelude.{◌≡◌, ◌⊎◌, ℕ, List, [], ◌++◌, Some}
+use Rattle.std.specs.Prelude.{◌≡◌, ◌⊎◌, ℕ, List, [], ◌++◌, Some, None}
 use Rattle.mdv_engine_law.specs.Answers.{accepted}
 use Rattle.mdv_engine_law.specs.Efforts.{BootCalls}
 use Rattle.mdv_shelf.specs.Failing.{Outcomes}
 use Rattle.mdv_engine_law.specs.Line.{Memory}
 use Rattle.mdv_engine_law.specs.Standing.{BootedTo, LineWrites}
-use Rattle.mdv_run_law.specs.Below.{Host, IsLine, IsRebooted, Kept, Script, Tale, contents, line, site_of, told}
+use Rattle.mdv_run_law.specs.Below.{Host, IsLine, IsRebooted, Kept, Script, Tale, contents, line, told}
 use Rattle.mdv_run_law.specs.Run.{AreSynced, At, Counts, FromTo, IsNextFront, IsPoint, LinesTold, Progress, RoseCalmly, StoryGoesOn, Stretch, behind_boot, drive_failures, started}
 use Rattle.mdv_run_law.specs.Standing.{LinesMoment, RanTo}
 use Rattle.mdv_shelf.specs.Area.{KeptOutside, nowhere}
 use Rattle.mdv_shelf.specs.Made.{made_between}
 use Rattle.mdv_shelf.specs.Story.{Moment, Story, tale_of}
-use Rattle.mdv_store_law.specs.Site.{area_of}
+use Rattle.mdv_shown.specs.Site.{site_area}
 use Rattle.mdv_words.specs.Line.{Line}
 
 -- The blocks that the next line may write where this is in memory, and all others are kept: none, or those that it may write by what it asks.
@@ -50,7 +50,8 @@ pub record RunToldBy (host : Host) (stretch : Stretch) (start : Counts) (t : Tal
   pub boots : IsRebooted (drive_failures start booted) host (started (contents t)) accepted kept
   pub by : Progress
   pub calls : BootCalls (drive_failures start booted) (made_between stretch.before.effort by.effort) host accepted kept.memory (contents t)
-  pub writes : FromTo (KeptOutside (area_of (site_of host))) stretch.old by.story
+  pub writes : FromTo (KeptOutside (site_area host.site)) stretch.old by.story
+  pub unwritten : kept.memory.opened ≡ None → FromTo (KeptOutside nowhere) stretch.old by.story
   pub point : IsPoint stretch start.source booted by kept.content
   pub leads : (s : Story) → by.story ≡ Some s → HasBroughtUp host (drive_failures start booted) kept.memory t (tale_of s)
   pub lines : LinesToldBy host stretch (behind_boot booted by kept script) told m
@@ -61,4 +62,4 @@ pub record RunToldBy (host : Host) (stretch : Stretch) (start : Counts) (t : Tal
 pub record IsToldBy (host : Host) (stretch : Stretch) (start : Counts) (script : Script) (t m : Moment) : Type 0 where
   pub bytes : List ℕ
   pub is_told : told m.tale ≡ told t.tale ++ bytes
-  pub tells : ((bytes ≡ []) × KeptOutside (area_of (site_of host)) t.tale m.tale) ⊎ RunToldBy host stretch start t.tale script bytes m
+  pub tells : ((bytes ≡ []) × KeptOutside (site_area host.site) t.tale m.tale) ⊎ RunToldBy host stretch start t.tale script bytes m

@@ -83,7 +83,7 @@ fn are_answered(alloc: Global, lines: &Lines) -> Result<bool, AllocError> {
     ends_so(alloc, lines.table, &mut shelf, script.as_str(), end)
 }
 
-// Each refusal of a creation in its place: E6, E12, E13, then E7 where a database is open, else E3 and E10.
+// Each refusal of a creation in its place: E6, E12, then E7 where a database is open, else E13, E3 and E10.
 const CREATIONS: &[Row] = &[
     ("metadb -a c0t1d0s7", "refused E6 NoSuchSlice"),
     ("metadb -a c0t0d0s0", "refused E12 WrongKind"),

@@ -228,11 +228,9 @@ impl Course {
 
     // A creation of a replica of so many blocks.
     fn creation_line(&mut self, blocks: u64) -> Result<(), AllocError> {
-        if !self.clean {
-            return self.refuse("refused E13 WrongState Down\n");
-        }
         match self.standing {
             Standing::InUse => self.refuse("refused E7 SliceInUse\n"),
+            _ if !self.clean => self.refuse("refused E13 WrongState Down\n"),
             _ if blocks > self.ground.home.blocks => self.refuse("refused E10 TooSmall\n"),
             _ => self.creation(blocks),
         }

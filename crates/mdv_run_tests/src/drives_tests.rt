@@ -90,7 +90,7 @@ refused E22 OutOfRange
 }
 
 // Each drive is away for runs, and comes back. A volume is made on a drive that is away, since its table alone is written. A
-// volume whose drive is away is refused by its own calls alone, and a creation by any drive.
+// volume whose drive is away is refused by its own calls alone, and the creation of a first database by any drive.
 const COMES_AND_GOES: &[Act] = &[
     SPREAD,
     Act(
@@ -106,7 +106,7 @@ boot
 metadb -a c0t1d0s7
 read d0 1 1
 ",
-        "refused E13 WrongState Down
+        "refused E7 SliceInUse
 refused E23 IoFault
 1 a1
 ok
@@ -115,7 +115,7 @@ ok
 7 b2
 ok
 ok
-refused E13 WrongState Down
+refused E7 SliceInUse
 refused E23 IoFault
 ",
     ),
@@ -279,7 +279,7 @@ fn no_creation_behind_a_boot_that_missed_a_drive(rt: HostRuntime) -> Result<(), 
 
 const LOOKS: &str = "read d0 1 1\nread d1 1 1\nread d2 7 1\nmetadb -a -f c0t1d0s7\n";
 
-const ALL: &str = "1 a0\nok\n1 a1\nok\n7 a2\nok\nrefused E13 WrongState Down\n";
+const ALL: &str = "1 a0\nok\n1 a1\nok\n7 a2\nok\nrefused E7 SliceInUse\n";
 
 const NONE: &str =
     "refused E2 NoDatabase\nrefused E2 NoDatabase\nrefused E2 NoDatabase\nrefused E13 WrongState Down\n";

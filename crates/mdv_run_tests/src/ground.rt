@@ -202,6 +202,22 @@ slice c0t2d0s2 16 8
     away: &[&[], &[], &[], &[1], &[4], &[1, 4], &[2], &[1, 2, 4]],
 };
 
+/// Three drives with a slice for replicas and one for a volume each, and how many blocks they have.
+pub const PLACES: (&str, &[u64]) = (
+    "host alpha
+drive c0t0d0 64 alpha d0.img
+drive c0t1d0 64 alpha d1.img
+drive c0t2d0 64 alpha d2.img
+slice c0t0d0s0 0 16
+slice c0t0d0s7 16 40 db
+slice c0t1d0s0 0 16
+slice c0t1d0s7 16 40 db
+slice c0t2d0s0 0 16
+slice c0t2d0s7 16 40 db
+",
+    &[64, 64, 64],
+);
+
 impl Ground {
     /// Where the volume of that number lies, of 0 to 2.
     pub(crate) fn volume(&self, number: u8) -> Area {

@@ -20,6 +20,8 @@ mod hosts_tests;
 mod life;
 #[cfg(test)]
 mod life_tests;
+#[cfg(test)]
+mod places_tests;
 mod reading;
 #[cfg(test)]
 mod reading_tests;

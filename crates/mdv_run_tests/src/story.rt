@@ -74,6 +74,14 @@ impl Story {
         Ok(())
     }
 
+    /// The drive is lost from the call of that number on, counted from the first run's start.
+    pub(crate) fn lose_at(&mut self, drive: u32, call: u64) -> Result<(), Fail> {
+        if drive >= self.shelf.drives() {
+            return Err(Fail::from("no such drive"));
+        }
+        Ok(self.shelf.lose_at(DriveNo(drive), call)?)
+    }
+
     pub(crate) fn bring_back(&mut self, drives: &[u32]) -> Result<(), Fail> {
         for drive in drives {
             if *drive >= self.shelf.drives() {

@@ -214,9 +214,6 @@ fn tells_nothing_of_a_block_that_a_fault_cuts(rt: HostRuntime) -> Result<(), Fai
 const UNBUILT: &[&str] = &[
     "metadb",
     "metadb -i",
-    "metadb -a c0t0d0s7 c0t1d0s7",
-    "metadb -a -c 2 c0t0d0s7",
-    "metadb -a -c 2 -l 8192 c0t0d0s7",
     "metadb -a mddb01",
     "metadb -d c0t0d0s7",
     "metadb -d -f c0t0d0s7",

@@ -13,17 +13,22 @@ const OF_BETA: &str = "host beta\ndrive c0t0d0 8224 beta disk.img\nslice c0t0d0s
 
 const SHARED: &str = "host alpha\ndrive c0t0d0 8224 shared disk.img\nslice c0t0d0s7 16 8208 db\n";
 
+const STORE: &str = "host alpha\nmediator alpha 8224 disk.img\n";
+
+const NO_DRIVE: &str = "host alpha\n";
+
 const NONE_MARKED: &str = "host alpha\ndrive c0t0d0 8224 alpha disk.img\nslice c0t0d0s7 16 8208\n";
 
-// Words, a table and a drive's blocks: another host, too few words and too many, tables of another host, of a
-// shared drive and of no slice for replicas, and none, and drives of other sizes.
+const TOO_SHORT: &str = "host alpha\ndrive c0t0d0 8224 alpha disk.img\nslice c0t0d0s7 16 31 db\n";
+
+// Words, a table and a drive's blocks: another host, too few words and too many, a table of another host,
+// and none, and drives of other sizes.
 const FAULTY: &[(&[&str], &str, u64)] = &[
     (&["beta"], TABLE, 8224),
     (&[], TABLE, 8224),
     (&["alpha", "alpha"], TABLE, 8224),
     (&["alpha"], OF_BETA, 8224),
-    (&["alpha"], SHARED, 8224),
-    (&["alpha"], NONE_MARKED, 8224),
+    (&["alpha"], NO_DRIVE, 8224),
     (&["alpha"], "", 8224),
     (&["alpha"], TABLE, 8225),
     (&["alpha"], TABLE, 0),
@@ -42,14 +47,55 @@ fn refuses_a_faulty_use(rt: HostRuntime) -> Result<(), Fail> {
     Ok(())
 }
 
+// A host without a slice where a replica may lie: its table, its drives, and what is told of a creation with `-f` there, and of a read.
+const PLACELESS: &[(&str, &[u64], &str)] = &[
+    (
+        SHARED,
+        LONE,
+        "refused E6 NoSuchSlice\nrefused E2 NoDatabase\n",
+    ),
+    (
+        STORE,
+        LONE,
+        "refused E6 NoSuchSlice\nrefused E2 NoDatabase\n",
+    ),
+    (
+        NO_DRIVE,
+        &[],
+        "refused E6 NoSuchSlice\nrefused E2 NoDatabase\n",
+    ),
+    (
+        NONE_MARKED,
+        LONE,
+        "refused E12 WrongKind\nrefused E2 NoDatabase\n",
+    ),
+    (
+        TOO_SHORT,
+        LONE,
+        "refused E10 TooSmall\nrefused E2 NoDatabase\n",
+    ),
+];
+
+#[test]
+fn runs_a_host_without_a_place(rt: HostRuntime) -> Result<(), Fail> {
+    for (table, sizes, told) in PLACELESS {
+        let source = source_of(rt.alloc(), "metadb -a -f c0t0d0s7\nread d0 0 1\n")?;
+        let end = ends_by(rt.alloc(), &["alpha"], (table, sizes), source, told)?;
+        assert!(rt; end == Some(RunStatus::SomeRefused), "{table:?} {end:?}");
+    }
+    Ok(())
+}
+
 // What stands behind the lines of the table, and how an empty script ends.
 const HOMES: &[(&str, RunStatus)] = &[
     ("", RunStatus::Done),
     ("\n# more\n", RunStatus::Done),
     ("slice c0t0d0s1 1 15\n", RunStatus::Done),
-    ("slice c0t0d0s1 1 15 db\n", RunStatus::Usage),
-    ("slice c0t0d0s1 1 16\n", RunStatus::Usage),
-    ("slice c0t0d0s1 8223 1\n", RunStatus::Usage),
+    ("slice c0t0d0s1 1 15 db\n", RunStatus::Done),
+    ("slice c0t0d0s1 1 16 db\n", RunStatus::Done),
+    ("slice c0t0d0s1 1 16\n", RunStatus::Done),
+    ("slice c0t0d0s1 8223 1\n", RunStatus::Done),
+    ("slice c0t0d0s1 8224 1\n", RunStatus::Usage),
     ("host beta\n", RunStatus::Done),
     ("drive c0t1d0 8224 alpha other.img\n", RunStatus::Usage),
     ("slice c0t0d0s8 0 16\n", RunStatus::Usage),
@@ -70,7 +116,7 @@ fn end_with(
 }
 
 #[test]
-fn finds_the_home_of_a_host(rt: HostRuntime) -> Result<(), Fail> {
+fn takes_whatever_slices(rt: HostRuntime) -> Result<(), Fail> {
     for (more, status) in HOMES {
         let end = end_with(rt.alloc(), "alpha", (TABLE, more), LONE, ("", ""))?;
         assert!(rt; end == Some(*status), "{more:?}");
@@ -135,7 +181,7 @@ fn runs_each_host_on_its_own_drives(rt: HostRuntime) -> Result<(), Fail> {
     Ok(())
 }
 
-// Two hosts with a home each: alpha's lies on its second drive, and a shared drive and a mediator stand between.
+// Two hosts with a marked slice each: alpha's lies on its second drive, and a shared drive and a mediator stand between.
 const TWO_HOSTS: &str = "host beta
 host alpha
 drive c0t0d0 40 alpha a0.img
@@ -162,17 +208,19 @@ const USES: &[(&str, &str, &[u64], RunStatus)] = &[
     ("", "alpha", FIVE, RunStatus::Done),
     ("", "beta", FIVE, RunStatus::Done),
     ("", "gamma", FIVE, RunStatus::Usage),
-    ("host gamma\n", "gamma", FIVE, RunStatus::Usage),
-    (UNMARKED, "gamma", SIX, RunStatus::Usage),
+    ("host gamma\n", "gamma", FIVE, RunStatus::Done),
+    (UNMARKED, "gamma", SIX, RunStatus::Done),
+    (UNMARKED, "gamma", FIVE, RunStatus::Usage),
     (UNMARKED, "alpha", SIX, RunStatus::Done),
     // One more slice that is marked, on an own drive and on another's.
-    ("slice c0t0d0s7 24 16 db\n", "alpha", FIVE, RunStatus::Usage),
-    ("slice c0t1d0s6 23 1 db\n", "alpha", FIVE, RunStatus::Usage),
+    ("slice c0t0d0s7 24 16 db\n", "alpha", FIVE, RunStatus::Done),
+    ("slice c0t1d0s6 23 1 db\n", "alpha", FIVE, RunStatus::Done),
+    ("slice c0t1d0s6 20 40 db\n", "alpha", FIVE, RunStatus::Done),
     ("slice c0t0d0s7 24 16 db\n", "beta", FIVE, RunStatus::Done),
     ("slice c1t0d0s6 8223 1 db\n", "alpha", FIVE, RunStatus::Done),
-    ("slice c1t0d0s6 8223 1 db\n", "beta", FIVE, RunStatus::Usage),
+    ("slice c1t0d0s6 8223 1 db\n", "beta", FIVE, RunStatus::Done),
     // A slice that has a block of the marked one, and one that has none.
-    ("slice c0t1d0s1 23 2\n", "alpha", FIVE, RunStatus::Usage),
+    ("slice c0t1d0s1 23 2\n", "alpha", FIVE, RunStatus::Done),
     ("slice c0t1d0s1 23 1\n", "alpha", FIVE, RunStatus::Done),
     ("slice c0t1d0s1 23 2\n", "beta", FIVE, RunStatus::Done),
     // One drive of another size, one too few and one too many.
@@ -187,7 +235,7 @@ const USES: &[(&str, &str, &[u64], RunStatus)] = &[
 ];
 
 #[test]
-fn finds_the_home_among_several_drives(rt: HostRuntime) -> Result<(), Fail> {
+fn takes_tables_of_several_hosts(rt: HostRuntime) -> Result<(), Fail> {
     for (more, host, sizes, status) in USES {
         let told = if *status == RunStatus::Done {
             "ok\n"

@@ -26,7 +26,7 @@ use Rattle.mdv_survey.specs.declared.replica.Newest.{Newest}
 use Rattle.mdv_survey.specs.declared.replica.Survey.{Survey}
 use Rattle.mdv_store.specs.Adopting.{AdoptEnds, AdoptMoment, IsAdoptAnswer, WasReadOf}
 use Rattle.mdv_store.specs.Below.{DriveNo, Failures, Geometry, Ghosts, Identity, IsReadyWith, Replica, Site, SliceLine, Table, Tale, at_of, greatest, places_of, record_text, range, site_area, site_of}
-use Rattle.mdv_store.specs.Boot.{IfAdopted, IsDrawn, IsEndBy, IsInHand, IsOnce, IsWrittenTo, TakesBoth, greatest_number, seats_of}
+use Rattle.mdv_store.specs.Boot.{IfAdopted, IsDrawn, IsEndBy, IsInHand, IsOnce, IsWrittenTo, TakesBoth, TakesClaimOrBoth, greatest_number, seats_of}
 use Rattle.mdv_store.specs.BootCounts.{most_blocks}
 use Rattle.mdv_store.specs.Booting.{BootGoes, BootMoment, HasShown, Writes, WritesFor, boot_area, has_written}
 use Rattle.mdv_store.specs.Commit.{AnyLog, AnyWorld, IsNewestWritten}
@@ -283,13 +283,13 @@ module _ (site : Site) (replicas : List Replica) (newest : Newest) (hand : Hand)
       once_by kept end.Empty by = absurd by
       once_by kept (end.TwoDatabases a b) by = absurd by
       once_by kept (end.NoQuorum readable needed) by = absurd by
-      once_by kept (end.Lost active listed) by = pass_once shelf old new hand.seats by.now (λ r n. Unit {0}) kept by.left
+      once_by kept (end.Lost active listed) by = pass_once shelf old new hand.seats by.now (TakesClaimOrBoth hand.number (length (record_text newest.table))) kept by.left
       once_by kept end.Spent by = absurd by
       once_by kept end.Memory by = absurd by
 
       pub adopted_answer : KeptAmong shelf old new (drives_of hand.seats) → AtEachTale shelf (RewriteMoment site.key hand newest.table) old new → hand.number < 2 ^ 63 → AreLaid (shelf.sizes old) hand.seats → IsAdoptAnswer shelf old new site replicas newest taken
       adopted_answer kept moments small laid = record {
-        ended = inr (λ survey replica reps newest_is the chosen. end_of survey replica reps newest_is the enough small (DriveFailures shelf old new) (Rewrites shelf old new site.key) (record { moments = moments; wrote = answer.wrote; made = answer.made }) taken.end answer.ended);
+        ended = inr (λ survey replica reps newest_is the chosen. end_of survey replica reps newest_is the enough small (DriveFailures shelf old new) (Rewrites shelf old new site.key) (record { moments = moments; wrote = answer.wrote; made = answer.made; passed = answer.passed }) taken.end answer.ended);
         calm = adopted_calm taken.calm answer.calm;
         once = once_by kept taken.end answer.ended;
         still = λ still. absurd (wrote (DriveFailures shelf old new) taken.end answer.ended still);

@@ -5,7 +5,7 @@ use Rattle.std.specs.Bool.{MatchBool}
 use Rattle.std.specs.Option.{option_map}
 use Rattle.std.proofs.Math.Nat.{mul-le-mul_left}
 use Rattle.std.proofs.lemmas.List.Elements.{All-contains}
-use Rattle.mdv_base.specs.Causes.{Rose, RoseOnce}
+use Rattle.mdv_base.specs.Causes.{RoseOnce}
 use Rattle.mdv_base.specs.DriveSet.{no_drives}
 use Rattle.mdv_replica.specs.Images.{IsSame}
 use Rattle.mdv_shelf.proofs.Among.{among_wider}
@@ -17,7 +17,7 @@ use Rattle.mdv_shelf.specs.Calls.{OnDrive}
 use Rattle.mdv_shelf.specs.Drives.{KeptAmong}
 use Rattle.mdv_shelf.specs.Everywhere.{Everywhere, Leaves}
 use Rattle.mdv_shelf.specs.Moments.{Moments}
-use Rattle.mdv_shelf.specs.Shelves.{AtEachTale, AtEnd, DriveFailed, DriveFailures, MadeCalls}
+use Rattle.mdv_shelf.specs.Shelves.{AtEachTale, AtEnd, DriveFailures, MadeCalls}
 use Rattle.mdv_shelf.specs.Story.{tale_of}
 use Rattle.mdv_standing.proofs.Tracing.{adds_none, trace_more, trace_same, trace_weaker}
 use Rattle.mdv_standing.specs.Laws.{ShowsNoTable}
@@ -35,7 +35,7 @@ use Rattle.mdv_store.specs.Adopting.{AreAllIn}
 use Rattle.mdv_store.specs.Below.{Core, CoversWith, Database, DriveNo, Drives, Event, Failures, Geometry, Ghosts, Identity, IsSound, IsSynced, Log, Replica, RestStands, Site, Spot, Table, Tale, has_drive, last, places_of, record_text, site_of}
 use Rattle.mdv_shown.specs.Found.{IsFound}
 use Rattle.mdv_store.specs.Blank.{StayBlank}
-use Rattle.mdv_store.specs.Boot.{IfAdopted, IsEndBy, IsOnce, TakesBoth, is_memory}
+use Rattle.mdv_store.specs.Boot.{IfAdopted, IsEndBy, IsOnce, TakesBoth, TakesClaimOrBoth, is_memory}
 use Rattle.mdv_store.specs.Booted.{IsBooted, IsReadAt}
 use Rattle.mdv_store.specs.BootCounts.{IsBootCounted, IsEndCounted, most_blocks, most_reads}
 use Rattle.mdv_store.specs.Booting.{AreOfBoot, BootEnds, BootGoes, BootMoment, HasShown, IsBootedTo, Writes, WritesFor, boot_area, has_written}
@@ -57,9 +57,9 @@ use Rattle.mdv_store.specs.declared.looking.Looked.{Looked}
 use Rattle.mdv_store.specs.declared.seats.Seat.{Seat}
 use Rattle.mdv_store.proofs.Among.{among_calm, among_silent}
 use Rattle.mdv_store.proofs.Bringing.{count_cons}
-use Rattle.mdv_store.proofs.Few.{reads_between, reads_more}
+use Rattle.mdv_store.proofs.Few.{few_more, reads_between, reads_more}
 use Rattle.mdv_store.proofs.Looks.{and_first, and_second, cases_bool, count_length, yes_not}
-use Rattle.mdv_store.proofs.Passes.{left_as, once_rose, unmapped}
+use Rattle.mdv_store.proofs.Passes.{left_as, unmapped}
 use Rattle.mdv_store.proofs.Quiet.{quiet_more, unwritten_quiet}
 use Rattle.mdv_store.proofs.Seating.{seated_at}
 use Rattle.mdv_store.proofs.Sitting.{contains_behind, contains_first}
@@ -70,12 +70,6 @@ at_true A B b is m = subst (λ (c : Bool). MatchBool c A B) is m
 
 pub at_false : (A B : Type 0) (b : Bool) → b ≡ false → MatchBool b A B → B
 at_false A B b is m = subst (λ (c : Bool). MatchBool c A B) is m
-
-rose_later : (a b c : ℕ) → b ≤ c → Rose a b → Rose a c
-rose_later a b c up rose = omega (arith, up, rose)
-
-rose_before : (a b c : ℕ) → a ≤ b → Rose b c → Rose a c
-rose_before a b c up rose = omega (arith, up, rose)
 
 -- Nothing is written.
 leaves_same : (t m : Tale) → IsUnwritten t m → Leaves IsSame t m
@@ -184,7 +178,7 @@ end_as : (failed told : ℕ → Failures) (Wrote : Hand → Table → Type 0) (s
     → (answer : BootEnd) → IsEndBy failed Wrote site survey answer → IsEndBy told Wrote site survey answer
 end_as failed told Wrote site survey some none (end.Adopted o) by =
     let has : (r : Replica) → Contains (replicas_of by.seats) r → Contains survey.replicas r =
-    λ r in_seats. (seated_at survey.replicas by.replica.head.master.identity (blocks_for (length (record_text by.newest.table))) [] (places_of by.newest.table.plan.lists) r (subst (λ (ss : List Seat). Contains (replicas_of ss) r) by.drawn.hand.seats_are in_seats)).1 in
+    λ r in_seats. (seated_at survey.replicas by.replica.head.master.identity (blocks_for (length (record_text by.newest.table))) (places_of by.newest.table.plan.lists) r (subst (λ (ss : List Seat). Contains (replicas_of ss) r) by.drawn.hand.seats_are in_seats)).1 in
     record {
       newest = by.newest;
       replica = by.replica;
@@ -201,7 +195,7 @@ end_as failed told Wrote site survey some none (end.TwoDatabases a b) by = by
 end_as failed told Wrote site survey some none (end.NoQuorum readable needed) by = by
 end_as failed told Wrote site survey some none (end.Lost active listed) by =
     let has : (r : Replica) → Contains (replicas_of by.seats) r → Contains survey.replicas r =
-    λ r in_seats. (seated_at survey.replicas by.replica.head.master.identity (blocks_for (length (record_text by.newest.table))) [] (places_of by.newest.table.plan.lists) r (subst (λ (ss : List Seat). Contains (replicas_of ss) r) by.drawn.hand.seats_are in_seats)).1 in
+    λ r in_seats. (seated_at survey.replicas by.replica.head.master.identity (blocks_for (length (record_text by.newest.table))) (places_of by.newest.table.plan.lists) r (subst (λ (ss : List Seat). Contains (replicas_of ss) r) by.drawn.hand.seats_are in_seats)).1 in
     record {
       newest = by.newest;
       replica = by.replica;
@@ -210,7 +204,7 @@ end_as failed told Wrote site survey some none (end.Lost active listed) by =
       drawn = by.drawn;
       written = by.written;
       now = by.now;
-      left = left_as failed told (λ r m. Unit {0}) (λ r m. Unit {0}) by.seats by.now (λ r in_seats. some r (has r in_seats)) (λ r in_seats. none r (has r in_seats)) (λ r m took. tt) by.left;
+      left = left_as failed told (TakesClaimOrBoth by.number (length (record_text by.newest.table))) (TakesClaimOrBoth by.number (length (record_text by.newest.table))) by.seats by.now (λ r in_seats. some r (has r in_seats)) (λ r in_seats. none r (has r in_seats)) (λ r m took. took) by.left;
       few = by.few;
       active_is = by.active_is;
       listed_is = by.listed_is;
@@ -244,22 +238,21 @@ module _ {S : Type 0} (shelf : Ghosts S) (site : Site) (old m1 : S) (up : Drives
   up_calm : (drive : DriveNo) → Contains site.drives drive → has_drive up drive ≡ true → shelf.faults m1 (OnDrive drive.0) ≡ shelf.faults old (OnDrive drive.0)
   up_calm drive one_of so = at_true _ _ (has_drive up drive) so (ups.each drive one_of)
 
-  down_rose : (drive : DriveNo) → Contains site.drives drive → has_drive up drive ≡ false → DriveFailed shelf old m1 drive.0
-  down_rose drive one_of so = once_rose _ _ (at_false _ _ (has_drive up drive) so (ups.each drive one_of))
-
   -- and looked at
   module _ (telling : (s : S) → shelf.tale s ≡ option_map tale_of (shelf.story s)) (g : Geometry) (m2 : S) (l_same : shelf.tale m2 ≡ shelf.tale m1) (l_few : MadeFew shelf m1 m2 ((1 + count_by (has_drive up) site.drives) * (765 * length site.lines)))
       (l_kept : KeptAmong shelf m1 m2 site.drives) where
     pub look_kept : KeptAmong shelf old m2 site.drives
     look_kept = among_silent shelf telling m1 m2 site.drives l_kept l_same old b_kept
 
-    looks_most : MadeCallsBetween shelf old m2 0 (2 * length site.drives + most_reads site) 0
-    looks_most =
+    looks_few : MadeFew shelf old m2 (2 * length site.drives + most_reads site)
+    looks_few =
         let few = count_length (has_drive up) site.drives in
         let larger : 1 + count_by (has_drive up) site.drives ≤ 1 + length site.drives = omega (arith, few) in
         let product = mul-le-mul_left (765 * length site.lines) larger in
-        between_then shelf.calls shelf.written old m1 m2 0 (2 * length site.drives) 0 0 ((1 + count_by (has_drive up) site.drives) * (765 * length site.lines)) 0 0 (2 * length site.drives + most_reads site) 0 (omega arith) (omega (arith, product)) (omega arith)
-        (reads_between shelf old m1 b_counted.calls 0 (2 * length site.drives) (omega arith) b_counted.by.most b_counted.made) (reads_between shelf m1 m2 l_few.0 0 _ (omega arith) l_few.1 l_few.2)
+        few_more shelf old m1 m2 (2 * length site.drives) ((1 + count_by (has_drive up) site.drives) * (765 * length site.lines)) _ (omega (arith, product)) (b_counted.calls, b_counted.by.most, b_counted.made) l_few
+
+    looks_most : MadeCallsBetween shelf old m2 0 (2 * length site.drives + most_reads site) 0
+    looks_most = reads_between shelf old m2 looks_few.0 0 (2 * length site.drives + most_reads site) (omega arith) looks_few.1 looks_few.2
 
     -- memory was wanting
     module _ (answer : Booted) (end_is : answer.end ≡ end.Memory) (up_is : answer.up ≡ up) (clean_is : answer.clean ≡ false) where
@@ -275,7 +268,7 @@ module _ {S : Type 0} (shelf : Ghosts S) (site : Site) (old m1 : S) (up : Drives
         };
         ended = inl (ap is_memory end_is);
         once = inl (ap is_memory end_is);
-        clean = subst (λ (b : Bool). MatchBool b ((is_memory answer.end ≡ false) × ((drive : DriveNo) → Contains site.drives drive → (DriveFailures shelf old m2 drive.0).none)) ((is_memory answer.end ≡ true) ⊎ ((drive : DriveNo) × Contains site.drives drive × DriveFailed shelf old m2 drive.0)))
+        clean = subst (λ (b : Bool). MatchBool b ((is_memory answer.end ≡ false) × ((drive : DriveNo) → Contains site.drives drive → (DriveFailures shelf old m2 drive.0).none)) ((is_memory answer.end ≡ true) ⊎ ((drive : DriveNo) × Contains site.drives drive × (DriveFailures shelf old m2 drive.0).some)))
             (sym clean_is) (inl (ap is_memory end_is));
         laid = subst (λ (e : BootEnd). IfAdopted e (λ o. AreLaid (shelf.sizes old) o.seats)) (sym end_is) tt;
       }
@@ -284,15 +277,15 @@ module _ {S : Type 0} (shelf : Ghosts S) (site : Site) (old m1 : S) (up : Drives
       wanting_moments =
           subst (λ (o : Option Tale). Moments (BootMoment g site answer.end) (shelf.tale old) o) (sym l_same) (moments_weaker IsUnwritten (BootMoment g site answer.end) (shelf.tale old) (shelf.tale m1) (boot_before g site answer.end) b_moments)
 
-      pub wanting_ends : ((drive : DriveNo) → Contains site.drives drive → (DriveFailed shelf old m2 drive.0 → ⊥) → has_drive up drive ≡ true) → AtEnd shelf (BootEnds (DriveFailed shelf old m2) g site answer) old m2
-      wanting_ends is_up t told =
+      pub wanting_ends : AtEnd shelf (BootEnds (λ drive. (DriveFailures shelf old m2 drive).some) g site answer) old m2
+      wanting_ends t told =
           let u = brought t told in (
             u.0,
             l_same ∙ u.1,
             record {
               adopted = subst (λ (e : BootEnd). IfAdopted e (λ o. IsBootedTo g site o t u.0)) (sym end_is) tt;
               empty = λ e so. absurd (cc (so, clean_is));
-              synced = λ drive one_of never. u.2.synced drive (is_up drive one_of never);
+              synced = λ enough. absurd (cc (enough, ap is_memory end_is));
               still = λ drive block so out. u.2.synced drive (sym (ap (λ (d : Drives). has_drive d drive) up_is) ∙ so) block;
             },
           )
@@ -300,14 +293,9 @@ module _ {S : Type 0} (shelf : Ghosts S) (site : Site) (old m1 : S) (up : Drives
       pub wanting_counted : IsBootCounted shelf old m2 g site answer
       wanting_counted = record {
         most = between_wider shelf.calls shelf.written old m2 0 (2 * length site.drives + most_reads site) 0 0 (2 * length site.drives + most_reads site + 8 * 50) most_blocks (omega arith) (omega arith) (omega arith) looks_most;
+        still = λ unwritten. looks_most;
         clean = λ so. absurd (cc (so, clean_is));
       }
-
-    pub is_up_where : (drive : DriveNo) → Contains site.drives drive → (DriveFailed shelf old m2 drive.0 → ⊥) → has_drive up drive ≡ true
-    is_up_where drive one_of never = elim (cases_bool (has_drive up drive)) [
-      | inl so ↦ so
-      | inr down ↦ absurd (never (rose_later (shelf.faults old (OnDrive drive.0)) (shelf.faults m1 (OnDrive drive.0)) (shelf.faults m2 (OnDrive drive.0)) (l_kept.keeps.no_fewer_faults (OnDrive drive.0)) (down_rose drive one_of down)))
-    ]
 
     -- what was read was made something of
     module _ (sound : IsSound g) (on : IsOnShelf (shelf.sizes old) site) (of_site : site ≡ site_of g site.key) (looked : Looked) (at : IsLookedAt shelf m1 m2 g site up looked) (new : S) (taken : Taken) (answer : IsTaken shelf m2 new site looked taken)
@@ -332,12 +320,6 @@ module _ {S : Type 0} (shelf : Ghosts S) (site : Site) (old m1 : S) (up : Drives
         | inr down ↦ subst (λ (n : ℕ). RoseOnce (faults_at old drive) n) (sym (calm_by.down drive down)) (at_false _ _ (has_drive up drive) down (ups.each drive one_of))
       ]
 
-      not_calm : (drive : DriveNo) → Contains site.drives drive → has_drive looked.calm drive ≡ false → DriveFailed shelf old m2 drive.0
-      not_calm drive one_of out = once_rose _ _ (once_by m2 at.calm drive one_of out)
-
-      later_too : (drive : DriveNo) → DriveFailed shelf old m2 drive.0 → DriveFailed shelf old new drive.0
-      later_too drive rose = rose_later (faults_at old drive) (faults_at m2 drive) (faults_at new drive) (t_kept.keeps.no_fewer_faults (OnDrive drive.0)) rose
-
       read_calm : (r : Replica) → Contains looked.survey.replicas r → has_drive looked.calm r.line.at.drive ≡ true
       read_calm r has = (at.survey.each r has).is_up
 
@@ -354,6 +336,18 @@ module _ {S : Type 0} (shelf : Ghosts S) (site : Site) (old m1 : S) (up : Drives
           let read = r.0.line.at.drive in
           subst (λ (d : DriveNo). faults_at m2 d ≡ faults_at m1 d) r.2 (at_true _ _ (has_drive looked.calm read) so (at.calm.each read (at.calm.only read so) (calm_up read so)))
 
+      -- behind the look no call was made on a drive that doesn't count
+      kept_out : (drive : DriveNo) → has_drive looked.calm drive ≡ false → faults_at new drive ≡ faults_at m2 drive
+      kept_out drive out = t_kept.others (OnDrive drive.0) (λ among.
+          let r = unmapped (λ (x : Replica). x.line.at.drive) looked.survey.replicas among.0 among.1 in
+          let same : OnDrive drive.0 ≡ OnDrive among.0.0 = among.2 in
+          let number : drive.0 ≡ among.0.0 = cc (same) in
+          let is : drive ≡ r.0.line.at.drive = (λ i. record { 0 = number i }) ∙ sym r.2 in
+          cc (sym out ∙ ap (has_drive looked.calm) is, read_calm r.0 r.1))
+
+      out_once : (drive : DriveNo) → Contains site.drives drive → has_drive looked.calm drive ≡ false → (DriveFailures shelf old new drive.0).some
+      out_once drive one_of out = subst (λ (n : ℕ). RoseOnce (faults_at old drive) n) (sym (kept_out drive out)) (once_by m2 at.calm drive one_of out)
+
       told_end : IsEndBy (DriveFailures shelf m2 new) (Rewrites shelf m2 new site.key) site looked.survey taken.end → IsEndBy (DriveFailures shelf old new) (Rewrites shelf m2 new site.key) site looked.survey taken.end
       told_end = end_as (DriveFailures shelf m2 new) (DriveFailures shelf old new) (Rewrites shelf m2 new site.key) site looked.survey
           (λ r has some. subst (λ (n : ℕ). RoseOnce n (shelf.faults new (OnDrive (drive_of r)))) (read_faults r has) some) (λ r has none. none ∙ read_faults r has) taken.end
@@ -363,14 +357,14 @@ module _ {S : Type 0} (shelf : Ghosts S) (site : Site) (old m1 : S) (up : Drives
 
       clean_by : (a b c : Bool) → MatchBool a (All (λ drive. has_drive looked.calm drive ≡ true) site.drives) ((drive : DriveNo) × Contains site.drives drive × (has_drive looked.calm drive ≡ false)) → IsCalmOn shelf m2 new looked.survey.replicas b → is_memory taken.end ≡ c
           → MatchBool (a && (b && not c)) ((is_memory taken.end ≡ false) × ((drive : DriveNo) → Contains site.drives drive → (DriveFailures shelf old new drive.0).none))
-          ((is_memory taken.end ≡ true) ⊎ ((drive : DriveNo) × Contains site.drives drive × DriveFailed shelf old new drive.0))
+          ((is_memory taken.end ≡ true) ⊎ ((drive : DriveNo) × Contains site.drives drive × (DriveFailures shelf old new drive.0).some))
       clean_by true true true fine none memory = inl memory
       clean_by true true false fine none memory = (memory, λ drive one_of. none drive ∙ calm_faults drive (All-contains (λ (d : DriveNo). has_drive looked.calm d ≡ true) site.drives drive fine one_of))
       clean_by true false c fine lost memory =
           let r = lost.0 in
           let listed = at.survey.each r lost.1 in
-          inr (r.line.at.drive, on.brought r.line listed.seated.one_of, rose_before (shelf.faults old (OnDrive (drive_of r))) (shelf.faults m2 (OnDrive (drive_of r))) (shelf.faults new (OnDrive (drive_of r))) (look_kept.keeps.no_fewer_faults (OnDrive (drive_of r))) lost.2)
-      clean_by false b c out none memory = inr (out.0, out.1, later_too out.0 (not_calm out.0 out.1 out.2))
+          inr (r.line.at.drive, on.brought r.line listed.seated.one_of, subst (λ (n : ℕ). RoseOnce n (shelf.faults new (OnDrive (drive_of r)))) (read_faults r lost.1) lost.2)
+      clean_by false b c out none memory = inr (out.0, out.1, out_once out.0 out.1 out.2)
 
       abbrev made : Booted
       made = record { end = taken.end; up = up; clean = clean }
@@ -381,11 +375,12 @@ module _ {S : Type 0} (shelf : Ghosts S) (site : Site) (old m1 : S) (up : Drives
         looked = m2;
         unwritten = subst (λ (o : Option Tale). Moments IsUnwritten (shelf.tale old) o) (sym l_same) b_moments;
         before = look_kept;
+        reads = looks_few;
         behind = among_wider shelf m2 new (drives_read looked.survey.replicas) site.drives read_within t_kept;
         answered = calm_faults;
         calm = looked.calm;
         up = calm_up;
-        failed = λ drive one_of out. once_rose _ _ (once_by at.last_look.begun at.last_look.before drive one_of out);
+        failed = λ drive one_of out. (once_by at.last_look.begun at.last_look.before drive one_of out, out_once drive one_of out);
         once = λ t told. (
             let u = brought t told in
             let one = at.last_look.once u.0 u.1 in
@@ -403,22 +398,13 @@ module _ {S : Type 0} (shelf : Ghosts S) (site : Site) (old m1 : S) (up : Drives
       ended_by (inl memory) = inl memory
       ended_by (inr by) = inr (looked.survey, read_at, told_end by)
 
-      -- behind the look no call was made on a drive that doesn't count
-      kept_out : (drive : DriveNo) → has_drive looked.calm drive ≡ false → faults_at new drive ≡ faults_at m2 drive
-      kept_out drive out = t_kept.others (OnDrive drive.0) (λ among.
-          let r = unmapped (λ (x : Replica). x.line.at.drive) looked.survey.replicas among.0 among.1 in
-          let same : OnDrive drive.0 ≡ OnDrive among.0.0 = among.2 in
-          let number : drive.0 ≡ among.0.0 = cc (same) in
-          let is : drive ≡ r.0.line.at.drive = (λ i. record { 0 = number i }) ∙ sym r.2 in
-          cc (sym out ∙ ap (has_drive looked.calm) is, read_calm r.0 r.1))
-
       each_once : (drive : DriveNo) → Contains site.drives drive → IsOnce (DriveFailures shelf old new drive.0)
       each_once drive one_of = elim (cases_bool (has_drive looked.calm drive)) [
         | inl so ↦ elim (answer.once drive) [
           | inl none ↦ inl (none ∙ calm_faults drive so)
           | inr some ↦ inr (subst (λ (n : ℕ). RoseOnce n (faults_at new drive)) (calm_faults drive so) some)
         ]
-        | inr out ↦ inr (subst (λ (n : ℕ). RoseOnce (faults_at old drive) n) (sym (kept_out drive out)) (once_by m2 at.calm drive one_of out))
+        | inr out ↦ inr (out_once drive one_of out)
       ]
 
       pub booted : IsBooted shelf old new g site made
@@ -433,7 +419,7 @@ module _ {S : Type 0} (shelf : Ghosts S) (site : Site) (old m1 : S) (up : Drives
         };
         ended = ended_by answer.ended;
         once = inr each_once;
-        clean = subst (λ (b : Bool). MatchBool b ((is_memory taken.end ≡ false) × ((drive : DriveNo) → Contains site.drives drive → (DriveFailures shelf old new drive.0).none)) ((is_memory taken.end ≡ true) ⊎ ((drive : DriveNo) × Contains site.drives drive × DriveFailed shelf old new drive.0)))
+        clean = subst (λ (b : Bool). MatchBool b ((is_memory taken.end ≡ false) × ((drive : DriveNo) → Contains site.drives drive → (DriveFailures shelf old new drive.0).none)) ((is_memory taken.end ≡ true) ⊎ ((drive : DriveNo) × Contains site.drives drive × (DriveFailures shelf old new drive.0).some)))
             (sym clean_is) (clean_by calm taken.calm (is_memory taken.end) all answer.calm refl);
         laid = subst (λ (sizes : List ℕ). IfAdopted taken.end (λ o. AreLaid sizes o.seats)) look_kept.keeps.same_sizes answer.laid;
       }
@@ -464,7 +450,7 @@ module _ {S : Type 0} (shelf : Ghosts S) (site : Site) (old m1 : S) (up : Drives
       calm_of : clean ≡ true → calm ≡ true
       calm_of so = and_first calm (taken.calm && not (is_memory taken.end)) (sym clean_is ∙ so)
 
-      pub all_ends : AtEachTale shelf (TakingMoment site looked taken.end) m2 new → AtEnd shelf (TakingEnds site looked taken.end) m2 new → AtEnd shelf (StaySynced shelf m2 new) m2 new → AtEnd shelf (BootEnds (DriveFailed shelf old new) g site made) old new
+      pub all_ends : AtEachTale shelf (TakingMoment site looked taken.end) m2 new → AtEnd shelf (TakingEnds site looked taken.end) m2 new → AtEnd shelf (StaySynced shelf m2 new) m2 new → AtEnd shelf (BootEnds (λ drive. (DriveFailures shelf old new drive).some) g site made) old new
       all_ends moments taking stays t told =
           let u = brought t told in
           let here : shelf.tale m2 ≡ Some u.0 = l_same ∙ u.1 in
@@ -482,18 +468,18 @@ module _ {S : Type 0} (shelf : Ghosts S) (site : Site) (old m1 : S) (up : Drives
                   let still : new ≡ m2 = answer.still (ap has_written is) in
                   let at_rest : u.0 ≡ w.0 = some_is (shelf.tale new) u.0 w.0 (ap shelf.tale still ∙ here) w.1 in
                   subst (λ (x : Tale). Everywhere (λ image. (identity : Identity) → ShowsNoTable (Spells g) site identity image) x) at_rest nothing);
-              synced = λ drive one_of never. (
+              synced = λ enough drive one_of never. (
                   let is_calm = calm_where drive one_of never in
                   subst (λ (x : Tale). IsSynced drive.0 x) same
-                  (s.2 drive (u.2.synced drive (calm_up drive is_calm)) (λ rose. never (rose_before (faults_at old drive) (faults_at m2 drive) (faults_at new drive) (look_kept.keeps.no_fewer_faults (OnDrive drive.0)) rose))));
+                  (s.2 drive (u.2.synced drive (calm_up drive is_calm)) (λ some. never (subst (λ (n : ℕ). RoseOnce n (faults_at new drive)) (calm_faults drive is_calm) some))));
               still = λ drive block so out x left. (
                   let kept = (subst (λ (v : Tale). BootMoment g site taken.end u.0 v) last_one (m.2 g (was_read t u.0 u.2))).quiet.outside drive.0 block out in
                   u.2.synced drive so block x (kept.left x left) ∙ sym (λ i. kept.last i));
             },
           )
         where
-          calm_where : (drive : DriveNo) → Contains site.drives drive → (DriveFailed shelf old new drive.0 → ⊥) → has_drive looked.calm drive ≡ true
-          calm_where drive one_of never = elim (cases_bool (has_drive looked.calm drive)) [ inl so ↦ so | inr out ↦ absurd (never (later_too drive (not_calm drive one_of out))) ]
+          calm_where : (drive : DriveNo) → Contains site.drives drive → ((DriveFailures shelf old new drive.0).some → ⊥) → has_drive looked.calm drive ≡ true
+          calm_where drive one_of never = elim (cases_bool (has_drive looked.calm drive)) [ inl so ↦ so | inr out ↦ absurd (never (out_once drive one_of out)) ]
 
       pub all_kept : KeptAmong shelf old new site.drives
       all_kept = among_calm shelf old m2 new site.drives (drives_read looked.survey.replicas)
@@ -517,6 +503,7 @@ module _ {S : Type 0} (shelf : Ghosts S) (site : Site) (old m1 : S) (up : Drives
       pub all_counted : IsTakingCounted shelf m2 new taken → (HaveAnswered site up looked.calm → (t : Tale) → shelf.tale m1 ≡ Some t → (n : ℕ) × MadeReads shelf m1 m2 n × AreLinesBy g site up no_drives (last t) site.lines n) → IsBootCounted shelf old new g site made
       all_counted counted once = record {
         most = between_then shelf.calls shelf.written old m2 new 0 (2 * length site.drives + most_reads site) 0 0 (8 * 50) most_blocks 0 (2 * length site.drives + most_reads site + 8 * 50) most_blocks (omega arith) (omega arith) (omega arith) looks_most counted.most;
+        still = λ unwritten. subst (λ (s : S). MadeCallsBetween shelf old s 0 (2 * length site.drives + most_reads site) 0) (sym (answer.still unwritten)) looks_most;
         clean = λ so t told. (
             let is_calm = calm_of so in
             let u = brought t told in

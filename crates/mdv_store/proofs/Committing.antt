@@ -3,6 +3,7 @@ use Rattle.std.proofs.Common.{◌≡◌, inl, inr, ◌<◌, ◌≤◌, ◌+◌, 
 use Rattle.std.proofs.lemmas.Bool.{false≢true, leb-true}
 use Rattle.std.specs.List.{concat}
 use Rattle.mdv_quorum.specs.declared.event.Event.TheVariants.{Told}
+use Rattle.mdv_record.specs.Room.{least_slot_bytes}
 use Rattle.mdv_shelf.proofs.Everywhere.{last_image}
 use Rattle.mdv_shelf.proofs.Frame.{kept_outside_same}
 use Rattle.mdv_shelf.proofs.Moments.{moments_none, moments_weaker}
@@ -78,7 +79,8 @@ module _ (old : Opened) (next : Table) (c : IsCommitting old next) where
 
   bodies : (body : List (List ℕ)) → IsSpelled next bytes body → (g : Geometry) → IsSound g → IsOfGeometry g next → AreBodies g old.seats mark bytes body next
   bodies body spelled g sound of_geometry r has =
-      let text = record_spelled g (take bytes (concat body)) next sound of_geometry spelled.text in
+      let fits = subst (λ (l : Lists). length (record_text next) ≤ least_slot_bytes (places_of l)) (sym c.lists) c.fits in
+      let text = record_spelled g (take bytes (concat body)) next sound of_geometry fits spelled.text in
       let in_slot = room r has in
       record {
         is = record { of_mark = next_is_mark old.mark c.boot c.small; in_slot = omega (arith, spelled.blocks); in_room = omega arith; in_body = spelled.in_body; as_record = (next, text) };
@@ -249,15 +251,22 @@ module _ (old : Opened) (next : Table) (c : IsCommitting old next) where
     pub committed : is_half_active new ≡ true → IsCommitted failed old (record old { mark = mark; table = next; seats = new }) next
     committed half = record { tried = record { half = c.half; fits = c.fits; small = c.small; left = left }; enough = half; is = refl }
 
+    -- those that are left show the table
+    left_show : (t u : Tale) → WritingEnds old.seats new mark next t u → (g : Geometry) → IsOfGeometry g next → IsOpenedAt g old t → IsOpenedAt g (record old { mark = mark; table = next; seats = new }) u
+    left_show t u ends g of_geometry opened = record {
+      sound = opened.sound;
+      of_geometry = of_geometry;
+      held = ends.slotting.held g old.key old.identity next opened.sound opened.held (bodies ends.body ends.spelled g opened.sound of_geometry);
+      named = new_named g t opened;
+      shown = ends.slotting.shown g old.key old.identity next opened.sound opened.held (bodies ends.body ends.spelled g opened.sound of_geometry) above;
+    }
+
+    pub left_ends : (a b : Option Tale) → Ends (WritingEnds old.seats new mark next) a b → Ends (λ t u. (g : Geometry) → IsOfGeometry g next → IsOpenedAt g old t → IsOpenedAt g (record old { mark = mark; table = next; seats = new }) u) a b
+    left_ends a b ends t is = (let end = ends t is in (end.0, end.1, left_show t end.0 end.2))
+
     commit_done : (t u : Tale) → WritingEnds old.seats new mark next t u → is_half_active new ≡ true → CommitDone old (record old { mark = mark; table = next; seats = new }) next t u
     commit_done t u ends half = record {
-      opened = λ g of_geometry opened. record {
-        sound = opened.sound;
-        of_geometry = of_geometry;
-        held = ends.slotting.held g old.key old.identity next opened.sound opened.held (bodies ends.body ends.spelled g opened.sound of_geometry);
-        named = new_named g t opened;
-        shown = ends.slotting.shown g old.key old.identity next opened.sound opened.held (bodies ends.body ends.spelled g opened.sound of_geometry) above;
-      };
+      opened = left_show t u ends;
       goes = λ g asked may log covers known. ends_so g asked t may log covers known new u ends (new_seats next c.lists) half;
     }
 

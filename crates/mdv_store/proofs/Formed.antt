@@ -10,7 +10,7 @@ use Rattle.mdv_store.specs.Blank.{StayBlank}
 use Rattle.mdv_store.specs.Create.{AreAsked, MayForm, replica_on, seats_asked, table_of}
 use Rattle.mdv_store.specs.Opened.{IsOpenedAt, Opened}
 use Rattle.mdv_store.specs.Records.{Spells}
-use Rattle.mdv_store.specs.Seats.{AreHeld, AreLeft, AreNamed, TakesSlot, spot_of}
+use Rattle.mdv_store.specs.Seats.{AreHeld, AreLeft, AreNamed, AreTheirs, TakesSlot, spot_of}
 use Rattle.mdv_store.specs.Slots.{AreAbove, AreBodies, SlottingEnds, SlottingMoment}
 use Rattle.mdv_store.specs.Text.{IsSpelled}
 use Rattle.mdv_store.specs.declared.seats.Seat.{Seat}
@@ -20,8 +20,9 @@ use Rattle.mdv_store.proofs.Clearing.{all_cleared, all_clearing, dark_known, dar
 use Rattle.mdv_store.proofs.Given.{ArePairsApart, IsOwner, all_given, slices_apart}
 use Rattle.mdv_store.proofs.Putting.{ArePut, IsGiven, Puts, put_steps}
 use Rattle.mdv_store.proofs.Records.{record_spelled}
-use Rattle.mdv_store.proofs.Seated.{replica_is, room_for_text, spots_once}
+use Rattle.mdv_store.proofs.Seated.{replica_is, room_for_text, spots_once, text_fits}
 use Rattle.mdv_store.proofs.Sitting.{left_replica}
+use Rattle.mdv_store.proofs.Slotting.{slot_theirs}
 use Rattle.mdv_store.proofs.Slices.{Ended, all_formed, all_forming, in_end}
 
 module _ (g : Geometry) (key : Key) (identity : Identity) (lines : List SliceLine) (count blocks : ℕ) (sizes : List ℕ) (t : Tale) (owner : IsOwner key identity) (asked : AreAsked sizes lines count blocks)
@@ -100,13 +101,17 @@ module _ (g : Geometry) (key : Key) (identity : Identity) (lines : List SliceLin
       bodies r has =
           let fits = room_for_text key identity count blocks lines sizes asked r has in
           let blocks_are = spelled.blocks in
-          let text = record_spelled g _ table may.sound may.of_geometry spelled.text in
+          let text = record_spelled g _ table may.sound may.of_geometry (text_fits key identity count blocks lines sizes asked) spelled.text in
           record {
             is = record { of_mark = record { boot = omega arith; count = omega arith }; in_slot = omega (arith, fits, blocks_are); in_room = omega (arith, fits); in_body = spelled.in_body; as_record = (table, text) };
             spelled = text;
           }
 
-      -- by a moment of its write
+      -- by a moment of its write each place has its replica still
+      pub writing_stays : (m : Tale) → SlottingMoment seats first_mark bytes body v m → AreTheirs g key identity seats m
+      writing_stays m slotting = slot_theirs first_mark bytes body seats v g key identity table may.sound held bodies m slotting.passing
+
+      -- and what showed no table shows none
       pub writing_dark : (m : Tale) → SlottingMoment seats first_mark bytes body v m → StayBlank g identity t m
       writing_dark m slotting = still_blank g identity t v m put.dark.others (slotting.blank g key identity table may.sound held bodies)
 

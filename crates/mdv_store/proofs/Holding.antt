@@ -20,14 +20,17 @@ abbrev pub Own : Geometry → Key → Identity → Replica → Tale → Type 0
 Own g key identity r t = Everywhere (λ image. IsOwn (Spells g) (site_of g key) identity r.line r.number image r.first r.head) t
 
 module _ (g : Geometry) (key : Key) (identity : Identity) (q r : Replica) (old new : Image) where
-  -- one number on one slice is one spot
-  one_spot : IsOwn (Spells g) (site_of g key) identity q.line q.number old q.first q.head → IsOwn (Spells g) (site_of g key) identity r.line r.number old r.first r.head → q.line ≡ r.line → q.number ≡ r.number → spot_of q ≡ spot_of r
-  one_spot own mine line number =
+  -- one slice has one first master
+  pub one_first : IsOwn (Spells g) (site_of g key) identity q.line q.number old q.first q.head → IsOwn (Spells g) (site_of g key) identity r.line r.number old r.first r.head → q.line ≡ r.line → q.first ≡ r.first
+  one_first own mine line =
       let located = subst (λ (l : SliceLine). IsMasterAt (place_on l 8192 0 0) (size_on (site_of g key) l) (old l.at.drive.0 (l.at.start + 16)) q.first) line own.found.located in
-      let first = one_master r.line (size_on (site_of g key) r.line) (old r.line.at.drive.0 (r.line.at.start + 16)) q.first r.first located mine.found.located in
-      λ i. spot_on (line i) ((first i).blocks) (number i)
+      one_master r.line (size_on (site_of g key) r.line) (old r.line.at.drive.0 (r.line.at.start + 16)) q.first r.first located mine.found.located
 
-  of_its_key : IsOwn (Spells g) (site_of g key) identity r.line r.number old r.first r.head → IsFound (Spells g) (record (site_of g key) { key = r.head.master.key }) r.line r.number (old r.line.at.drive.0) r.first r.head
+  -- and one number there is one spot
+  one_spot : IsOwn (Spells g) (site_of g key) identity q.line q.number old q.first q.head → IsOwn (Spells g) (site_of g key) identity r.line r.number old r.first r.head → q.line ≡ r.line → q.number ≡ r.number → spot_of q ≡ spot_of r
+  one_spot own mine line number = (let first = one_first own mine line in λ i. spot_on (line i) ((first i).blocks) (number i))
+
+  pub of_its_key : IsOwn (Spells g) (site_of g key) identity r.line r.number old r.first r.head → IsFound (Spells g) (record (site_of g key) { key = r.head.master.key }) r.line r.number (old r.line.at.drive.0) r.first r.head
   of_its_key mine = subst (λ (k : Key). IsFound (Spells g) (record (site_of g key) { key = k }) r.line r.number (old r.line.at.drive.0) r.first r.head) (sym mine.found.of_key) mine.found
 
   -- a replica stays that lies at another spot than the one that is written

@@ -20,6 +20,7 @@ pub mod Holding
 pub mod Leaving
 pub mod Locating
 pub mod Looks
+pub mod Losing
 pub mod Making
 pub mod Marks
 pub mod Meaning
@@ -42,6 +43,7 @@ pub mod Sitting
 pub mod Slices
 pub mod Slotting
 pub mod Spotting
+pub mod Staying
 pub mod Stepping
 pub mod Takes
 pub mod Telling

@@ -1,6 +1,5 @@
 -- What a creation says, clause by clause, of the calls that it made.
-use Rattle.std.proofs.Common.{◌≡◌, inl, inr, ℕ, ◌+◌, ◌-◌, ◌*◌, ◌≤◌, min, true, false, List, [], ◌∷◌, ◌++◌, length, map, Contains, Result, Ok, Err, refl, sym, ◌∙◌, ap, subst, arith}
-use Rattle.std.proofs.lemmas.Bool.{leb-false}
+use Rattle.std.proofs.Common.{◌≡◌, inl, inr, ℕ, ◌+◌, ◌*◌, ◌≤◌, true, false, List, [], ◌∷◌, ◌++◌, length, map, Contains, Result, Ok, Err, refl, sym, ◌∙◌, ap, subst, arith}
 use Rattle.std.proofs.Math.Nat.{mul-le-mul_left}
 use Rattle.mdv_base.specs.Causes.{failures_of}
 use Rattle.mdv_base.specs.Mark.{IsBelow}
@@ -11,12 +10,12 @@ use Rattle.mdv_shelf.specs.Shelves.{AtEachTale, AtEnd, DriveFailures, MadeCalls}
 use Rattle.mdv_shelf.proofs.Among.{among_wider}
 use Rattle.mdv_shelf.proofs.Between.{between_of, between_then, between_wider}
 use Rattle.mdv_shelf.proofs.Counts.{took_more}
-use Rattle.mdv_shelf.proofs.Moments.{ends_more, moments_after, moments_end, moments_none, moments_weaker}
+use Rattle.mdv_shelf.proofs.Moments.{ends_more, grew_weaker, moments_after, moments_end, moments_none, moments_weaker, some_is}
 use Rattle.mdv_standing.specs.Creating.{first_mark}
 use Rattle.mdv_store.specs.Acts.{Act, AreDoing, AreDone, HaveGone, HaveStopped, Makes, blanks_asked, blocks_of, calls_of, forms_asked}
 use Rattle.mdv_store.specs.Below.{DriveNo, Failures, First, Geometry, Ghosts, Head, Identity, Key, Mark, Open, Replica, Second, SliceLine, Slot, Table, Tale, gate_of, record_text, with_slot}
-use Rattle.mdv_store.specs.Counts.{ArePassCounted, MadeCallsBetween}
-use Rattle.mdv_store.specs.Create.{AreAsked, CreateAnswer, CreateEnds, CreateMoment, IsCreated, IsCreationCounted, MayForm, WereFormed, blanked_asked, drives_asked, seats_asked, table_of}
+use Rattle.mdv_store.specs.Counts.{ArePassCounted, MadeCallsBetween, drives_lost}
+use Rattle.mdv_store.specs.Create.{AreAsked, CreateAnswer, CreateEnds, CreateMoment, IsCreated, IsCreationCounted, MayForm, StayFormed, WereFormed, blanked_asked, drives_asked, seats_asked, table_of}
 use Rattle.mdv_store.specs.Opened.{IsOpen, Opened, least_room}
 use Rattle.mdv_store.specs.Seats.{AreLaid, AreLeft, TakesSlot, active_of, drives_of, is_half_active, replicas_of}
 use Rattle.mdv_store.specs.Text.{blocks_for}
@@ -27,11 +26,12 @@ use Rattle.mdv_store.specs.declared.seats.Seat.{Seat}
 use Rattle.mdv_store.proofs.Acted.{acts_done_quiet, acts_quiet, blanks_blocks, blanks_calls, forms_blocks, forms_calls, quiet_more}
 use Rattle.mdv_store.proofs.Acting.{among_more, blocks_more, calls_more, doing_here}
 use Rattle.mdv_store.proofs.Asked.{drive_asked}
+use Rattle.mdv_store.proofs.Losing.{left_or_lost}
 use Rattle.mdv_store.proofs.Ending.{acts_unbegun, made_ends, writing_goes, writing_rest}
-use Rattle.mdv_store.proofs.Formed.{acts_dark, held, made_opened, writing_dark}
+use Rattle.mdv_store.proofs.Formed.{acts_dark, held, made_opened, writing_dark, writing_stays}
 use Rattle.mdv_store.proofs.Given.{IsOwner}
 use Rattle.mdv_store.proofs.Marks.{slot_laid, slot_stays}
-use Rattle.mdv_store.proofs.Rooms.{room_most}
+use Rattle.mdv_record.proofs.Rooms.{room_most}
 use Rattle.mdv_store.proofs.Seated.{replica_is, seats_laid, seats_of_table, some_asked, text_asked}
 use Rattle.mdv_store.proofs.Sitting.{contains_first, first_or_behind, left_count, left_laid, left_replica, left_seats, contains_behind}
 use Rattle.mdv_store.proofs.Spotting.{asked_active, asked_length}
@@ -175,14 +175,27 @@ module _ {S : Type 0} (shelf : Ghosts S) (key : Key) (identity : Identity) (line
     all_kept kept = among_more shelf a b c drives s.calm s.kept (write_kept kept)
 
     -- each place was formatted
-    abbrev were_formed : KeptAmong shelf b c (drives_of seats) → AtEachTale shelf (WritingMoment seats first_mark table) b c → AtEnd shelf (WritingEnds seats new first_mark table) b c → WereFormed shelf a c key identity lines count blocks
-    were_formed kept moments ends = record {
+    abbrev were_formed : ArePassCounted shelf b c 6 (2 + blocks_for bytes) seats new → KeptAmong shelf b c (drives_of seats) → AtEachTale shelf (WritingMoment seats first_mark table) b c → AtEnd shelf (WritingEnds seats new first_mark table) b c → WereFormed shelf a c key identity lines count blocks
+    were_formed pass kept moments ends = record {
       formed = b;
       gone = s;
       behind = write_kept kept;
       held = λ t is. (let e = s.end t is in (e.0, e.1, λ g may. held g key identity lines count blocks (shelf.sizes a) t owner asked may e.0 e.2));
+      stay = λ t is v told.
+          let e = s.end t is in
+          let w = moments v told in
+          let same : e.0 ≡ v = some_is (shelf.tale b) e.0 v e.1 told in
+          let done = subst (AreDone acts t) same e.2 in (
+            w.0,
+            w.1,
+            grew_weaker (WritingMoment seats first_mark table v) (StayFormed key identity lines count blocks) v w.0
+                (λ m moment g may. writing_stays g key identity lines count blocks (shelf.sizes a) t owner asked may v done moment.body moment.spelled m moment.slotting) w.2,
+          );
       written = moments;
       now = new;
+      left = left;
+      tried = tried;
+      counted = pass;
       ends = ends;
     }
 
@@ -210,9 +223,9 @@ module _ {S : Type 0} (shelf : Ghosts S) (key : Key) (identity : Identity) (line
           let rows = mul-le-mul_left (active_of seats) four in
           omega (arith, rows, active)
 
-      counted_at : (least : ℕ) → least ≤ calls_of acts + (6 * active_of new + min 1 (active_of seats - active_of new)) → MadeCallsBetween shelf a c least (2 * blanked_asked lines count + 12 * (length lines * count)) (blanked_asked lines count + 4103 * (length lines * count))
+      counted_at : (least : ℕ) → least ≤ calls_of acts + (6 * active_of new + drives_lost seats new) → MadeCallsBetween shelf a c least (2 * blanked_asked lines count + 12 * (length lines * count)) (blanked_asked lines count + 4103 * (length lines * count))
       counted_at least low =
-          between_then shelf.calls shelf.written a b c (calls_of acts) (calls_of acts) (blocks_of acts) (6 * active_of new + min 1 (active_of seats - active_of new)) (6 * active_of seats) ((2 + blocks_for bytes) * active_of seats) least
+          between_then shelf.calls shelf.written a b c (calls_of acts) (calls_of acts) (blocks_of acts) (6 * active_of new + drives_lost seats new) (6 * active_of seats) ((2 + blocks_for bytes) * active_of seats) least
           (2 * blanked_asked lines count + 12 * (length lines * count)) (blanked_asked lines count + 4103 * (length lines * count)) low (omega (arith, total_calls, active)) (omega (arith, total_blocks, most_blocks)) first_between pass.some
 
       -- at least half of the places took it
@@ -231,8 +244,8 @@ module _ {S : Type 0} (shelf : Ghosts S) (key : Key) (identity : Identity) (line
 
       pub lost_counted : (some listed : ℕ) → is_half_active new ≡ false → IsCreationCounted shelf a c lines count blocks (Err (unmade.Lost some listed))
       lost_counted some listed few =
-          let fewer = leb-false (length new) (2 * active_of new) few in
-          counted_at (2 * blanked_asked lines count + 6 * (length lines * count) + 1) (omega (arith, total_calls, fewer, as_many, active))
+          let some = some_asked key identity count blocks lines (shelf.sizes a) asked in
+          counted_at (2 * blanked_asked lines count + 6 * (length lines * count) + 1) (omega (arith, total_calls, left_or_lost 6 seats new (omega arith) (omega (arith, some, active))))
 
     abbrev made : Opened
     made = record { key = key; identity = identity; mark = first_mark; table = table; seats = new }
@@ -243,11 +256,11 @@ module _ {S : Type 0} (shelf : Ghosts S) (key : Key) (identity : Identity) (line
     lost_answer : (some listed : ℕ) → is_half_active new ≡ false → some ≡ active_of new → listed ≡ length new → CreateAnswer (DriveFailures shelf a c) key identity lines count blocks (Err (unmade.Lost some listed))
     lost_answer some listed few is are = record { now = new; tried = tried; few = few; active_is = is; listed_is = are }
 
-    pub made_created : is_half_active new ≡ true → KeptAmong shelf b c (drives_of seats) → AtEachTale shelf (WritingMoment seats first_mark table) b c → AtEnd shelf (WritingEnds seats new first_mark table) b c → IsCreated shelf a c key identity lines count blocks (Ok made)
-    made_created half kept moments ends = record { came = made_answer half; formed = (were_formed kept moments ends, refl, new_laid kept) }
+    pub made_created : is_half_active new ≡ true → ArePassCounted shelf b c 6 (2 + blocks_for bytes) seats new → KeptAmong shelf b c (drives_of seats) → AtEachTale shelf (WritingMoment seats first_mark table) b c → AtEnd shelf (WritingEnds seats new first_mark table) b c → IsCreated shelf a c key identity lines count blocks (Ok made)
+    made_created half pass kept moments ends = record { came = made_answer half; formed = (were_formed pass kept moments ends, refl, new_laid kept) }
 
-    pub lost_created : (some listed : ℕ) → is_half_active new ≡ false → some ≡ active_of new → listed ≡ length new → KeptAmong shelf b c (drives_of seats) → AtEachTale shelf (WritingMoment seats first_mark table) b c → AtEnd shelf (WritingEnds seats new first_mark table) b c → IsCreated shelf a c key identity lines count blocks (Err (unmade.Lost some listed))
-    lost_created some listed few is are kept moments ends = record { came = lost_answer some listed few is are; formed = (were_formed kept moments ends, is, are) }
+    pub lost_created : (some listed : ℕ) → is_half_active new ≡ false → some ≡ active_of new → listed ≡ length new → ArePassCounted shelf b c 6 (2 + blocks_for bytes) seats new → KeptAmong shelf b c (drives_of seats) → AtEachTale shelf (WritingMoment seats first_mark table) b c → AtEnd shelf (WritingEnds seats new first_mark table) b c → IsCreated shelf a c key identity lines count blocks (Err (unmade.Lost some listed))
+    lost_created some listed few is are pass kept moments ends = record { came = lost_answer some listed few is are; formed = (were_formed pass kept moments ends, is, are) }
 
     pub made_end : is_half_active new ≡ true → AtEnd shelf (WritingEnds seats new first_mark table) b c → AtEnd shelf (Ended (Ok made)) a c
     made_end half end =

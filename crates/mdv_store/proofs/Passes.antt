@@ -2,7 +2,7 @@
 use Rattle.std.proofs.Common.{◌≡◌, ◌⊎◌, inl, inr, ℕ, ◌<◌, ◌≤◌, false, List, [], ◌∷◌, Option, None, Some, MatchOption, Contains, length, map, nat_eq, refl, sym, ◌∙◌, subst, ap, arith}
 use Rattle.std.proofs.lemmas.Bool.{ne_eqb}
 use Rattle.std.specs.List.{cons_option, list_any}
-use Rattle.mdv_base.specs.Causes.{Rose, RoseOnce, failures_of}
+use Rattle.mdv_base.specs.Causes.{RoseOnce, failures_of}
 use Rattle.mdv_shelf.proofs.Frame.{neither}
 use Rattle.mdv_shelf.proofs.Settled.{synced_still}
 use Rattle.mdv_store_law.specs.Part.{IsPart}
@@ -177,9 +177,6 @@ module _ (a b c : ℕ → ℕ) (T U V : Replica → Replica → Type 0) (drive_s
       by (Some r) (Some x) None one two = first_then a b c (drive_of r) one.0 (subst (λ (d : ℕ). RoseOnce (b d) (c d)) (drive_same r x one.1) two)
       by (Some r) (Some x) (Some y) one two = (subst (λ (d : ℕ). c d ≡ b d) (drive_same r x one.1) two.0 ∙ one.0, both r x y one.1 two.1)
 
-pub once_rose : (a b : ℕ) → RoseOnce a b → Rose a b
-once_rose a b rose = omega (arith, rose)
-
 -- the areas of seats are on their drives
 elsewhere_area : (rs : List Replica) (drive block : ℕ) → ((r : Replica) → Contains rs r → drive_of r ≡ drive → ⊥) → list_any (λ (r : Replica). replica_area r drive block) rs ≡ false
 elsewhere_area [] drive block out = refl
@@ -190,18 +187,18 @@ elsewhere_area (r ∷ rs) drive block out =
 
 -- A drive stays synced behind a pass in which no call on it failed.
 pub pass_synced : (failed : ℕ → Failures) (Took : Replica → Replica → Type 0) (old new : List Seat) (t u : Tale) → ((r m : Replica) → Took r m → drive_of m ≡ drive_of r) → AreLeft failed Took old new → KeptOutside (seats_area old) t u
-    → ((m : Replica) → Contains (replicas_of new) m → IsSynced (drive_of m) t → IsSynced (drive_of m) u) → (drive : DriveNo) → ((failed drive.0).some → ⊥) → IsSynced drive.0 t → IsSynced drive.0 u
+    → ((m : Replica) → Contains (replicas_of new) m → IsSynced (drive_of m) t → IsSynced (drive_of m) u) → (drive : DriveNo) → (Contains (drives_of old) drive → (failed drive.0).some → ⊥) → IsSynced drive.0 t → IsSynced drive.0 u
 pass_synced failed Took old new t u same left outside each drive never was = elim (is_one_of (drives_of old) drive) [
   | inl one_of ↦ (
       let r = unmapped (λ (x : Replica). x.line.at.drive) (replicas_of old) drive one_of in
       let here : drive_of r.0 ≡ drive.0 = ap (λ (d : DriveNo). d.0) r.2 in
-      on_it r.0 here (left_told failed Took old new left r.0 r.1))
+      on_it r.0 here one_of (left_told failed Took old new left r.0 r.1))
   | inr out ↦ synced_still drive.0 t u (λ block. outside drive.0 block (elsewhere_area (replicas_of old) drive.0 block (λ r has is. out (subst (Contains (drives_of old)) (same_drive r.line.at.drive drive is) (mapped (λ (x : Replica). x.line.at.drive) (replicas_of old) r has))))) was
 ]
   where
-    on_it : (r : Replica) → drive_of r ≡ drive.0 → (failed (drive_of r)).some ⊎ ((m : Replica) × Contains (replicas_of new) m × (failed (drive_of r)).none × Took r m) → IsSynced drive.0 u
-    on_it r here (inl lost) = absurd (never (subst (λ (d : ℕ). (failed d).some) here lost))
-    on_it r here (inr left) = (let there : drive_of left.0 ≡ drive.0 = same r left.0 left.3 ∙ here in subst (λ (d : ℕ). IsSynced d u) there (each left.0 left.1 (subst (λ (d : ℕ). IsSynced d t) (sym there) was)))
+    on_it : (r : Replica) → drive_of r ≡ drive.0 → Contains (drives_of old) drive → (failed (drive_of r)).some ⊎ ((m : Replica) × Contains (replicas_of new) m × (failed (drive_of r)).none × Took r m) → IsSynced drive.0 u
+    on_it r here one_of (inl lost) = absurd (never one_of (subst (λ (d : ℕ). (failed d).some) here lost))
+    on_it r here one_of (inr left) = (let there : drive_of left.0 ≡ drive.0 = same r left.0 left.3 ∙ here in subst (λ (d : ℕ). IsSynced d u) there (each left.0 left.1 (subst (λ (d : ℕ). IsSynced d t) (sym there) was)))
 
 -- the area of seats behind a pass of claims
 pub left_area : (failed : ℕ → Failures) (number : ℕ) (old new : List Seat) → AreLeft failed (TakesClaim number) old new → (drive block : ℕ) → seats_area old drive block ≡ false → seats_area new drive block ≡ false

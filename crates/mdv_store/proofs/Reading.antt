@@ -1,11 +1,9 @@
 -- What was read, as the votes see it.
-use Rattle.std.proofs.Common.{◌≡◌, inl, inr, ◌<◌, ◌≤◌, ◌+◌, ◌*◌, ◌^◌, max, ℕ, Bool, true, false, ◌&&◌, cond, List, [], ◌∷◌, Some, Contains, length, map, nat_eq, slice_get, slice_index_or, refl, sym, ◌∙◌, subst, ap, arith}
+use Rattle.std.proofs.Common.{◌≡◌, inl, inr, ◌<◌, ◌≤◌, ◌+◌, ◌*◌, ◌^◌, max, ℕ, Bool, true, false, ◌&&◌, cond, List, [], ◌∷◌, Some, Contains, length, map, slice_get, slice_index_or, refl, sym, ◌∙◌, subst, ap, arith}
 use Rattle.std.specs.Prelude.{nat_le}
 use Rattle.std.specs.List.{AllPairs}
-use Rattle.std.proofs.lemmas.Bool.{and_from, leb-true, or_left, or_right}
+use Rattle.std.proofs.lemmas.Bool.{leb-true, or_left, or_right}
 use Rattle.std.proofs.lemmas.Bool.Decides.{nat_tests}
-use Rattle.mdv_name.proofs.Finding.{same_slice-equal, same_slice-refl}
-use Rattle.mdv_name.specs.SliceIndex.{same_slice}
 use Rattle.mdv_shelf.proofs.Everywhere.{image_synced}
 use Rattle.mdv_shelf.specs.Everywhere.{Everywhere}
 use Rattle.mdv_shown.proofs.Elsewhere.{one_master, range_has}
@@ -16,16 +14,19 @@ use Rattle.mdv_shown.specs.Shown.{SlotShows}
 use Rattle.mdv_shown.specs.Site.{line_area, place_on, size_on}
 use Rattle.mdv_shown.specs.Sites.{lines_of}
 use Rattle.mdv_standing.specs.Adopting.{AreOwn}
-use Rattle.mdv_survey.specs.Choice.{is_of, place_of, same_identity, same_place}
+use Rattle.mdv_survey.specs.Choice.{is_of, place_of, same_identity}
 use Rattle.mdv_survey.specs.Newest.{IsGreatest}
 use Rattle.mdv_replica.specs.Seen.{IsMasterAt}
 use Rattle.mdv_survey.specs.Replica.{IsFoundIn, IsOnShelf, IsSeated}
 use Rattle.mdv_survey.specs.declared.replica.Newest.{Newest}
+use Rattle.mdv_table.proofs.Testing.{same_place-true}
+use Rattle.mdv_table.specs.Table.{IsListsOf}
+use Rattle.mdv_table.specs.Tests.{same_place}
 use Rattle.mdv_table.specs.declared.plan.Lists.{Lists}
 use Rattle.mdv_table.specs.declared.plan.Lists.TheVariants.{One}
 use Rattle.mdv_votes.proofs.Meeting.{same_is, same_self}
 use Rattle.mdv_votes.specs.Spots.{is_in}
-use Rattle.mdv_store.specs.Below.{Geometry, Identity, IsOwn, Key, Open, Place, Replica, Site, SliceLine, Spot, Table, Tale, at_of, gate_of, greatest, is_named, last, lists_of_spots, places_of, record_text, same_spot, site_of, slot_blocks, spot_on}
+use Rattle.mdv_store.specs.Below.{Geometry, Identity, IsOfGeometry, IsOwn, Key, Open, Place, Replica, Site, SliceLine, Spot, Table, Tale, at_of, gate_of, greatest, is_named, last, lists_of_spots, places_of, record_text, same_spot, site_of, slot_blocks, spot_on}
 use Rattle.mdv_store.specs.Adopting.{WasReadOf}
 use Rattle.mdv_store.specs.Boot.{greatest_number, is_seated}
 use Rattle.mdv_store.specs.Opened.{AreSeatsOf}
@@ -92,24 +93,13 @@ same_identity_is a b is =
     let two : a.number ≡ b.number = grind (arith, nat_tests) in
     λ i. record { fresh = one i; number = two i }
 
-pub same_place_is : (p q : Place) → same_place p q ≡ true → p ≡ q
-same_place_is p q is =
-    let slice = same_slice-equal p.slice q.slice (and_first (same_slice p.slice q.slice) (nat_eq p.start q.start && nat_eq p.blocks q.blocks) is) in
-    let rest = and_second (same_slice p.slice q.slice) (nat_eq p.start q.start && nat_eq p.blocks q.blocks) is in
-    let start : p.start ≡ q.start = grind (arith, nat_tests) in
-    let blocks : p.blocks ≡ q.blocks = grind (arith, nat_tests) in
-    λ i. record { slice = slice i; start = start i; blocks = blocks i }
-
-pub same_place_self : (p : Place) → same_place p p ≡ true
-same_place_self p = and_from (same_slice p.slice p.slice) (nat_eq p.start p.start && nat_eq p.blocks p.blocks) (same_slice-refl p.slice) (grind (arith, nat_tests))
-
 -- where a replica lies, as its master says
 pub lies_at : (site : Site) (r : Replica) → IsSeated site r → place_of r ≡ (at_of r).place
 lies_at site r is = λ i. record { slice = is.formed.of_place.slice i; start = is.formed.of_place.start i; blocks = is.length i }
 
 pub seated_place : (site : Site) (identity : Identity) (p : Place) (text : ℕ) (r : Replica) → IsSeated site r → is_seated identity p text r ≡ true → (at_of r).place ≡ p
 seated_place site identity p text r is seated =
-    sym (lies_at site r is) ∙ same_place_is (place_of r) p (and_first (same_place (place_of r) p) (nat_le text (slot_blocks r.first.blocks)) (and_second (is_of identity r) (same_place (place_of r) p && nat_le text (slot_blocks r.first.blocks)) seated))
+    sym (lies_at site r is) ∙ (same_place-true (place_of r) p).0 (and_first (same_place (place_of r) p) (nat_le text (slot_blocks r.first.blocks)) (and_second (is_of identity r) (same_place (place_of r) p && nat_le text (slot_blocks r.first.blocks)) seated))
 
 pub seated_own : (identity : Identity) (p : Place) (text : ℕ) (r : Replica) → is_seated identity p text r ≡ true → is_of identity r ≡ true
 seated_own identity p text r seated = and_first (is_of identity r) (same_place (place_of r) p && nat_le text (slot_blocks r.first.blocks)) seated
@@ -128,15 +118,15 @@ module _ (site : Site) (replicas : List Replica) (newest : Newest) (hand : Hand)
 
   -- a replica of the hand
   pub in_hand_is : (r : Replica) → Contains (replicas_of hand.seats) r → (p : Place) × Contains replicas r × (is_seated hand.identity p text r ≡ true)
-  in_hand_is r has = (let one = seated_at replicas hand.identity text [] places r (subst (λ (ss : List Seat). Contains (replicas_of ss) r) is.seats_are has) in (one.0, one.1, one.2))
+  in_hand_is r has = (let one = seated_at replicas hand.identity text places r (subst (λ (ss : List Seat). Contains (replicas_of ss) r) is.seats_are has) in (one.0, one.1, one.2))
 
   pub hand_seats : AreSeatsOf newest.table hand.seats
   hand_seats = record {
-    places = ap (map (λ (s : Seat). s.place)) is.seats_are ∙ seats_places replicas hand.identity text [] places;
+    places = ap (map (λ (s : Seat). s.place)) is.seats_are ∙ seats_places replicas hand.identity text places;
     some = omega (arith, enough, active_most hand.seats);
     few = is.few;
     at = λ s r has some.
-        let one = seat_of_replica replicas hand.identity text [] places s r (subst (λ (ss : List Seat). Contains ss s) is.seats_are has) some in
+        let one = seat_of_replica replicas hand.identity text places s r (subst (λ (ss : List Seat). Contains ss s) is.seats_are has) some in
         seated_place site hand.identity s.place text r (seated r one.found) one.seated;
   }
 
@@ -206,24 +196,29 @@ module _ (g : Geometry) (key : Key) (replicas : List Replica) (newest : Newest) 
           λ i. record { slice = (lines i).name; start = start i; blocks = (first i).blocks }
 
   apart_spots : (p q : Place) (r x : Replica) → Contains replicas r → Contains replicas x → is_seated hand.identity p (blocks_for (length (record_text newest.table))) r ≡ true → is_seated hand.identity q (blocks_for (length (record_text newest.table))) x ≡ true
-      → same_place q p ≡ false → same_spot (spot_of r) (spot_of x) ≡ false
+      → (p ≡ q → ⊥) → same_spot (spot_of r) (spot_of x) ≡ false
   apart_spots p q r x has_r has_x seat_r seat_x differ = by (same_spot (spot_of r) (spot_of x)) refl where
     equal : same_spot (spot_of r) (spot_of x) ≡ true → ⊥
     equal so =
         let one = seated_place at hand.identity p (blocks_for (length (record_text newest.table))) r (seated r has_r) seat_r in
         let two = seated_place at hand.identity q (blocks_for (length (record_text newest.table))) x (seated x has_x) seat_x in
-        let same : q ≡ p = sym two ∙ sym (one_spot r x has_r has_x (same_is (spot_of r) (spot_of x) so)) ∙ one in
-        cc (subst (λ (z : Place). same_place z p ≡ false) same differ, same_place_self p)
+        differ (sym one ∙ one_spot r x has_r has_x (same_is (spot_of r) (spot_of x) so) ∙ two)
 
     by : (b : Bool) → same_spot (spot_of r) (spot_of x) ≡ b → same_spot (spot_of r) (spot_of x) ≡ false
     by true so = absurd (equal so)
     by false so = so
 
+  its_record : IsOfGeometry g newest.table
+  its_record = (spelled_of g _ newest.table was.sound was.table.shows.text).of_geometry
+
+  listed_once : (lists : Lists) → IsListsOf g lists → AllPairs (λ (p q : Place). p ≡ q → ⊥) (places_of lists)
+  listed_once (One listed) are = are.differ
+
   held : AreHeld g key hand.identity hand.seats t
   held = record {
     each = λ r has. (let one = in_hand_is at replicas newest hand is seated enough r has in own_at r one.1 (seated_own hand.identity one.0 _ r one.2));
     once = subst (λ (ss : List Seat). AllPairs (λ (p q : Spot). same_spot p q ≡ false) (spots_of ss)) (sym is.seats_are)
-        (seats_once replicas hand.identity (blocks_for (length (record_text newest.table))) apart_spots [] (places_of newest.table.plan.lists));
+        (seats_once replicas hand.identity (blocks_for (length (record_text newest.table))) apart_spots (places_of newest.table.plan.lists) (listed_once newest.table.plan.lists its_record.lists));
   }
 
   abbrev are : AreSeatsOf newest.table hand.seats
@@ -272,7 +267,7 @@ module _ (g : Geometry) (key : Key) (replicas : List Replica) (newest : Newest) 
     pub to_adopt : IsToAdopt g key hand newest.table t
     to_adopt = record {
       sound = was.sound;
-      of_geometry = spelled_of g _ newest.table was.sound was.table.shows.text;
+      of_geometry = its_record;
       seen = seen;
       s = seen_of replica;
       slot = newest.slot;

@@ -1,8 +1,10 @@
 -- The two passes of a boot: what they come to, and what they cost.
-use Rattle.std.proofs.Common.{◌≡◌, ◌⊎◌, inl, inr, ◌<◌, ◌≤◌, ◌+◌, ◌*◌, ◌^◌, max, ℕ, Bool, true, false, List, [], ◌∷◌, Contains, length, nat_eq, refl, sym, ◌∙◌, subst, ap, arith}
+use Rattle.std.proofs.Common.{◌≡◌, ◌⊎◌, inl, inr, ◌<◌, ◌≤◌, ◌+◌, ◌*◌, ◌^◌, max, ℕ, Bool, true, false, List, Contains, length, nat_eq, refl, sym, ◌∙◌, subst, ap, arith}
 use Rattle.std.proofs.Math.Nat.{mul-le-mul_left}
+use Rattle.std.specs.Bool.{MatchBool}
 use Rattle.std.proofs.lemmas.Bool.{eqb-false, eqb-true}
-use Rattle.mdv_base.specs.Causes.{Rose, RoseOnce}
+use Rattle.mdv_base.specs.Causes.{RoseOnce}
+use Rattle.mdv_record.proofs.Rooms.{room_most}
 use Rattle.mdv_shelf.proofs.Between.{between_then, between_wider}
 use Rattle.mdv_shelf.proofs.Counts.{took_more}
 use Rattle.mdv_shelf.proofs.Moments.{ends_both, ends_more, moments_after, moments_end, moments_weaker}
@@ -11,16 +13,16 @@ use Rattle.mdv_shelf.specs.Calls.{OnDrive}
 use Rattle.mdv_shelf.specs.Drives.{KeptAmong}
 use Rattle.mdv_shelf.specs.Shelves.{AtEachTale, AtEnd, DriveFailures}
 use Rattle.mdv_standing.specs.Adopting.{drawn}
-use Rattle.mdv_store.specs.Below.{DriveNo, Failures, Ghosts, IsSynced, Key, Place, Replica, Table, Tale, at_of, places_of, record_text}
-use Rattle.mdv_store.specs.Boot.{IfAdopted, TakesBoth, is_enough}
+use Rattle.mdv_store.specs.Below.{DriveNo, Failures, Ghosts, IsSynced, Key, Replica, Table, Tale, at_of, places_of, record_text}
+use Rattle.mdv_store.specs.Boot.{IfAdopted, TakesBoth, TakesClaimOrBoth, is_enough}
 use Rattle.mdv_store.specs.BootCounts.{most_blocks}
 use Rattle.mdv_store.specs.Claims.{ClaimingEnds, ClaimingMoment}
-use Rattle.mdv_store.specs.Counts.{ArePassCounted, MadeCallsBetween}
+use Rattle.mdv_store.specs.Counts.{ArePassCounted, MadeCallsBetween, drives_lost}
 use Rattle.mdv_store.specs.Opened.{IsOpen, Opened, least_room}
 use Rattle.mdv_store.specs.Passing.{IsPassing, slotting}
 use Rattle.mdv_store.specs.Seats.{AreLaid, AreLeft, HaveRoom, IsLaid, TakesClaim, TakesSlot, active_of, drive_of, drives_of, replicas_of, seats_area}
 use Rattle.mdv_store.specs.Slots.{SlottingEnds, SlottingMoment}
-use Rattle.mdv_store.specs.Taking.{IsCalmOn, IsReadied, IsRewriteAnswer, IsRewriteEnd, IsTakingCounted, MadeRewriteCalls, RewriteEnds, RewriteMoment, StaySynced}
+use Rattle.mdv_store.specs.Taking.{IsCalmOn, IsReadied, IsRewriteAnswer, IsRewriteEnd, IsTakingCounted, MadeRewriteCalls, RewriteEnds, RewriteMoment, StaySynced, WereClaimed, WerePassed, WereSlotted}
 use Rattle.mdv_store.specs.Text.{IsSpelled, blocks_for}
 use Rattle.mdv_store.specs.declared.booting.BootEnd.{BootEnd}
 use Rattle.mdv_store.specs.declared.booting.BootEnd.TheVariants as end
@@ -29,12 +31,12 @@ use Rattle.mdv_store.specs.declared.booting.Taken.{Taken}
 use Rattle.mdv_store.specs.declared.seats.Seat.{Seat}
 use Rattle.mdv_store.proofs.Among.{among_calm, is_one_of}
 use Rattle.mdv_store.proofs.Bringing.{one_number, same_drive}
-use Rattle.mdv_store.proofs.Passes.{all_left, later, left_area, left_as, left_both, left_calm, left_most, left_told, mapped, once_rose, pass_synced, some_lost, takes_both, unmapped}
+use Rattle.mdv_store.proofs.Losing.{left_or_lost, pass_wrote, rose_then}
+use Rattle.mdv_store.proofs.Passes.{all_left, later, left_area, left_as, left_both, left_calm, left_most, left_told, mapped, pass_synced, some_lost, takes_both, unmapped}
 use Rattle.mdv_store.proofs.Quiet.{quiet_more, quiet_wider}
-use Rattle.mdv_store.proofs.Quorums.{enough_some, more_enough}
+use Rattle.mdv_store.proofs.Quorums.{more_enough}
 use Rattle.mdv_store.proofs.Rewriting.{blank_goes, both_none_above, claims_go, ends_go, opened, rest_goes, slots_go}
 use Rattle.mdv_store.proofs.Sitting.{active_most, left_count, left_replica, left_seats, some_active}
-use Rattle.mdv_store.proofs.Stepping.{wrote_more}
 
 -- at most fifty are active
 few_active : (seats : List Seat) → length seats ≤ 50 → active_of seats ≤ 50
@@ -59,10 +61,22 @@ module _ {S : Type 0} (shelf : Ghosts S) (key : Key) (hand : Hand) (table : Tabl
   first_moments = moments_weaker (ClaimingMoment hand.seats hand.number) (RewriteMoment key hand table) (shelf.tale old) (shelf.tale mid) claim_moment moments
 
   first_stays : (t u : Tale) → ClaimingEnds hand.seats now hand.number t u → ClaimingMoment hand.seats hand.number t u → (drive : DriveNo) → ((DriveFailures shelf old mid drive.0).some → ⊥) → IsSynced drive.0 t → IsSynced drive.0 u
-  first_stays t u e moment = pass_synced (DriveFailures shelf old mid) (TakesClaim hand.number) hand.seats now t u claim_drive left moment.quiet.outside e.synced
+  first_stays t u e moment drive never = pass_synced (DriveFailures shelf old mid) (TakesClaim hand.number) hand.seats now t u claim_drive left moment.quiet.outside e.synced drive (λ one_of. never)
 
   claim_both : AtEnd shelf (λ t u. ClaimingEnds hand.seats now hand.number t u × ClaimingMoment hand.seats hand.number t u) old mid
   claim_both = ends_both (ClaimingEnds hand.seats now hand.number) (ClaimingMoment hand.seats hand.number) _ (shelf.tale old) (shelf.tale mid) (λ t u e m. (e, m)) ends (moments_end (ClaimingMoment hand.seats hand.number) (shelf.tale old) (shelf.tale mid) moments)
+
+  some_active_then : 0 < active_of hand.seats
+  some_active_then = (let more = ready.enough in omega (arith, more))
+
+  first_called : 1 ≤ 2 * active_of now + drives_lost hand.seats now
+  first_called = left_or_lost 2 hand.seats now (omega arith) some_active_then
+
+  first_wrote : RoseByAtLeast 1 (shelf.written old) (shelf.written mid)
+  first_wrote = pass_wrote shelf old mid 2 1 hand.seats now (omega arith) some_active_then counted
+
+  claimed_all : WereClaimed shelf old mid hand.number hand.seats now
+  claimed_all = record { left = left; counted = counted; end = ends }
 
   -- not enough claimed
   module _ (few : is_enough key now ≡ false) (taken : Taken) (end_is : taken.end ≡ end.Lost (active_of now) (length now)) (calm_is : taken.calm ≡ false) where
@@ -72,24 +86,30 @@ module _ {S : Type 0} (shelf : Ghosts S) (key : Key) (hand : Hand) (table : Tabl
         record {
           ended = subst (λ (e : BootEnd). IsRewriteEnd (DriveFailures shelf old mid) key hand table e) (sym end_is) (record {
             now = now;
-            left = left_as (DriveFailures shelf old mid) (DriveFailures shelf old mid) (TakesClaim hand.number) (λ r n. Unit {0}) hand.seats now (λ r has so. so) (λ r has so. so) (λ r m took. tt) left;
+            left = left_as (DriveFailures shelf old mid) (DriveFailures shelf old mid) (TakesClaim hand.number) (TakesClaimOrBoth hand.number (length (record_text table))) hand.seats now (λ r has so. so) (λ r has so. so) (λ r m took. inl took) left;
             few = few;
             active_is = refl;
             listed_is = refl;
           });
-          calm = subst (λ (b : Bool). IsCalmOn shelf old mid (replicas_of hand.seats) b) (sym calm_is) (lost.0, lost.1, once_rose _ _ lost.2);
-          wrote = counted.wrote (let more = ready.enough in omega (arith, more));
+          calm = subst (λ (b : Bool). IsCalmOn shelf old mid (replicas_of hand.seats) b) (sym calm_is) lost;
+          wrote = first_wrote;
           made =
-              let more = ready.enough in
               between_wider shelf.calls shelf.written old mid _ (2 * active_of hand.seats) (1 * active_of hand.seats) 1 (8 * active_of hand.seats) ((3 + blocks_for (length (record_text table))) * active_of hand.seats)
-              (omega (arith, more)) (omega arith) (omega arith) counted.some;
+              first_called (omega arith) (omega arith) counted.some;
+          passed = record {
+            claimed = mid;
+            between = now;
+            now = now;
+            first = claimed_all;
+            behind = subst (λ (b : Bool). MatchBool b (WereSlotted shelf mid mid (drawn hand.number) table now now) ((mid ≡ mid) × (now ≡ now))) (sym few) (refl, refl);
+          };
         }
 
     pub first_end : AtEnd shelf (λ t u. IfAdopted taken.end (λ o. RewriteEnds key hand table o t u)) old mid
     first_end t is = (let e = ends t is in (e.0, e.1, subst (λ (x : BootEnd). IfAdopted x (λ o. RewriteEnds key hand table o t e.0)) (sym end_is) tt))
 
     pub first_synced : AtEnd shelf (StaySynced shelf old mid) old mid
-    first_synced t is = (let e = claim_both t is in (e.0, e.1, λ drive was never. first_stays t e.0 e.2.0 e.2.1 drive (λ some. never (once_rose _ _ some)) was))
+    first_synced t is = (let e = claim_both t is in (e.0, e.1, λ drive was never. first_stays t e.0 e.2.0 e.2.1 drive never was))
 
     pub first_counted : IsTakingCounted shelf old mid taken
     first_counted = record {
@@ -122,23 +142,41 @@ module _ {S : Type 0} (shelf : Ghosts S) (key : Key) (hand : Hand) (table : Tabl
         subst (Contains (drives_of hand.seats)) (sym (ap (λ (x : Replica). x.line.at.drive) r.3) ∙ m.2) (mapped (λ (x : Replica). x.line.at.drive) (replicas_of hand.seats) r.0 r.1)
 
     both_wrote : RoseByAtLeast 1 (shelf.written old) (shelf.written new)
-    both_wrote =
-        let more = ready.enough in
-        let long = left_count (DriveFailures shelf old mid) (TakesClaim hand.number) hand.seats now left in
-        let some = ready.seats.some in
-        let up = enough_some key now (omega (arith, long, some)) enough in
-        wrote_more (shelf.written old) (shelf.written mid) (shelf.written new) (counted.wrote (omega (arith, more))) (slot_counted.wrote (omega (arith, up)))
+    both_wrote = rose_then 1 _ 1 (shelf.written old) (shelf.written mid) (shelf.written new) (omega arith) first_wrote slot_counted.wrote
+
+    long : length body ≡ blocks_for (length (record_text table))
+    long = spelled.blocks ∙ ap blocks_for spelled.counted
+
+    -- the table was written to each place that claimed
+    both_passed : WerePassed shelf old new key hand table
+    both_passed = record {
+      claimed = mid;
+      between = now;
+      now = last;
+      first = claimed_all;
+      behind = subst (λ (b : Bool). MatchBool b (WereSlotted shelf mid new (drawn hand.number) table now last) ((new ≡ mid) × (last ≡ now))) (sym enough) (record {
+        left = subst (λ (n : ℕ). AreLeft (DriveFailures shelf mid new) (TakesSlot (drawn hand.number) n) now last) spelled.counted left_last;
+        counted = subst (λ (n : ℕ). ArePassCounted shelf mid new 6 (2 + n) now last) long slot_counted;
+        end = λ t is. (let e = slot_ends t is in (
+          e.0,
+          e.1,
+          record {
+            body = body;
+            spelled = subst (λ (n : ℕ). IsSpelled table n body) spelled.counted spelled;
+            slotting = subst (λ (n : ℕ). SlottingEnds now last (drawn hand.number) n body t e.0) spelled.counted e.2;
+          },
+        ));
+      });
+    }
 
     both_made : MadeRewriteCalls shelf old new hand table
     both_made =
-        let more = ready.enough in
         let less = left_most (DriveFailures shelf old mid) (TakesClaim hand.number) hand.seats now left in
-        let long : length body ≡ blocks_for (length (record_text table)) = spelled.blocks ∙ ap blocks_for spelled.counted in
         let product = mul-le-mul_left (2 + length body) less in
         let sum : 1 * active_of hand.seats + (2 + length body) * active_of hand.seats ≡ (3 + blocks_for (length (record_text table))) * active_of hand.seats =
         subst (λ (n : ℕ). 1 * active_of hand.seats + (2 + n) * active_of hand.seats ≡ (3 + blocks_for (length (record_text table))) * active_of hand.seats) (sym long) (omega arith) in
         between_then shelf.calls shelf.written old mid new _ (2 * active_of hand.seats) (1 * active_of hand.seats) _ (6 * active_of now) ((2 + length body) * active_of now) 1 (8 * active_of hand.seats) ((3 + blocks_for (length (record_text table))) * active_of hand.seats)
-        (omega (arith, more)) (omega (arith, less)) (omega (arith, product, sum)) counted.some slot_counted.some
+        (omega (arith, first_called)) (omega (arith, less)) (omega (arith, product, sum)) counted.some slot_counted.some
 
     pub both_kept : KeptAmong shelf old new (drives_of hand.seats)
     both_kept = among_calm shelf old mid new (drives_of hand.seats) (drives_of now) in_seats was_calm kept slot_kept
@@ -193,15 +231,9 @@ module _ {S : Type 0} (shelf : Ghosts S) (key : Key) (hand : Hand) (table : Tabl
         (StaySynced shelf old new) (shelf.tale old) (shelf.tale mid) (shelf.tale new)
         (λ t u v one two drive was never.
         pass_synced (DriveFailures shelf mid new) (TakesSlot (drawn hand.number) bytes) now last u v slot_drive left_last two.1.quiet.outside two.0.synced drive
-        (λ some. never (second_rose (shelf.faults old (OnDrive drive.0)) (shelf.faults mid (OnDrive drive.0)) (shelf.faults new (OnDrive drive.0)) (kept.keeps.no_fewer_faults (OnDrive drive.0)) some))
-        (first_stays t u one.0 one.1 drive (λ some. never (first_rose (shelf.faults old (OnDrive drive.0)) (shelf.faults mid (OnDrive drive.0)) (shelf.faults new (OnDrive drive.0)) (slot_kept.keeps.no_fewer_faults (OnDrive drive.0)) some)) was))
+        (λ one_of some. never (subst (λ (n : ℕ). RoseOnce n (shelf.faults new (OnDrive drive.0))) (was_calm drive one_of) some))
+        (first_stays t u one.0 one.1 drive (λ some. never (behind drive.0 some)) was))
         claim_both slot_both
-      where
-        second_rose : (a b c : ℕ) → a ≤ b → RoseOnce b c → Rose a c
-        second_rose a b c up rose = omega (arith, up, rose)
-
-        first_rose : (a b c : ℕ) → b ≤ c → RoseOnce a b → Rose a c
-        first_rose a b c up rose = omega (arith, up, rose)
 
     pub last_few : length last ≤ 50
     last_few = omega (arith, left_count (DriveFailures shelf mid new) (TakesSlot (drawn hand.number) bytes) now last left_last, left_count (DriveFailures shelf old mid) (TakesClaim hand.number) hand.seats now left, ready.seats.few)
@@ -225,15 +257,19 @@ module _ {S : Type 0} (shelf : Ghosts S) (key : Key) (hand : Hand) (table : Tabl
 
     -- where not enough took it
     module _ (few : is_enough key last ≡ false) (taken : Taken) (end_is : taken.end ≡ end.Lost (active_of last) (length last)) (calm_is : taken.calm ≡ false) where
+      abbrev One : Replica → Replica → Type 0
+      One = TakesClaimOrBoth hand.number (length (record_text table))
+
       pub lost_answer : IsRewriteAnswer shelf old new key hand table taken
       lost_answer =
-          let all = both_left (λ r n. Unit {0}) (λ r m n one two. tt) in
-          let lost = some_lost (DriveFailures shelf old new) (λ r n. Unit {0}) hand.seats last all (more_enough key hand.seats last (left_count (DriveFailures shelf old new) (λ r n. Unit {0}) hand.seats last all) ready.enough few) in
+          let all = both_left One (λ r m n one two. inr (subst (λ (k : ℕ). TakesBoth hand.number k r n) spelled.counted (takes_both hand.number bytes r m n one two))) in
+          let lost = some_lost (DriveFailures shelf old new) One hand.seats last all (more_enough key hand.seats last (left_count (DriveFailures shelf old new) One hand.seats last all) ready.enough few) in
           record {
             ended = subst (λ (e : BootEnd). IsRewriteEnd (DriveFailures shelf old new) key hand table e) (sym end_is) (record { now = last; left = all; few = few; active_is = refl; listed_is = refl });
-            calm = subst (λ (b : Bool). IsCalmOn shelf old new (replicas_of hand.seats) b) (sym calm_is) (lost.0, lost.1, once_rose _ _ lost.2);
+            calm = subst (λ (b : Bool). IsCalmOn shelf old new (replicas_of hand.seats) b) (sym calm_is) lost;
             wrote = both_wrote;
             made = both_made;
+            passed = both_passed;
           }
 
       pub lost_end : AtEnd shelf (λ t u. IfAdopted taken.end (λ o. RewriteEnds key hand table o t u)) old new
@@ -262,7 +298,7 @@ module _ {S : Type 0} (shelf : Ghosts S) (key : Key) (hand : Hand) (table : Tabl
       calm_by false is =
           let most = left_most (DriveFailures shelf old new) (TakesBoth hand.number bytes) hand.seats last all_took in
           let lost = some_lost (DriveFailures shelf old new) (TakesBoth hand.number bytes) hand.seats last all_took (fewer (active_of last) (active_of hand.seats) most (eqb-false (active_of last) (active_of hand.seats) (sym is))) in
-          (lost.0, lost.1, once_rose _ _ lost.2)
+          lost
         where
           fewer : (a b : ℕ) → a ≤ b → (a ≡ b → ⊥) → a < b
           fewer a b most differs = omega (arith, most, differs)
@@ -273,6 +309,7 @@ module _ {S : Type 0} (shelf : Ghosts S) (key : Key) (hand : Hand) (table : Tabl
         calm = calm_by calm is;
         wrote = both_wrote;
         made = both_made;
+        passed = both_passed;
       }
 
       pub done_end : AtEnd shelf (λ t u. RewriteEnds key hand table o t u) old new
@@ -299,11 +336,6 @@ module _ {S : Type 0} (shelf : Ghosts S) (key : Key) (hand : Hand) (table : Tabl
           blocks_add : (l k a b c : ℕ) → l ≡ k → b ≡ a → c ≡ b → 1 * a + (2 + l) * b ≡ (3 + k) * c
           blocks_add l k a b c same one two = subst (λ (n : ℕ). 1 * a + (2 + n) * b ≡ (3 + k) * c) (sym same) (subst (λ (n : ℕ). 1 * a + (2 + k) * n ≡ (3 + k) * c) (sym one) (subst (λ (n : ℕ). 1 * a + (2 + k) * a ≡ (3 + k) * n) (sym (two ∙ one)) (omega arith)))
 
--- the longest slot
-least_most : (places : List Place) → least_room places ≤ 4094
-least_most [] = omega arith
-least_most (p ∷ ps) = omega (arith, least_most ps)
-
 module _ (hand : Hand) (table : Table) (ready : IsReadied hand table) where
   pub text_most : blocks_for (length (record_text table)) ≤ 4094
   text_most =
@@ -313,7 +345,7 @@ module _ (hand : Hand) (table : Table) (ready : IsReadied hand table) where
       omega (arith, fits, short)
 
   pub room_short : (room : ℕ) → room ≡ max (least_room (places_of table.plan.lists)) (blocks_for (length (record_text table))) → 512 * room < 2 ^ 32
-  room_short room is = omega (arith, is, text_most, least_most (places_of table.plan.lists))
+  room_short room is = omega (arith, is, text_most, room_most (places_of table.plan.lists))
 
   module _ (failed : ℕ → Failures) (now : List Seat) (left : AreLeft failed (TakesClaim hand.number) hand.seats now) where
     pub claimed_few : length now ≤ 50

@@ -39,7 +39,7 @@ use Rattle.mdv_store.specs.declared.seats.Seat.{Seat}
 use Rattle.mdv_store.proofs.Halves.{spot_in_spots}
 use Rattle.mdv_store.proofs.Passes.{left_spots}
 use Rattle.mdv_store.proofs.Quorums.{enough_claimed, enough_some, enough_written}
-use Rattle.mdv_store.proofs.Records.{record_spelled}
+use Rattle.mdv_store.proofs.Records.{record_spelled, spelled_of}
 use Rattle.mdv_store.proofs.Sitting.{left_replica, left_seats, some_active}
 use Rattle.mdv_store.proofs.Telling.{newest_written}
 
@@ -117,7 +117,8 @@ module _ (key : Key) (hand : Hand) (table : Table) (ready : IsReadied hand table
 
     bodies : AreBodies g mid mark bytes body table
     bodies n has =
-        let text = record_spelled g (take bytes (concat body)) table to.sound to.of_geometry spelled.text in
+        let read = spelled_of g _ table to.sound (to.read.shows (last t) (last_image t)).text in
+        let text = record_spelled g (take bytes (concat body)) table to.sound to.of_geometry read.in_room spelled.text in
         let in_slot = room n has in
         record {
           is = record { of_mark = record { boot = ready.small; count = omega arith }; in_slot = in_slot; in_room = omega (arith, in_slot, spelled.blocks); in_body = spelled.in_body; as_record = (table, text) };

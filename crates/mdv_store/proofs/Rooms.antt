@@ -7,11 +7,6 @@ use Rattle.mdv_store.specs.Text.{blocks_for}
 use Rattle.mdv_store.specs.declared.seats.Seat.{Seat}
 use Rattle.mdv_store.proofs.Sitting.{first_or_behind, seat_of}
 
--- a slot of the longest replica has so many blocks
-pub room_most : (places : List Place) → least_room places ≤ 4094
-room_most [] = omega arith
-room_most (p ∷ ps) = omega (arith, room_most ps)
-
 abbrev pub room_at : List Seat → ℕ
 room_at seats = least_room (map (λ (s : Seat). s.place) seats)
 

@@ -5,10 +5,11 @@ use Rattle.std.proofs.lemmas.Bool.{false_from_ne_true}
 use Rattle.std.proofs.lemmas.List.{length-map}
 use Rattle.std.proofs.lemmas.List.Elements.{All-append, All-cons, All-nil, Contains-append_left, Contains-append_right}
 use Rattle.mdv_record.proofs.Lengths.{length-lists_text, length-record_text, length-volumes_text}
+use Rattle.mdv_record.specs.Room.{least_slot_bytes}
 use Rattle.mdv_shelf.specs.Area.{AreApart}
 use Rattle.mdv_shown.proofs.Elsewhere.{places_step, range_has}
 use Rattle.mdv_shown.specs.Site.{line_area}
-use Rattle.mdv_store.specs.Below.{Identity, Key, Replica, SliceLine, Spot, at_of, record_text, same_spot, spot_on}
+use Rattle.mdv_store.specs.Below.{Identity, Key, Replica, SliceLine, Spot, at_of, places_of, record_text, same_spot, spot_on}
 use Rattle.mdv_store.specs.Create.{AreAsked, replica_on, seat_on, seats_asked, seats_on, table_of}
 use Rattle.mdv_store.specs.Opened.{AreSeatsOf, least_room}
 use Rattle.mdv_store.specs.Seats.{AreLaid, HaveRoom, IsLaid, replicas_of, spots_of}
@@ -138,12 +139,17 @@ module _ (key : Key) (identity : Identity) (count blocks : ℕ) where
           let counted : length places ≡ length lines * count = length-map seats (λ (s : Seat). s.place) ∙ asked_length key identity count blocks lines in
           omega (arith, length-record_text (table_of seats), length-lists_text (table_of seats).plan.lists, length-volumes_text (table_of seats).plan.volumes, counted)
 
-      pub room_for_text : HaveRoom (blocks_for (length (record_text (table_of seats)))) seats
-      room_for_text =
+      pub text_fits : length (record_text (table_of seats)) ≤ least_slot_bytes (places_of (table_of seats).plan.lists)
+      text_fits =
           let bytes = text_asked in
           let few = asked.few in
           let least = room_asked in
-          have_room (table_of seats) seats (length (record_text (table_of seats))) seats_of_table (omega (arith, bytes)) (omega (arith, bytes, few, least))
+          omega (arith, bytes, few, least)
+
+      pub room_for_text : HaveRoom (blocks_for (length (record_text (table_of seats)))) seats
+      room_for_text =
+          let bytes = text_asked in
+          have_room (table_of seats) seats (length (record_text (table_of seats))) seats_of_table (omega (arith, bytes)) text_fits
 
   -- No two of their spots are one.
   abbrev Differ : Spot → Spot → Type 0

@@ -37,11 +37,12 @@ use Rattle.mdv_store.specs.Blank.{StayBlank, IsBlank}
 use Rattle.mdv_store.specs.Passing.{IsPassing, Passed, slotting}
 use Rattle.mdv_store.specs.Quiet.{IsQuiet}
 use Rattle.mdv_store.specs.Records.{Spells}
-use Rattle.mdv_store.specs.Seats.{AreHeld, AreShown, IsShown, IsSpareOf, TakesSlot, drive_of, replica_area, replicas_of, seats_area, spot_of, spots_of}
+use Rattle.mdv_store.specs.Seats.{AreHeld, AreShown, AreTheirs, IsShown, IsSpareOf, TakesSlot, drive_of, replica_area, replicas_of, seats_area, spot_of, spots_of}
 use Rattle.mdv_store.specs.Slots.{AreAbove, AreBodies, FillsTrace, IsWritten, SlottingEnds, SlottingMoment}
 use Rattle.mdv_store.specs.declared.seats.Seat.{Seat}
 use Rattle.mdv_store.proofs.Blanks.{blank_slots}
 use Rattle.mdv_store.proofs.Holding.{Own, fewer_taking, other_drive, still_own}
+use Rattle.mdv_store.proofs.Staying.{stays_there}
 use Rattle.mdv_store.proofs.Passing.{Holds, holds, passed_quiet, passed_synced, spots, stands, traced_all, traced_by}
 
 gate_here : (head : Head) (slot : Slot) (gate : Gate) → gate_of (with_slot head slot gate) slot ≡ gate
@@ -148,6 +149,15 @@ module _ (mark : Mark) (bytes : ℕ) (body : List (List ℕ)) where
           rest_slots (Spells g) g databases from.0 image sound key identity (rest from.0 from.1) r.line r.number r.first r.head (mine from.0 from.1) goes.0 mark bytes body (bodies r one).is from.2)
           start passing.0 passing.1 m passing.2
 
+      -- each replica stays, under one head or another
+      pub slot_theirs : (m : Tale) → IsPassing (slotting mark bytes body) all t m → AreTheirs g key identity seats m
+      slot_theirs m passing =
+          stands (slotting mark bytes body) all t goes_on (Own g key identity) due_own (AreTheirs g key identity seats)
+          (λ r u v one mine goes theirs q has image is.
+          let from = leaves_slotting (at_of r) goes.0 mark bytes body u v goes.2 image is in
+          stays_there g key identity sound r from.0 image (mine from.0 from.1) goes.0 mark bytes body (bodies r one).is from.2 q (theirs q has from.0 from.1))
+          (λ q has image is. (q.head, held.each q has image is)) passing.0 passing.1 m passing.2
+
       slot_blank : (m : Tale) → IsPassing (slotting mark bytes body) all t m → StayBlank g identity t m
       slot_blank m passing ask other another start =
           stands (slotting mark bytes body) all t goes_on (Own g key identity) due_own (IsBlank g ask other)
@@ -238,6 +248,7 @@ module _ (mark : Mark) (bytes : ℕ) (body : List (List ℕ)) where
 
     pub slotting_ends : (new : List Seat) (u : Tale) → Passed (slotting mark bytes body) all t (replicas_of new) [] u → SlottingEnds seats new mark bytes body t u
     slotting_ends new u passed = record {
+      passed = passed;
       traces = λ g key identity log table by_majority before a. slot_traced g key identity log table by_majority a before new u passed;
       held = λ g key identity table sound held bodies. slot_held g key identity table sound held bodies new u passed;
       shown = λ g key identity table sound held bodies above. slot_shown g key identity table sound held bodies above new u passed;

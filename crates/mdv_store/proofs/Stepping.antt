@@ -1,5 +1,5 @@
 -- A pass, step by step: what has come of the places so far, of the moments and of the counts.
-use Rattle.std.proofs.Common.{◌≡◌, ◌≢◌, ◌⊎◌, inl, inr, ℕ, zero, suc, ◌+◌, ◌-◌, ◌*◌, ◌<◌, ◌≤◌, min, List, [], ◌∷◌, ◌++◌, length, map, Contains, Option, None, Some, Result, Ok, Err, MatchOption, slice_index_or, refl, sym, ◌∙◌, ap, subst, append_assoc, append-nil, mul-add, mul-le-mul_left, arith}
+use Rattle.std.proofs.Common.{◌≡◌, ◌≢◌, ◌⊎◌, inl, inr, ℕ, zero, suc, ◌+◌, ◌-◌, ◌*◌, ◌<◌, ◌≤◌, List, [], ◌∷◌, ◌++◌, length, map, Contains, Option, None, Some, Result, Ok, Err, MatchOption, slice_index_or, refl, sym, ◌∙◌, ap, subst, append_assoc, append-nil, mul-add, mul-le-mul_left, arith}
 use Rattle.std.specs.Prelude.{slice_get, slice_set}
 use Rattle.std.specs.List.{cons_option}
 use Rattle.std.proofs.lemmas.Bool.{cases_eq}
@@ -14,15 +14,16 @@ use Rattle.mdv_shelf.specs.Calls.{OnDrive}
 use Rattle.mdv_shelf.specs.Drives.{KeptAmong}
 use Rattle.mdv_shelf.specs.Shelves.{AtEachTale, AtEnd, DriveFailures, KeptOn, MadeCalls}
 use Rattle.mdv_shelf.proofs.Among.{among_none, among_then}
-use Rattle.mdv_shelf.proofs.Between.{between_none, between_of, between_then, between_wider}
+use Rattle.mdv_shelf.proofs.Between.{between_none, between_of, between_then, between_wider, rose_at_least}
 use Rattle.mdv_shelf.proofs.Counts.{took_more}
 use Rattle.mdv_shelf.proofs.Moments.{ends_more, moments_after, moments_end, moments_none}
 use Rattle.mdv_store.specs.Below.{Ghosts, Replica}
-use Rattle.mdv_store.specs.Counts.{ArePassCounted, MadeCallsBetween}
+use Rattle.mdv_store.specs.Counts.{ArePassCounted, MadeCallsBetween, different, drives_lost, drives_under}
 use Rattle.mdv_store.specs.Passing.{AreThen, IsActiveAt, IsFailed, IsPassing, IsStep, IsStepAt, IsTaken, IsTried, IsWriteOf, Passed, Writing, begun, beside, left_on, lost, took}
 use Rattle.mdv_store.specs.Passing as step
 use Rattle.mdv_store.specs.Seats.{AreLeft, IsLeft, active_of, drive_of, drives_of, replicas_of}
 use Rattle.mdv_store.specs.declared.seats.Seat.{Seat}
+use Rattle.mdv_store.proofs.Losing.{as_many, lies_here, one_less, rose_less, rose_then}
 use Rattle.mdv_store.proofs.Leaving.{IsSame, beside_is, due_is, inactive, left_append, left_fewer, left_here, left_length, left_lost, left_same, left_still}
 use Rattle.mdv_store.proofs.Passing.{has_first}
 use Rattle.mdv_store.proofs.Rows.{at_front, part_filter, part_length, set_front}
@@ -78,17 +79,6 @@ none_due shelf old now [] (s ∷ due) left none = absurd left
 none_due shelf old now (o ∷ behind) [] left none = absurd left
 none_due shelf old now (o ∷ behind) (s ∷ due) left none = absurd (omega (arith, none))
 
--- some block was written, and more behind it
-pub wrote_more : (a b c : Option ℕ) → RoseByAtLeast 1 a b → RoseByAtLeast 1 b c → RoseByAtLeast 1 a c
-wrote_more a b c first second n is =
-    let one = first n is in
-    let two = second one.0 one.1 in
-    (two.0, two.1, (let up = one.2 in let more = two.2 in omega (arith, up, more)))
-
-none_or_some : (k : ℕ) → (k ≡ 0) ⊎ (0 < k)
-none_or_some zero = inl refl
-none_or_some (suc k) = inr (omega arith)
-
 module _ {S : Type 0} (shelf : Ghosts S) (w : Writing) (old : S) (ss : List Seat) where
   -- These places were passed, and those are due.
   pub record Come (now : S) (before behind done due : List Seat) : Type 0 where
@@ -98,10 +88,9 @@ module _ {S : Type 0} (shelf : Ghosts S) (w : Writing) (old : S) (ss : List Seat
     pub moments : AtEachTale shelf (IsPassing w (replicas_of ss)) old now
     pub end : AtEnd shelf (λ t u. Passed w (replicas_of ss) t (replicas_of done) (replicas_of due) u) old now
     pub none : active_of before ≡ 0 → now ≡ old
-    pub untouched : active_of before ≡ 0 → due ≡ behind
     pub all : 0 < active_of before → active_of done + active_of due ≡ active_of ss → MadeCalls shelf old now (w.calls * active_of before) (w.blocks * active_of before)
-    pub some : MadeCallsBetween shelf old now (w.calls * active_of done + min 1 (active_of ss - (active_of done + active_of due))) (w.calls * active_of before) (w.blocks * active_of before)
-    pub wrote : 0 < active_of before → RoseByAtLeast 1 (shelf.written old) (shelf.written now)
+    pub some : MadeCallsBetween shelf old now (w.calls * active_of done + drives_lost ss (done ++ due)) (w.calls * active_of before) (w.blocks * active_of before)
+    pub wrote : RoseByAtLeast (w.blocks * active_of done + drives_lost ss (done ++ due)) (shelf.written old) (shelf.written now)
     pub kept : KeptAmong shelf old now (drives_of ss)
 
   pub record SoFar (now : S) (ns : List Seat) (index : ℕ) : Type 0 where
@@ -128,10 +117,9 @@ module _ {S : Type 0} (shelf : Ghosts S) (w : Writing) (old : S) (ss : List Seat
       moments = moments_none (IsPassing w (replicas_of ss)) (shelf.tale old) (shelf.tale old) refl (λ t. ([], replicas_of ss, begun));
       end = λ t is. (t, is, begun);
       none = λ zero. refl;
-      untouched = λ zero. refl;
       all = λ some. absurd (omega (arith, some));
-      some = between_wider shelf.calls shelf.written old old 0 0 0 (w.calls * 0 + min 1 (active_of ss - (0 + active_of ss))) (w.calls * 0) (w.blocks * 0) (omega arith) (omega arith) (omega arith) (between_none shelf.calls shelf.written old old 0 0 refl);
-      wrote = λ some. absurd (omega (arith, some));
+      some = between_wider shelf.calls shelf.written old old 0 0 0 (w.calls * 0 + drives_lost ss ss) (w.calls * 0) (w.blocks * 0) (omega arith) (omega arith) (omega arith) (between_none shelf.calls shelf.written old old 0 0 refl);
+      wrote = rose_less 0 (w.blocks * 0 + drives_lost ss ss) (shelf.written old) (shelf.written old) (omega arith) (between_none shelf.written shelf.written old old 0 0 refl).at_least;
       kept = among_none shelf old (drives_of ss);
     };
   }
@@ -179,19 +167,8 @@ module _ {S : Type 0} (shelf : Ghosts S) (w : Writing) (old : S) (ss : List Seat
         subst (λ (n : ℕ). MadeCalls shelf old now (w.calls * n) (w.blocks * n)) (sym same) (come.all (omega (arith, same, some)) (omega (arith, every, over_done, over_due)))
     over_all (inr fewer) some every = absurd (omega (arith, fewer, every, over_done))
 
-    -- before a write the places that are due are as they were
-    due_left : active_of before ≡ 0 → (s ≡ o) × (left ≡ rest)
-    due_left nothing = (let same = come.untouched nothing in (cc (same), cc (same)))
-
-    idle_before : active_of before ≡ 0 → active_of (before ++ o ∷ []) ≡ 0
-    idle_before nothing = (let same = count_none before o (ap (λ (x : Seat). x.replica) (sym (due_left nothing).0) ∙ idle) in omega (arith, same, nothing))
-
-    over_wrote : (active_of (before ++ o ∷ []) ≡ active_of before) ⊎ ((active_of (before ++ o ∷ []) ≡ active_of before + 1) × (active_of (o ∷ rest) ≡ active_of rest + 1)) → 0 < active_of (before ++ o ∷ []) → RoseByAtLeast 1 (shelf.written old) (shelf.written now)
-    over_wrote (inl same) some = come.wrote (omega (arith, same, some))
-    over_wrote (inr more) some = elim (none_or_some (active_of before)) [
-      | inl nothing ↦ absurd (let none = idle_before nothing in omega (arith, none, some))
-      | inr up ↦ come.wrote up
-    ]
+    over_drives : drives_lost ss ((done ++ s ∷ []) ++ left) ≡ drives_lost ss (done ++ s ∷ left)
+    over_drives = ap (drives_lost ss) (append_assoc done (s ∷ []) left)
 
     pub passed_over : Come now (before ++ o ∷ []) rest (done ++ s ∷ []) left
     passed_over = record {
@@ -201,16 +178,18 @@ module _ {S : Type 0} (shelf : Ghosts S) (w : Writing) (old : S) (ss : List Seat
       moments = come.moments;
       end = over_end;
       none = λ zero. come.none (omega (arith, zero, no_fewer.0));
-      untouched = λ zero. (due_left (omega (arith, zero, no_fewer.0))).1;
       all = over_all no_fewer.1;
       some =
           let more_calls = mul-le-mul_left w.calls no_fewer.0 in
           let more_blocks = mul-le-mul_left w.blocks no_fewer.0 in
           let same_calls = ap (λ (n : ℕ). w.calls * n) over_done in
-          between_wider shelf.calls shelf.written old now (w.calls * active_of done + min 1 (active_of ss - (active_of done + active_of (s ∷ left)))) (w.calls * active_of before) (w.blocks * active_of before)
-          (w.calls * active_of (done ++ s ∷ []) + min 1 (active_of ss - (active_of (done ++ s ∷ []) + active_of left))) (w.calls * a) (w.blocks * a)
-          (omega (arith, over_done, over_due, same_calls)) (omega (arith, more_calls)) (omega (arith, more_blocks)) come.some;
-      wrote = over_wrote (more_before o.replica refl);
+          between_wider shelf.calls shelf.written old now (w.calls * active_of done + drives_lost ss (done ++ s ∷ left)) (w.calls * active_of before) (w.blocks * active_of before)
+          (w.calls * active_of (done ++ s ∷ []) + drives_lost ss ((done ++ s ∷ []) ++ left)) (w.calls * a) (w.blocks * a)
+          (omega (arith, over_drives, same_calls)) (omega (arith, more_calls)) (omega (arith, more_blocks)) come.some;
+      wrote =
+          let same_blocks = ap (λ (n : ℕ). w.blocks * n) over_done in
+          rose_less (w.blocks * active_of done + drives_lost ss (done ++ s ∷ left)) (w.blocks * active_of (done ++ s ∷ []) + drives_lost ss ((done ++ s ∷ []) ++ left)) (shelf.written old) (shelf.written now)
+          (omega (arith, over_drives, same_blocks)) come.wrote;
       kept = come.kept;
     }
 
@@ -260,15 +239,12 @@ module _ {S : Type 0} (shelf : Ghosts S) (w : Writing) (old : S) (ss : List Seat
     times : (c : ℕ) → c * active_of (before ++ o ∷ []) ≡ c * active_of before + c
     times c = ap (λ (n : ℕ). c * n) count_o ∙ mul-add c (active_of before) 1 ∙ omega arith
 
-    -- and some block was written now
-    tried_wrote : RoseByAtLeast 1 (shelf.written now) (shelf.written next) → 0 < active_of (before ++ o ∷ []) → RoseByAtLeast 1 (shelf.written old) (shelf.written next)
-    tried_wrote wrote some = elim (none_or_some (active_of before)) [
-      | inl nothing ↦ subst (λ (x : S). RoseByAtLeast 1 (shelf.written x) (shelf.written next)) (come.none nothing) wrote
-      | inr up ↦ wrote_more (shelf.written old) (shelf.written now) (shelf.written next) (come.wrote up) wrote
-    ]
+    -- the replicas that are done or due
+    these : replicas_of (done ++ s ∷ left) ≡ replicas_of done ++ r ∷ replicas_of left
+    these = filter_map-append (λ (x : Seat). x.replica) done (s ∷ left) ∙ ap (λ (rs : List Replica). replicas_of done ++ rs) (found_first s left (Some r) some)
 
     -- it took that
-    module _ (wrote : RoseByAtLeast 1 (shelf.written now) (shelf.written next)) (n : Replica) (is : IsTaken shelf w now next r n) where
+    module _ (n : Replica) (is : IsTaken shelf w now next r n) where
       abbrev x : Seat
       x = record s { replica = Some n }
 
@@ -292,6 +268,14 @@ module _ {S : Type 0} (shelf : Ghosts S) (w : Writing) (old : S) (ss : List Seat
 
       count_s : active_of (s ∷ left) ≡ active_of left + 1
       count_s = count_first s left r some
+
+      taken_times : (c : ℕ) → c * active_of (done ++ x ∷ []) ≡ c * active_of done + c
+      taken_times c = ap (λ (k : ℕ). c * k) count_x ∙ mul-add c (active_of done) 1 ∙ omega arith
+
+      taken_drives : drives_lost ss ((done ++ x ∷ []) ++ left) ≡ drives_lost ss (done ++ s ∷ left)
+      taken_drives = ap (λ (k : ℕ). drives_under ss - k)
+          (ap drives_under (append_assoc done (x ∷ []) left) ∙ ap (λ (rs : List Replica). different (map drive_of rs)) (filter_map-append (λ (y : Seat). y.replica) done (x ∷ left))
+          ∙ as_many (replicas_of done) (replicas_of left) r n (stays r n is.took) ∙ ap (λ (rs : List Replica). different (map drive_of rs)) (sym these))
 
       taken_end : AtEnd shelf (λ t u. Passed w (replicas_of ss) t (replicas_of (done ++ x ∷ [])) (replicas_of left) u) old next
       taken_end = subst (λ (rs : List Replica). AtEnd shelf (λ t u. Passed w (replicas_of ss) t rs (replicas_of left) u) old next) (sym (found_push done x (Some n) refl))
@@ -318,18 +302,20 @@ module _ {S : Type 0} (shelf : Ghosts S) (w : Writing) (old : S) (ss : List Seat
         moments = tried_moments;
         end = taken_end;
         none = tried_none;
-        untouched = λ nothing. absurd (omega (arith, nothing, count_o));
         all = λ more every. taken_calls (none_or (active_of before)) every;
         some =
             let calls = times w.calls in
             let blocks = times w.blocks in
-            let taken_times : w.calls * active_of (done ++ x ∷ []) ≡ w.calls * active_of done + w.calls = ap (λ (k : ℕ). w.calls * k) count_x ∙ mul-add w.calls (active_of done) 1 ∙ omega arith in
-            between_then shelf.calls shelf.written old now next (w.calls * active_of done + min 1 (active_of ss - (active_of done + active_of (s ∷ left)))) (w.calls * active_of before) (w.blocks * active_of before)
+            let calls_taken = taken_times w.calls in
+            between_then shelf.calls shelf.written old now next (w.calls * active_of done + drives_lost ss (done ++ s ∷ left)) (w.calls * active_of before) (w.blocks * active_of before)
             w.calls w.calls w.blocks
-            (w.calls * active_of (done ++ x ∷ []) + min 1 (active_of ss - (active_of (done ++ x ∷ []) + active_of left))) (w.calls * active_of (before ++ o ∷ [])) (w.blocks * active_of (before ++ o ∷ []))
-            (omega (arith, taken_times, count_x, count_s)) (omega (arith, calls)) (omega (arith, blocks)) come.some
+            (w.calls * active_of (done ++ x ∷ []) + drives_lost ss ((done ++ x ∷ []) ++ left)) (w.calls * active_of (before ++ o ∷ [])) (w.blocks * active_of (before ++ o ∷ []))
+            (omega (arith, calls_taken, taken_drives)) (omega (arith, calls)) (omega (arith, blocks)) come.some
             (between_of shelf.calls shelf.written now next w.calls w.blocks w.calls w.calls w.blocks (omega arith) (omega arith) (omega arith) is.made);
-        wrote = tried_wrote wrote;
+        wrote =
+            let blocks_taken = taken_times w.blocks in
+            rose_then (w.blocks * active_of done + drives_lost ss (done ++ s ∷ left)) w.blocks (w.blocks * active_of (done ++ x ∷ []) + drives_lost ss ((done ++ x ∷ []) ++ left)) (shelf.written old) (shelf.written now) (shelf.written next)
+            (omega (arith, blocks_taken, taken_drives)) come.wrote (rose_at_least w.blocks w.blocks (shelf.written now) (shelf.written next) (omega arith) is.made.in_blocks);
         kept = tried_kept;
       }
         where
@@ -367,6 +353,13 @@ module _ {S : Type 0} (shelf : Ghosts S) (w : Writing) (old : S) (ss : List Seat
           let below = count_left drive done in
           omega (arith, same, below)
 
+      -- one drive more is left
+      one_drive : drives_under (gone ++ map (left_on drive) left) + 1 ≡ drives_under (done ++ s ∷ left)
+      one_drive =
+          let there : Contains (replicas_of (done ++ s ∷ left)) r = subst (λ (rs : List Replica). Contains rs r) (sym these) (Contains-append_right (replicas_of done) (r ∷ replicas_of left) r (has_first r (replicas_of left))) in
+          ap (λ (l : List Seat). drives_under l + 1) (append_assoc (map (left_on drive) done) (left_on drive s ∷ []) (map (left_on drive) left) ∙ sym (map-append (left_on drive) done (s ∷ left)))
+          ∙ ap (λ (rs : List Replica). different (map drive_of rs) + 1) (beside_is drive (done ++ s ∷ left)) ∙ one_less drive (replicas_of (done ++ s ∷ left)) (lies_here (replicas_of (done ++ s ∷ left)) r there)
+
       lost_end : AtEnd shelf (λ t u. Passed w (replicas_of ss) t (replicas_of gone) (replicas_of (map (left_on drive) left)) u) old next
       lost_end = subst (λ (rs : List Replica). AtEnd shelf (λ t u. Passed w (replicas_of ss) t rs (replicas_of (map (left_on drive) left)) u) old next)
           (sym (pushed_none (map (left_on drive) done) (left_on drive s) none_left ∙ beside_is drive done))
@@ -390,17 +383,19 @@ module _ {S : Type 0} (shelf : Ghosts S) (w : Writing) (old : S) (ss : List Seat
         moments = tried_moments;
         end = lost_end;
         none = tried_none;
-        untouched = λ nothing. absurd (omega (arith, nothing, count_o));
         all = λ more every. absurd (omega (arith, fewer_now, every));
         some =
             let calls = times w.calls in
             let blocks = times w.blocks in
             let fewer_calls = mul-le-mul_left w.calls count_gone in
-            between_then shelf.calls shelf.written old now next (w.calls * active_of done + min 1 (active_of ss - (active_of done + active_of (s ∷ left)))) (w.calls * active_of before) (w.blocks * active_of before)
+            between_then shelf.calls shelf.written old now next (w.calls * active_of done + drives_lost ss (done ++ s ∷ left)) (w.calls * active_of before) (w.blocks * active_of before)
             1 w.calls w.blocks
-            (w.calls * active_of gone + min 1 (active_of ss - (active_of gone + active_of (map (left_on drive) left)))) (w.calls * active_of (before ++ o ∷ [])) (w.blocks * active_of (before ++ o ∷ []))
-            (omega (arith, fewer_calls)) (omega (arith, calls)) (omega (arith, blocks)) come.some is.made;
-        wrote = tried_wrote wrote;
+            (w.calls * active_of gone + drives_lost ss (gone ++ map (left_on drive) left)) (w.calls * active_of (before ++ o ∷ [])) (w.blocks * active_of (before ++ o ∷ []))
+            (omega (arith, fewer_calls, one_drive)) (omega (arith, calls)) (omega (arith, blocks)) come.some is.made;
+        wrote =
+            let fewer_blocks = mul-le-mul_left w.blocks count_gone in
+            rose_then (w.blocks * active_of done + drives_lost ss (done ++ s ∷ left)) 1 (w.blocks * active_of gone + drives_lost ss (gone ++ map (left_on drive) left)) (shelf.written old) (shelf.written now) (shelf.written next)
+            (omega (arith, fewer_blocks, one_drive)) come.wrote wrote;
         kept = tried_kept;
       }
 
@@ -436,7 +431,7 @@ module _ {S : Type 0} (shelf : Ghosts S) (w : Writing) (old : S) (ss : List Seat
           ∙ ap (λ (i : ℕ). slice_set (so.done ++ here ∷ first.left) i (record here { replica = Some n })) (sym so.index_is)
           ∙ set_front so.done first.left here (record here { replica = Some n }) ∙ sym (append_assoc so.done (record here { replica = Some n } ∷ []) first.left);
       index_is = next_index (record here { replica = Some n }) so.done so.index_is;
-      come = come_taken stays now next so.before first.rest so.done first.left first.o here r come_here some is.moments is.kept is.wrote n is.came;
+      come = come_taken stays now next so.before first.rest so.done first.left first.o here r come_here some is.moments is.kept n is.came;
     }
     came r some (Err fault) is later_is =
         let drive = r.line.at.drive in
@@ -527,9 +522,8 @@ module _ {S : Type 0} (shelf : Ghosts S) (w : Writing) (old : S) (ss : List Seat
       none = come_over.none;
       all = λ some every. come_over.all some (omega (arith, every));
       some =
-          between_wider shelf.calls shelf.written old now (w.calls * active_of ns + min 1 (active_of ss - (active_of ns + 0))) (w.calls * active_of ss) (w.blocks * active_of ss)
-          (w.calls * active_of ns + min 1 (active_of ss - active_of ns)) (w.calls * active_of ss) (w.blocks * active_of ss) (omega arith) (omega arith) (omega arith) come_over.some;
-      wrote = come_over.wrote;
+          subst (λ (l : List Seat). MadeCallsBetween shelf old now (w.calls * active_of ns + drives_lost ss l) (w.calls * active_of ss) (w.blocks * active_of ss)) (append-nil ns) come_over.some;
+      wrote = subst (λ (l : List Seat). RoseByAtLeast (w.blocks * active_of ns + drives_lost ss l) (shelf.written old) (shelf.written now)) (append-nil ns) come_over.wrote;
     }
 
 -- What was written to the replica at the place of this number, as the list was read there, and what became of the list.

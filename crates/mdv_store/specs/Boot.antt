@@ -1,14 +1,15 @@
 -- What a boot says: of its answer, of each moment, and of the end.
-use Rattle.std.specs.Prelude.{◌≡◌, ◌⊎◌, ◌<◌, ◌≤◌, ◌+◌, ◌*◌, ◌/◌, ◌^◌, ◌&&◌, if◌then◌else◌, nat_le, nat_lt, ℕ, Bool, true, false, max, List, [], ◌∷◌, ◌++◌, length, Some, None, IsTrue}
-use Rattle.std.specs.List.{find, list_any}
+use Rattle.std.specs.Prelude.{◌≡◌, ◌⊎◌, ◌<◌, ◌≤◌, ◌+◌, ◌*◌, ◌/◌, ◌^◌, ◌&&◌, if◌then◌else◌, nat_le, nat_lt, ℕ, Bool, true, false, max, List, [], ◌∷◌, length, map, Some, IsTrue}
+use Rattle.std.specs.List.{find}
 use Rattle.mdv_base.specs.declared.name.Key.TheVariants.{Local, Set}
-use Rattle.mdv_survey.specs.Choice.{IsChoice, IsTheOne, is_of, place_of, same_place}
+use Rattle.mdv_survey.specs.Choice.{IsChoice, IsTheOne, is_of, place_of}
 use Rattle.mdv_survey.specs.declared.choosing.Choice.TheVariants as chosen
 use Rattle.mdv_survey.specs.declared.replica.Newest.{Newest}
 use Rattle.mdv_survey.specs.declared.replica.Survey.{Survey}
+use Rattle.mdv_table.specs.Tests.{same_place}
 use Rattle.mdv_store.specs.Below.{Failures, Identity, Key, Open, Place, Replica, Site, Table, greatest, places_of, record_text, slot_blocks, with_slot}
 use Rattle.mdv_store.specs.Opened.{Opened}
-use Rattle.mdv_store.specs.Seats.{AreLeft, IsSpareOf, active_of, is_half_active}
+use Rattle.mdv_store.specs.Seats.{AreLeft, IsSpareOf, TakesClaim, active_of, is_half_active}
 use Rattle.mdv_store.specs.Text.{blocks_for}
 use Rattle.mdv_store.specs.declared.booting.BootEnd.{BootEnd}
 use Rattle.mdv_store.specs.declared.booting.BootEnd.TheVariants as end
@@ -24,17 +25,13 @@ greatest_number identity (r ∷ rs) = if is_of identity r then max (greatest r.h
 abbrev pub is_seated : Identity → Place → ℕ → Replica → Bool
 is_seated identity place text r = is_of identity r && (same_place (place_of r) place && nat_le text (slot_blocks r.first.blocks))
 
--- a listed place with its replica; one that is listed before has none
-abbrev pub seat_for : List Replica → Identity → ℕ → (before : List Place) → Place → Seat
-seat_for replicas identity text before p = record { place = p; replica = if list_any (same_place p) before then None else find (is_seated identity p text) replicas }
-
-abbrev pub seats_behind : List Replica → Identity → ℕ → (before : List Place) → List Place → List Seat
-seats_behind replicas identity text before [] = []
-seats_behind replicas identity text before (p ∷ ps) = seat_for replicas identity text before p ∷ seats_behind replicas identity text (before ++ p ∷ []) ps
+-- a listed place with its replica
+abbrev pub seat_for : List Replica → Identity → ℕ → Place → Seat
+seat_for replicas identity text p = record { place = p; replica = find (is_seated identity p text) replicas }
 
 -- the listed places
 abbrev pub seats_of : List Replica → Identity → ℕ → List Place → List Seat
-seats_of replicas identity text places = seats_behind replicas identity text [] places
+seats_of replicas identity text places = map (seat_for replicas identity text) places
 
 -- no call failed, or just one did
 abbrev pub IsOnce : Failures → Type 0
@@ -55,6 +52,10 @@ pub record IsInHand (survey : Survey) (newest : Newest) (replica : Replica) (sea
 abbrev pub TakesBoth : ℕ → ℕ → Replica → Replica → Type 0
 TakesBoth number bytes r n =
     (slot : _) × IsSpareOf r.head slot × (n ≡ record r { head = with_slot (record r.head { claim = number }) slot (Open (record { boot = number; count = 0 }) bytes) })
+
+-- a replica behind the first pass, or behind both
+abbrev pub TakesClaimOrBoth : ℕ → ℕ → Replica → Replica → Type 0
+TakesClaimOrBoth number bytes r n = TakesClaim number r n ⊎ TakesBoth number bytes r n
 
 -- The table is written anew, to more than half of the listed places, under a number in its limit.
 pub record IsDrawn (survey : Survey) (newest : Newest) (replica : Replica) (seats : List Seat) (number : ℕ) : Type 0 where
@@ -83,7 +84,7 @@ pub record IsAdopted (failed : ℕ → Failures) (Wrote : Hand → Table → Typ
   pub enough : IsTrue (is_enough site.key o.seats)
   pub is : o ≡ record { key = site.key; identity = replica.head.master.identity; mark = record { boot = number; count = 0 }; table = newest.table; seats = o.seats }
 
--- Not enough of the list took the claim, or the table: a place that is left is one on whose drive no call failed, and on each other one's drive one did.
+-- Not enough of the list took the claim, or the table: a place that is left is one on whose drive no call failed, and took the claim, or both; on each other one's drive one did.
 pub record IsLost (failed : ℕ → Failures) (Wrote : Hand → Table → Type 0) (key : Key) (survey : Survey) (active listed : ℕ) : Type 0 where
   pub newest : Newest
   pub replica : Replica
@@ -92,7 +93,7 @@ pub record IsLost (failed : ℕ → Failures) (Wrote : Hand → Table → Type 0
   pub drawn : IsDrawn survey newest replica seats number
   pub now : List Seat
   pub written : IsWrittenTo Wrote newest replica seats number
-  pub left : AreLeft failed (λ r n. Unit {0}) seats now
+  pub left : AreLeft failed (TakesClaimOrBoth number (length (record_text newest.table))) seats now
   pub few : is_enough key now ≡ false
   pub active_is : active ≡ active_of now
   pub listed_is : listed ≡ length now

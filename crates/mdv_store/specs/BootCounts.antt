@@ -1,9 +1,10 @@
 -- How many calls a boot makes, and how many blocks it writes.
-use Rattle.std.specs.Prelude.{◌≡◌, ◌+◌, ◌*◌, ℕ, true, length, Some}
+use Rattle.std.specs.Prelude.{◌≡◌, ◌+◌, ◌*◌, ℕ, true, false, length, Some}
 use Rattle.mdv_base.specs.DriveSet.{no_drives}
 use Rattle.mdv_shelf.specs.Shelves.{MadeCalls}
 use Rattle.mdv_survey.specs.Counts.{AreLinesBy, MadeReads}
 use Rattle.mdv_store.specs.Below.{Geometry, Ghosts, Site, Tale, last, record_text}
+use Rattle.mdv_store.specs.Booting.{has_written}
 use Rattle.mdv_store.specs.Counts.{MadeCallsBetween}
 use Rattle.mdv_store.specs.Seats.{active_of}
 use Rattle.mdv_store.specs.Text.{blocks_for}
@@ -31,8 +32,9 @@ IsEndCounted shelf old new before end.Spent = MadeReads shelf old new before
 IsEndCounted shelf old new before end.Memory = Unit {0}
 
 -- A boot on which no call failed read block 0 of each drive and synced it, and read each head and each body of an open slot once. Whatever failed, it made no more
--- calls than these for each look, and those of fifty places.
+-- calls than these for each look, and those of fifty places. One that adopts nothing and isn't lost made those of its looks alone, and wrote no block.
 pub record IsBootCounted {S : Type 0} (shelf : Ghosts S) (old new : S) (g : Geometry) (site : Site) (answer : Booted) : Type 0 where
   pub most : MadeCallsBetween shelf old new 0 (2 * length site.drives + most_reads site + 8 * 50) most_blocks
+  pub still : has_written answer.end ≡ false → MadeCallsBetween shelf old new 0 (2 * length site.drives + most_reads site) 0
   pub clean : answer.clean ≡ true → (t : Tale) → shelf.tale old ≡ Some t
       → (reads : ℕ) × AreLinesBy g site answer.up no_drives (last t) site.lines reads × IsEndCounted shelf old new (2 * length site.drives + reads) answer.end

@@ -8,7 +8,7 @@ use Rattle.mdv_survey.specs.Choice.{is_of}
 use Rattle.mdv_survey.specs.Replica.{IsFoundIn}
 use Rattle.mdv_store.specs.Below.{Area, Core, Database, DriveNo, Event, Everywhere, Geometry, Identity, IsBootRun, IsReadyWith, IsSynced, Log, Replica, RestStands, Site, Spot, Tale, TracesFrom, last, has_drive, nowhere, site_area}
 use Rattle.mdv_store.specs.Blank.{StayBlank}
-use Rattle.mdv_store.specs.Boot.{IfAdopted}
+use Rattle.mdv_store.specs.Boot.{IfAdopted, is_memory}
 use Rattle.mdv_store.specs.Commit.{AnyLog, AnyWorld, IsNewestWritten}
 use Rattle.mdv_store.specs.Opened.{IsOpenedAt, Opened}
 use Rattle.mdv_store.specs.Quiet.{IsQuiet}
@@ -85,10 +85,10 @@ pub record IsBootedTo (g : Geometry) (site : Site) (o : Opened) (t u : Tale) : T
   pub seated : List Spot
   pub goes : BootGoes g site o.identity read seated (IsReadyWith (spots_of o.seats)) (λ log. IsNewestWritten log o.mark o.table) t u
 
--- In the end what was adopted is there. Where nothing is found, and no call failed, no replica shows a table, whatever a crash leaves. Of a drive on
--- which no call failed no crash takes back what is read; nor, on one that is up, of a block that the boot can't have written.
+-- In the end what was adopted is there. Where nothing is found, and no call failed, no replica shows a table, whatever a crash leaves. If memory wasn't wanting,
+-- no crash takes back what is read of a drive on which no call failed; nor, whatever came, of one that is up a block that the boot can't have written.
 pub record BootEnds (failed : ℕ → Type 0) (g : Geometry) (site : Site) (answer : Booted) (t u : Tale) : Type 0 where
   pub adopted : IfAdopted answer.end (λ o. IsBootedTo g site o t u)
   pub empty : answer.end ≡ end.Empty → answer.clean ≡ true → Everywhere (λ image. (identity : Identity) → ShowsNoTable (Spells g) site identity image) u
-  pub synced : (drive : DriveNo) → Contains site.drives drive → (failed drive.0 → ⊥) → IsSynced drive.0 u
+  pub synced : is_memory answer.end ≡ false → (drive : DriveNo) → Contains site.drives drive → (failed drive.0 → ⊥) → IsSynced drive.0 u
   pub still : (drive : DriveNo) (block : ℕ) → has_drive answer.up drive ≡ true → boot_area site (has_written answer.end) drive.0 block ≡ false → (x : List ℕ) → MayLeave u drive.0 block x → x ≡ last u drive.0 block

@@ -1,13 +1,15 @@
 -- What a commit says: of its answer, of each moment, and of the end.
-use Rattle.std.specs.Prelude.{◌≡◌, ◌⊎◌, ◌<◌, ◌≤◌, ◌+◌, ◌*◌, ◌^◌, ℕ, true, false, List, [], length, Contains, Option, Some, Result, Ok, Err, IsTrue}
+use Rattle.std.specs.Prelude.{◌≡◌, ◌⊎◌, ◌<◌, ◌≤◌, ◌+◌, ◌^◌, ℕ, true, false, List, [], length, Contains, Option, Some, Result, Ok, Err, IsTrue}
+use Rattle.mdv_record.specs.Room.{least_slot_bytes}
+use Rattle.mdv_shelf.specs.Shelves.{AtEnd, DriveFailures}
 use Rattle.mdv_store_law.specs.Log.{IsLog, IsNewestTellable}
-use Rattle.mdv_store.specs.Below.{Change, Core, Database, Event, Failures, Geometry, IsCommitRun, IsMade, IsNewest, IsOfGeometry, IsReadyWith, Log, Mark, RestStands, Spot, Table, Tale, TooLong, TracesFrom, asks_of, lists_of_spots, places_of, record_text, site_of}
+use Rattle.mdv_store.specs.Below.{Change, Core, Database, Event, Failures, Geometry, Ghosts, IsCommitRun, IsMade, IsNewest, IsOfGeometry, IsReadyWith, Log, Mark, RestStands, Spot, Table, Tale, TooLong, TracesFrom, asks_of, lists_of_spots, places_of, record_text, site_of}
 use Rattle.mdv_store.specs.Blank.{StayBlank}
-use Rattle.mdv_store.specs.Opened.{IsOpenedAt, Opened, least_room}
+use Rattle.mdv_store.specs.Opened.{IsOpenedAt, Opened}
 use Rattle.mdv_store.specs.Quiet.{IsQuiet}
 use Rattle.mdv_store.specs.Records.{Spells}
 use Rattle.mdv_store.specs.Seats.{AreLaid, AreLeft, TakesSlot, active_of, is_half_active, replicas_of, seats_area, spots_of}
-use Rattle.mdv_store.specs.Writing.{IsBeingWritten}
+use Rattle.mdv_store.specs.Writing.{IsBeingWritten, WritingEnds}
 use Rattle.mdv_store.specs.declared.store.CommitFault.{CommitFault}
 use Rattle.mdv_store.specs.declared.store.CommitFault.TheVariants as unwritten
 
@@ -16,7 +18,7 @@ next_mark mark = record mark { count = mark.count + 1 }
 
 -- how many bytes the smallest slot of the table's places has
 abbrev pub room_in : Table → ℕ
-room_in table = 512 * least_room (places_of table.plan.lists)
+room_in table = least_slot_bytes (places_of table.plan.lists)
 
 -- The table was written: at least half of the places were active, its text fits each of their slots, and its mark is in its limit. What was written to
 -- the active places left these.
@@ -65,10 +67,20 @@ CameOfCommit failed old new next (Err (unwritten.Lost active listed)) =
 CameOfCommit failed old new next (Err (unwritten.TooLong fault)) = IsOver old new next fault
 CameOfCommit failed old new next (Err unwritten.Spent) = IsSpent old new next
 
--- What came of a commit; and the replicas at the places that are active then lie where the next one may write.
-pub record CommitAnswer (sizes : List ℕ) (failed : ℕ → Failures) (old new : Opened) (next : Table) (result : Result (Unit {0}) CommitFault) : Type 0 where
-  pub came : CameOfCommit failed old new next result
-  pub laid : AreLaid sizes new.seats
+-- the table was written: it is done, or not enough places took it of those that were active
+abbrev pub WasTried : Opened → Result (Unit {0}) CommitFault → Type 0
+WasTried old (Ok done) = Unit {0}
+WasTried old (Err (unwritten.Lost active listed)) = IsTrue (is_half_active old.seats)
+WasTried old (Err (unwritten.TooLong fault)) = ⊥
+WasTried old (Err unwritten.Spent) = ⊥
+
+-- What came of a commit; the replicas at the places that are active then lie where the next one may write; and where the table was written each of them took it, one
+-- by one in their order, and each other place's drive was left: whatever a crash leaves, those show it, also where they are fewer than half.
+pub record CommitAnswer {S : Type 0} (shelf : Ghosts S) (from to : S) (old new : Opened) (next : Table) (result : Result (Unit {0}) CommitFault) : Type 0 where
+  pub came : CameOfCommit (DriveFailures shelf from to) old new next result
+  pub laid : AreLaid (shelf.sizes to) new.seats
+  pub passed : WasTried old result → AtEnd shelf (WritingEnds old.seats new.seats (next_mark old.mark) next) from to
+  pub shown : WasTried old result → AtEnd shelf (λ t u. (g : Geometry) → IsOfGeometry g next → IsOpenedAt g old t → IsOpenedAt g (record new { mark = next_mark old.mark; table = next }) u) from to
 
 -- what a commit starts from: an open database, and a table that a change makes of its newest one, or that one again
 pub record MayCommit (g : Geometry) (old : Opened) (asked : Option Change) (next : Table) (t : Tale) : Type 0 where

@@ -1,9 +1,10 @@
 -- How many calls a pass, a commit and a boot make, and how many blocks they write.
-use Rattle.std.specs.Prelude.{◌≡◌, ◌<◌, ◌+◌, ◌-◌, ◌*◌, ℕ, min, List, MatchBool, Result, Ok, Err}
+use Rattle.std.specs.Prelude.{◌≡◌, ◌<◌, ◌+◌, ◌-◌, ◌*◌, ◌==◌, if◌then◌else◌, ℕ, List, [], ◌∷◌, map, MatchBool, Result, Ok, Err}
+use Rattle.std.specs.List.{list_any}
 use Rattle.mdv_shelf.specs.Between.{RoseByAtLeast}
 use Rattle.mdv_shelf.specs.Shelves.{MadeCalls}
 use Rattle.mdv_store.specs.Below.{Ghosts, TookBetween}
-use Rattle.mdv_store.specs.Seats.{active_of, is_half_active}
+use Rattle.mdv_store.specs.Seats.{active_of, drive_of, is_half_active, replicas_of}
 use Rattle.mdv_store.specs.Text.{blocks_for}
 use Rattle.mdv_store.specs.declared.seats.Seat.{Seat}
 use Rattle.mdv_store.specs.declared.store.CommitFault.{CommitFault}
@@ -13,13 +14,26 @@ use Rattle.mdv_store.specs.declared.store.CommitFault.TheVariants as unwritten
 abbrev pub MadeCallsBetween : {S : Type 0} → Ghosts S → S → S → ℕ → ℕ → ℕ → Type 0
 MadeCallsBetween shelf old new least most blocks = TookBetween shelf.calls shelf.written old new least most blocks
 
--- A pass makes so many calls at each active place, and writes so many blocks, and none where no place is active. Where some place was lost meanwhile it
--- made those of the others, and one at least of that one. Some block is written, where a place is active.
+-- how many different numbers these are
+abbrev pub different : List ℕ → ℕ
+different [] = 0
+different (n ∷ ns) = if list_any (λ (m : ℕ). m == n) ns then different ns else different ns + 1
+
+-- on how many drives the active places lie
+abbrev pub drives_under : List Seat → ℕ
+drives_under seats = different (map drive_of (replicas_of seats))
+
+-- how many of these were left: where a call fails a pass leaves all places of the drive
+abbrev pub drives_lost : List Seat → List Seat → ℕ
+drives_lost before now = drives_under before - drives_under now
+
+-- A pass makes so many calls at each active place, and writes so many blocks, and none where no place is active. Where drives were left meanwhile it
+-- made those of the other places, and on each of these drives one at least, which began to write.
 pub record ArePassCounted {S : Type 0} (shelf : Ghosts S) (old new : S) (calls blocks : ℕ) (before now : List Seat) : Type 0 where
   pub none : active_of before ≡ 0 → new ≡ old
   pub all : 0 < active_of before → active_of now ≡ active_of before → MadeCalls shelf old new (calls * active_of before) (blocks * active_of before)
-  pub some : MadeCallsBetween shelf old new (calls * active_of now + min 1 (active_of before - active_of now)) (calls * active_of before) (blocks * active_of before)
-  pub wrote : 0 < active_of before → RoseByAtLeast 1 (shelf.written old) (shelf.written new)
+  pub some : MadeCallsBetween shelf old new (calls * active_of now + drives_lost before now) (calls * active_of before) (blocks * active_of before)
+  pub wrote : RoseByAtLeast (blocks * active_of now + drives_lost before now) (shelf.written old) (shelf.written new)
 
 -- a commit makes three writes and three syncs at each active place, where at least half of the places are; else none
 abbrev pub IsCommitCounted : {S : Type 0} → Ghosts S → S → S → ℕ → List Seat → List Seat → Result (Unit {0}) CommitFault → Type 0

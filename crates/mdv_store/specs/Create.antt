@@ -14,11 +14,11 @@ use Rattle.mdv_store.specs.Blank.{IsBlank, StayBlank}
 use Rattle.mdv_store.specs.Acts.{HaveGone, HaveStopped, acts_asked}
 use Rattle.mdv_store.specs.Below.{Core, Database, DriveNo, Event, Failures, Geometry, Ghosts, Identity, IsOfGeometry, IsReadyWith, IsSound, Key, Log, Replica, RestStands, SliceLine, Spot, Table, Tale, lists_of_spots, place_on, record_text, site_of}
 use Rattle.mdv_store.specs.Commit.{AnyLog, AnyWorld, IsNewestWritten}
-use Rattle.mdv_store.specs.Counts.{MadeCallsBetween}
+use Rattle.mdv_store.specs.Counts.{ArePassCounted, MadeCallsBetween}
 use Rattle.mdv_store.specs.Opened.{IsOpenedAt, Opened}
 use Rattle.mdv_store.specs.Quiet.{IsQuiet}
 use Rattle.mdv_store.specs.Records.{Spells}
-use Rattle.mdv_store.specs.Seats.{AreHeld, AreLaid, AreLeft, TakesSlot, active_of, is_half_active, seats_area, spots_of}
+use Rattle.mdv_store.specs.Seats.{AreHeld, AreLaid, AreLeft, AreTheirs, TakesSlot, active_of, is_half_active, seats_area, spots_of}
 use Rattle.mdv_store.specs.Text.{blocks_for}
 use Rattle.mdv_store.specs.Writing.{WritingEnds, WritingMoment}
 use Rattle.mdv_store.specs.declared.creating.CreateFault.{CreateFault}
@@ -115,15 +115,25 @@ pub record MayCreate (g : Geometry) (all : List Database) (key : Key) (identity 
   pub one_of : IsOneOf all key identity
   pub clear : MayClear (Spells g) g all key identity lines t
 
+-- whatever a crash leaves each place has a replica of the new database, where it may be formed
+abbrev pub StayFormed : Key → Identity → List SliceLine → ℕ → ℕ → Tale → Type 0
+StayFormed key identity lines count blocks m =
+    (g : Geometry) → MayForm g key lines (seats_asked key identity lines count blocks) → AreTheirs g key identity (seats_asked key identity lines count blocks) m
+
 -- Masters were blanked and each place was formatted, in their order, with no call that failed; whatever a crash leaves each place has its replica then; and behind
--- that the first table was written to these replicas, and nothing else was done. It was written to these seats, and in the end those that are left show it.
+-- that the first table was written to each of these replicas, and nothing else was done; at each moment of it each place has its replica still, also one whose write
+-- failed. In the end those that are left show it.
 pub record WereFormed {S : Type 0} (shelf : Ghosts S) (old new : S) (key : Key) (identity : Identity) (lines : List SliceLine) (count blocks : ℕ) : Type 0 where
   pub formed : S
   pub gone : HaveGone shelf old formed (drives_asked lines) (acts_asked key identity lines count blocks)
   pub behind : KeptAmong shelf formed new (drives_asked lines)
   pub held : AtEnd shelf (λ t v. (g : Geometry) → MayForm g key lines (seats_asked key identity lines count blocks) → AreHeld g key identity (seats_asked key identity lines count blocks) v) old formed
+  pub stay : (t : Tale) → shelf.tale old ≡ Some t → AtEachTale shelf (λ v. StayFormed key identity lines count blocks) formed new
   pub written : AtEachTale shelf (WritingMoment (seats_asked key identity lines count blocks) first_mark (table_of (seats_asked key identity lines count blocks))) formed new
   pub now : List Seat
+  pub left : AreLeft (DriveFailures shelf formed new) (TakesSlot first_mark (length (record_text (table_of (seats_asked key identity lines count blocks))))) (seats_asked key identity lines count blocks) now
+  pub tried : IsTried (DriveFailures shelf old new) key identity lines count blocks now
+  pub counted : ArePassCounted shelf formed new 6 (2 + blocks_for (length (record_text (table_of (seats_asked key identity lines count blocks))))) (seats_asked key identity lines count blocks) now
   pub ends : AtEnd shelf (WritingEnds (seats_asked key identity lines count blocks) now first_mark (table_of (seats_asked key identity lines count blocks))) formed new
 
 -- Each place was formatted, where a table was written; and those that are left lie where it may be written. A creation that failed came no further than to its formats.

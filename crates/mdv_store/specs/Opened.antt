@@ -1,6 +1,7 @@
 -- An open database, and what the drives have of it.
-use Rattle.std.specs.Prelude.{◌≡◌, ◌<◌, ◌≤◌, ◌*◌, ◌^◌, ℕ, min, List, [], ◌∷◌, length, map, Contains, Some, IsTrue}
-use Rattle.mdv_store.specs.Below.{Geometry, HasNoneAbove, Identity, IsOfGeometry, IsSound, Key, Mark, Place, Replica, Table, Tale, at_of, places_of, site_of, slot_blocks}
+use Rattle.std.specs.Prelude.{◌≡◌, ◌<◌, ◌≤◌, ◌*◌, ◌^◌, ℕ, List, length, map, Contains, Some, IsTrue}
+pub use Rattle.mdv_record.specs.Room.{least_room}
+use Rattle.mdv_store.specs.Below.{Geometry, HasNoneAbove, Identity, IsOfGeometry, IsSound, Key, Mark, Replica, Table, Tale, at_of, places_of, site_of}
 use Rattle.mdv_store.specs.Seats.{AreHeld, AreNamed, AreShown, is_half_active, replicas_of}
 use Rattle.mdv_store.specs.declared.seats.Seat.{Seat}
 
@@ -11,11 +12,6 @@ pub record Opened : Type 0 where
   pub mark : Mark
   pub table : Table
   pub seats : List Seat
-
--- how many blocks the smallest slot of these places has
-abbrev pub least_room : List Place → ℕ
-least_room [] = 4094
-least_room (p ∷ ps) = min (slot_blocks p.blocks) (least_room ps)
 
 -- the seats are the table's listed places, in their order
 pub record AreSeatsOf (table : Table) (seats : List Seat) : Type 0 where

@@ -78,6 +78,11 @@ pub record AreHeld (g : Geometry) (key : Key) (identity : Identity) (seats : Lis
   pub each : (r : Replica) → Contains (replicas_of seats) r → Everywhere (λ image. IsOwn (Spells g) (site_of g key) identity r.line r.number image r.first r.head) t
   pub once : AllPairs (λ (p q : Spot). same_spot p q ≡ false) (spots_of seats)
 
+-- Whatever a crash leaves, each is found, of that database, whatever its slots hold: the one that is written may be as it was, or closed, or hold the table.
+abbrev pub AreTheirs : Geometry → Key → Identity → List Seat → Tale → Type 0
+AreTheirs g key identity seats t =
+    (r : Replica) → Contains (replicas_of seats) r → Everywhere (λ image. (head : Head) × IsOwn (Spells g) (site_of g key) identity r.line r.number image r.first head) t
+
 -- the table's lists name the place of each
 abbrev pub AreNamed : Site → Table → List Seat → Type 0
 AreNamed site table seats = (r : Replica) → Contains (replicas_of seats) r → IsTrue (is_named (lists_of_spots site table.plan.lists) (spot_of r))

@@ -1,8 +1,8 @@
 -- What a pass says that writes a table to each active place.
-use Rattle.std.specs.Prelude.{Bool, ℕ, List, ◌++◌, Contains}
+use Rattle.std.specs.Prelude.{Bool, ℕ, List, [], ◌++◌, Contains}
 use Rattle.mdv_store.specs.Below.{Database, Event, Geometry, Identity, IsAbove, IsBodyOf, IsNewest, IsPart, IsSound, IsSynced, IsTaking, Key, Log, Mark, Replica, RestStands, Spot, Table, Tale, Traces, at_of, fills_at, site_of}
 use Rattle.mdv_store.specs.Blank.{StayBlank}
-use Rattle.mdv_store.specs.Passing.{IsPassing, slotting}
+use Rattle.mdv_store.specs.Passing.{IsPassing, Passed, slotting}
 use Rattle.mdv_store.specs.Quiet.{IsQuiet}
 use Rattle.mdv_store.specs.Records.{Spells}
 use Rattle.mdv_store.specs.Seats.{AreHeld, AreNamed, AreShown, drive_of, replicas_of, seats_area, spots_of}
@@ -48,6 +48,7 @@ pub record SlottingMoment (seats : List Seat) (mark : Mark) (bytes : ℕ) (body 
 -- In the end the places that are left took it, and their replicas are there and show it as their newest table; and what is read of their drives no crash
 -- takes back.
 pub record SlottingEnds (old new : List Seat) (mark : Mark) (bytes : ℕ) (body : List (List ℕ)) (t u : Tale) : Type 0 where
+  pub passed : Passed (slotting mark bytes body) (replicas_of old) t (replicas_of new) [] u
   pub traces : (g : Geometry) (key : Key) (identity : Identity) (log : Log) (table : Table) (by_majority : Bool) (before : List Spot)
       → IsWritten g key identity old mark bytes body log table t → FillsTrace g key identity old mark log by_majority before (spots_of new ++ before) t u
   pub held : (g : Geometry) (key : Key) (identity : Identity) (table : Table) → IsSound g → AreHeld g key identity old t → AreBodies g old mark bytes body table → AreHeld g key identity new u

@@ -2,7 +2,7 @@
 use Rattle.std.specs.Prelude.{◌≡◌, ◌⊎◌, ◌<◌, ◌≤◌, ◌+◌, ◌*◌, ◌^◌, max, ℕ, Bool, true, false, List, [], length, map, Contains, Some, IsTrue, slice_get, vec_len}
 use Rattle.std.specs.Bool.{MatchBool}
 use Rattle.mdv_shelf.specs.Between.{RoseByAtLeast}
-use Rattle.mdv_shelf.specs.Shelves.{AtEachTale, DriveFailed, DriveFailures, MadeCalls}
+use Rattle.mdv_shelf.specs.Shelves.{AtEachTale, AtEnd, DriveFailures, MadeCalls}
 use Rattle.mdv_shown.specs.Choice.{Seen, greatest_seen, spots_seen}
 use Rattle.mdv_standing.specs.Adopting.{drawn}
 use Rattle.mdv_standing.specs.Turning.{IsBootRead}
@@ -10,18 +10,19 @@ use Rattle.mdv_survey.specs.Survey.{IsSurveyOf}
 use Rattle.mdv_survey.specs.declared.replica.Newest.{Newest}
 use Rattle.mdv_store.specs.Below.{Database, DriveNo, Failures, Geometry, Ghosts, IsOfGeometry, IsReadyWith, IsSound, IsSynced, Key, Mark, Replica, RestStands, Site, Slot, Table, Tale, greatest, last, places_of, record_text, site_of}
 use Rattle.mdv_store.specs.Blank.{StayBlank}
-use Rattle.mdv_store.specs.Boot.{IfAdopted, IsEndBy, IsOnce, TakesBoth, greatest_number, is_enough, is_memory, seats_of}
+use Rattle.mdv_store.specs.Boot.{IfAdopted, IsEndBy, IsOnce, TakesBoth, TakesClaimOrBoth, greatest_number, is_enough, is_memory, seats_of}
 use Rattle.mdv_store.specs.BootCounts.{most_blocks}
 use Rattle.mdv_store.specs.Booting.{BootGoes, BootMoment, IsBootedTo, has_written}
+use Rattle.mdv_store.specs.Claims.{ClaimingEnds}
 use Rattle.mdv_store.specs.Commit.{AnyLog, AnyWorld, IsNewestWritten}
-use Rattle.mdv_store.specs.Counts.{MadeCallsBetween}
+use Rattle.mdv_store.specs.Counts.{ArePassCounted, MadeCallsBetween}
 use Rattle.mdv_store.specs.Opened.{AreSeatsOf, IsOpenedAt, Opened, least_room}
 use Rattle.mdv_store.specs.Passing.{IsPassing, Passed, claiming}
 use Rattle.mdv_store.specs.Quiet.{IsQuiet}
 use Rattle.mdv_store.specs.Records.{Spells}
-use Rattle.mdv_store.specs.Seats.{AreHeld, AreLaid, AreLeft, AreNamed, HaveRoom, active_of, drive_of, replicas_of, seats_area, spots_of}
+use Rattle.mdv_store.specs.Seats.{AreHeld, AreLaid, AreLeft, AreNamed, HaveRoom, TakesClaim, TakesSlot, active_of, drive_of, replicas_of, seats_area, spots_of}
 use Rattle.mdv_store.specs.Text.{blocks_for}
-use Rattle.mdv_store.specs.Writing.{IsBeingWritten}
+use Rattle.mdv_store.specs.Writing.{IsBeingWritten, WritingEnds}
 use Rattle.mdv_store.specs.declared.booting.BootEnd.{BootEnd}
 use Rattle.mdv_store.specs.declared.booting.BootEnd.TheVariants as end
 use Rattle.mdv_store.specs.declared.booting.Hand.{Hand}
@@ -86,11 +87,32 @@ pub record RewriteMoment (key : Key) (hand : Hand) (table : Table) (t m : Tale) 
 abbrev pub MadeRewriteCalls : {S : Type 0} → Ghosts S → S → S → Hand → Table → Type 0
 MadeRewriteCalls shelf old new hand table = MadeCallsBetween shelf old new 1 (8 * active_of hand.seats) ((3 + blocks_for (length (record_text table))) * active_of hand.seats)
 
+-- The claim was written to each of these places, and these are left.
+pub record WereClaimed {S : Type 0} (shelf : Ghosts S) (old new : S) (number : ℕ) (before now : List Seat) : Type 0 where
+  pub left : AreLeft (DriveFailures shelf old new) (TakesClaim number) before now
+  pub counted : ArePassCounted shelf old new 2 1 before now
+  pub end : AtEnd shelf (ClaimingEnds before now number) old new
+
+-- And the table.
+pub record WereSlotted {S : Type 0} (shelf : Ghosts S) (old new : S) (mark : Mark) (table : Table) (before now : List Seat) : Type 0 where
+  pub left : AreLeft (DriveFailures shelf old new) (TakesSlot mark (length (record_text table))) before now
+  pub counted : ArePassCounted shelf old new 6 (2 + blocks_for (length (record_text table))) before now
+  pub end : AtEnd shelf (WritingEnds before now mark table) old new
+
+-- The claim was written to each of the hand's places; and the table to each that took it, where enough did, and else nothing more.
+pub record WerePassed {S : Type 0} (shelf : Ghosts S) (old new : S) (key : Key) (hand : Hand) (table : Table) : Type 0 where
+  pub claimed : S
+  pub between : List Seat
+  pub now : List Seat
+  pub first : WereClaimed shelf old claimed hand.number hand.seats between
+  pub behind : MatchBool (is_enough key between) (WereSlotted shelf claimed new (drawn hand.number) table between now) ((new ≡ claimed) × (now ≡ between))
+
 -- and of all of them between these, of which some block was written
 pub record Rewrites {S : Type 0} (shelf : Ghosts S) (old new : S) (key : Key) (hand : Hand) (table : Table) : Type 0 where
   pub moments : AtEachTale shelf (RewriteMoment key hand table) old new
   pub wrote : RoseByAtLeast 1 (shelf.written old) (shelf.written new)
   pub made : MadeRewriteCalls shelf old new hand table
+  pub passed : WerePassed shelf old new key hand table
 
 -- and in the end, where enough places took the table
 pub record RewriteEnds (key : Key) (hand : Hand) (table : Table) (o : Opened) (t u : Tale) : Type 0 where
@@ -103,10 +125,10 @@ pub record IsRewritten (failed : ℕ → Failures) (key : Key) (hand : Hand) (ta
   pub enough : IsTrue (is_enough key o.seats)
   pub is : o ≡ record { key = key; identity = hand.identity; mark = record { boot = hand.number; count = 0 }; table = table; seats = o.seats }
 
--- not enough places took the one or the other
-pub record IsLostWith (failed : ℕ → Failures) (key : Key) (hand : Hand) (active listed : ℕ) : Type 0 where
+-- not enough places took the one or the other: those that are left took the claim, or both
+pub record IsLostWith (failed : ℕ → Failures) (key : Key) (hand : Hand) (table : Table) (active listed : ℕ) : Type 0 where
   pub now : List Seat
-  pub left : AreLeft failed (λ r n. Unit {0}) hand.seats now
+  pub left : AreLeft failed (TakesClaimOrBoth hand.number (length (record_text table))) hand.seats now
   pub few : is_enough key now ≡ false
   pub active_is : active ≡ active_of now
   pub listed_is : listed ≡ length now
@@ -116,7 +138,7 @@ IsRewriteEnd failed key hand table (end.Adopted o) = IsRewritten failed key hand
 IsRewriteEnd failed key hand table end.Empty = ⊥
 IsRewriteEnd failed key hand table (end.TwoDatabases a b) = ⊥
 IsRewriteEnd failed key hand table (end.NoQuorum readable needed) = ⊥
-IsRewriteEnd failed key hand table (end.Lost active listed) = IsLostWith failed key hand active listed
+IsRewriteEnd failed key hand table (end.Lost active listed) = IsLostWith failed key hand table active listed
 IsRewriteEnd failed key hand table end.Spent = ⊥
 IsRewriteEnd failed key hand table end.Memory = ⊥
 
@@ -124,13 +146,14 @@ IsRewriteEnd failed key hand table end.Memory = ⊥
 abbrev pub IsCalmOn : {S : Type 0} → Ghosts S → S → S → List Replica → Bool → Type 0
 IsCalmOn shelf old new replicas calm = MatchBool calm
     ((drive : DriveNo) → (DriveFailures shelf old new drive.0).none)
-    ((r : Replica) × Contains replicas r × DriveFailed shelf old new (drive_of r))
+    ((r : Replica) × Contains replicas r × (DriveFailures shelf old new (drive_of r)).some)
 
 pub record IsRewriteAnswer {S : Type 0} (shelf : Ghosts S) (old new : S) (key : Key) (hand : Hand) (table : Table) (taken : Taken) : Type 0 where
   pub ended : IsRewriteEnd (DriveFailures shelf old new) key hand table taken.end
   pub calm : IsCalmOn shelf old new (replicas_of hand.seats) taken.calm
   pub wrote : RoseByAtLeast 1 (shelf.written old) (shelf.written new)
   pub made : MadeRewriteCalls shelf old new hand table
+  pub passed : WerePassed shelf old new key hand table
 
 -- what an adoption costs
 pub record IsTakingCounted {S : Type 0} (shelf : Ghosts S) (old new : S) (taken : Taken) : Type 0 where
@@ -139,7 +162,7 @@ pub record IsTakingCounted {S : Type 0} (shelf : Ghosts S) (old new : S) (taken 
 
 -- the drives that a boot left as they were stay synced, and those on which its writes succeeded
 abbrev pub StaySynced : {S : Type 0} → Ghosts S → S → S → Tale → Tale → Type 0
-StaySynced shelf old new t u = (drive : DriveNo) → IsSynced drive.0 t → (DriveFailed shelf old new drive.0 → ⊥) → IsSynced drive.0 u
+StaySynced shelf old new t u = (drive : DriveNo) → IsSynced drive.0 t → ((DriveFailures shelf old new drive.0).some → ⊥) → IsSynced drive.0 u
 
 -- What was read: the table of drives is sound, the site is one of it, and what was read of its replicas no crash takes back.
 pub record WasRead (g : Geometry) (site : Site) (looked : Looked) (t : Tale) : Type 0 where

@@ -1,18 +1,18 @@
 // How a boot finds the database and writes it anew.
-ghost use Rattle.std.specs.Prelude.{◌≡◌, ◌≤◌, ◌<◌, ◌&&◌, not, true, false, length, map, Contains, IfOk};
-ghost use Rattle.std.specs.List.{find, list_any};
-ghost use Rattle.mdv_name.specs.SliceIndex.{same_slice};
+ghost use Rattle.std.specs.Prelude.{◌≡◌, ◌≤◌, ◌<◌, ◌&&◌, not, true, false, length, Contains, IfOk};
+ghost use Rattle.std.specs.List.{find};
 ghost use Rattle.mdv_name.specs.Sound.{IsSound};
 ghost use Rattle.mdv_shelf.specs.Drives.{AreDrives, KeptAmong};
-ghost use Rattle.mdv_shelf.specs.Shelves.{AtEachTale, AtEnd, DriveFailed};
+ghost use Rattle.mdv_shelf.specs.Shelves.{AtEachTale, AtEnd, DriveFailures};
 ghost use Rattle.mdv_shown.specs.Sites.{site_of};
-ghost use Rattle.mdv_survey.specs.Choice.{is_of as spec_is_of, place_of as spec_place_of, same_place};
+ghost use Rattle.mdv_survey.specs.Choice.{is_of as spec_is_of, place_of as spec_place_of};
 ghost use Rattle.mdv_survey.specs.Newest.{IsGreatest};
 ghost use Rattle.mdv_survey.specs.Replica.{IsOnShelf, IsSeated};
 ghost use Rattle.mdv_survey.specs.Survey.{IsSurvey};
+ghost use Rattle.mdv_table.specs.Tests.{same_place};
 ghost use Rattle.mdv_store.specs.Adopting.{AdoptEnds, AdoptMoment, AreAllIn, IsAdoptAnswer};
 ghost use Rattle.mdv_store.specs.Booted.{IsBooted};
-ghost use Rattle.mdv_store.specs.Boot.{IfAdopted, WasChosen, greatest_number as spec_greatest_number, is_enough as spec_is_enough, is_memory, is_seated as spec_is_seated, seat_for, seats_of as spec_seats_of};
+ghost use Rattle.mdv_store.specs.Boot.{IfAdopted, WasChosen, greatest_number as spec_greatest_number, is_enough as spec_is_enough, is_memory, is_seated as spec_is_seated, seats_of as spec_seats_of};
 ghost use Rattle.mdv_store.specs.BootCounts.{IsBootCounted};
 ghost use Rattle.mdv_store.specs.Booting.{BootEnds, BootMoment};
 ghost use Rattle.mdv_store.specs.Seats.{AreLaid, active_of, drives_of};
@@ -22,10 +22,10 @@ use crate::drives::bring_up;
 use crate::looking::{Looked, look};
 use crate::seats::{Seat, active, claim_all, is_half_active, slot_all};
 use crate::store::Store;
-use crate::text::{blocks_for, least_room, room_for, slot_room, spell};
-use mdv_base::{Block, DriveNo, DriveSet, Identity, Key, Mark, NUMBER_LIMIT, Place, SliceName};
+use crate::text::{blocks_for, room_for, slot_room, spell};
+use mdv_base::{Block, DriveNo, DriveSet, Identity, Key, Mark, NUMBER_LIMIT, Place};
 use mdv_name::Geometry;
-use mdv_record::text_bytes;
+use mdv_record::{least_room, text_bytes};
 use mdv_shelf::Shelf;
 use mdv_shown::Site;
 use mdv_survey::{Choice, Newest, Replica, Survey, choose, greatest_of};
@@ -72,7 +72,7 @@ pub fn boot<S: Shelf>(shelf: &mut S, alloc: Global, geometry: &Geometry, site: &
     requires of { site.now ≡ site_of geometry.now site.now.key }
     ensures answer { IsBooted S.Shelf shelf.old shelf.new geometry.now site.now result }
     ensures moments { AtEachTale S.Shelf (BootMoment geometry.now site.now result.end) shelf.old shelf.new }
-    ensures end { AtEnd S.Shelf (BootEnds (DriveFailed S.Shelf shelf.old shelf.new) geometry.now site.now result) shelf.old shelf.new }
+    ensures end { AtEnd S.Shelf (BootEnds (λ drive. (DriveFailures S.Shelf shelf.old shelf.new drive).some) geometry.now site.now result) shelf.old shelf.new }
     ensures counted { IsBootCounted S.Shelf shelf.old shelf.new geometry.now site.now result }
     ensures kept { KeptAmong S.Shelf shelf.old shelf.new site.now.drives }
 {
@@ -317,60 +317,13 @@ fn seats_of(
 {
     let mut seats = Row::new(alloc);
     for place in places {
-        seats.push(seat_at(seats.as_slice(), replicas, identity, *place, text))?;
+        let replica = replica_at(replicas, identity, *place, text);
+        seats.push(Seat {
+            place: *place,
+            replica,
+        })?;
     }
     Ok(seats)
-}
-
-// A listed place, behind these.
-fn seat_at(
-    seats: &[Seat],
-    replicas: &[Replica],
-    identity: Identity,
-    place: Place,
-    text: usize,
-) -> Seat
-    ensures { result ≡ seat_for replicas.now identity text (map (λ (s : Seat). s.place) seats.now) place }
-{
-    let replica = if is_listed(seats, place) {
-        None
-    } else {
-        replica_at(replicas, identity, place, text)
-    };
-    Seat { place, replica }
-}
-
-fn is_listed(seats: &[Seat], place: Place) -> bool
-    ensures { result ≡ list_any (same_place place) (map (λ (s : Seat). s.place) seats.now) }
-{
-    for seat in seats {
-        if is_same(place, seat.place) {
-            return true;
-        }
-    }
-    false
-}
-
-fn is_same(one: Place, other: Place) -> bool
-    ensures { result ≡ same_place one other }
-{
-    is_same_slice(one.slice, other.slice) && one.start == other.start && one.blocks == other.blocks
-}
-
-fn is_same_slice(one: SliceName, other: SliceName) -> bool
-    ensures { result ≡ same_slice one other }
-{
-    one.drive.controller == other.drive.controller
-        && one.drive.target == other.drive.target
-        && one.drive.disk == other.drive.disk
-        && one.slice == other.slice
-}
-
-fn is_of(replica: &Replica, identity: Identity) -> bool
-    ensures { result ≡ spec_is_of identity replica.now }
-{
-    let its = replica.head.master.identity;
-    its.fresh == identity.fresh && its.number == identity.number
 }
 
 fn replica_at(
@@ -387,12 +340,25 @@ fn replica_at(
         .find(|replica| is_seated(replica, identity, place, text))
 }
 
+fn is_of(replica: &Replica, identity: Identity) -> bool
+    ensures { result ≡ spec_is_of identity replica.now }
+{
+    let its = replica.head.master.identity;
+    its.fresh == identity.fresh && its.number == identity.number
+}
+
 fn is_seated(replica: &Replica, identity: Identity, place: Place, text: usize) -> bool
     ensures { result ≡ spec_is_seated identity place text replica.now }
 {
     is_of(replica, identity)
         && is_same(place_of(replica), place)
         && text <= slot_room(replica.first.blocks)
+}
+
+fn is_same(one: Place, other: Place) -> bool
+    ensures { result ≡ same_place one other }
+{
+    one == other
 }
 
 fn place_of(replica: &Replica) -> Place

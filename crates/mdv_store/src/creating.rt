@@ -12,10 +12,11 @@ ghost use Rattle.mdv_store.specs.Create.{AreAsked, CreateEnds, CreateMoment, IsC
 
 use crate::seats::{Seat, active, is_half_active};
 use crate::store::Store;
-use crate::text::{least_room, room_for};
+use crate::text::room_for;
 use crate::writing::write_all;
 use mdv_base::{Failed, Identity, Key, Mark, Place, Places};
 use mdv_name::SliceLine;
+use mdv_record::least_room;
 use mdv_replica::{Gate, Head, Master, PlaceAt, format, wipe};
 use mdv_shelf::Shelf;
 use mdv_survey::Replica;

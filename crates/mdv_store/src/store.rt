@@ -1,18 +1,16 @@
 // An open database, and how the next table is committed to it.
-ghost use Rattle.std.specs.Prelude.{◌≡◌, ◌≤◌, ◌<◌, ◌*◌, length, map, IfErr, OnOk};
+ghost use Rattle.std.specs.Prelude.{◌≡◌, ◌≤◌, ◌<◌, length, IfErr, OnOk};
 ghost use Rattle.mdv_record.specs.Text.{record_text};
 ghost use Rattle.mdv_shelf.specs.Drives.{KeptAmong};
-ghost use Rattle.mdv_shelf.specs.Shelves.{AtEachTale, AtEnd, DriveFailures};
+ghost use Rattle.mdv_shelf.specs.Shelves.{AtEachTale, AtEnd};
 ghost use Rattle.mdv_store.specs.Commit.{CommitAnswer, CommitDone, CommitMoment, room_in};
 ghost use Rattle.mdv_store.specs.Counts.{IsCommitCounted};
-ghost use Rattle.mdv_store.specs.Opened.{least_room};
 ghost use Rattle.mdv_store.specs.Seats.{AreLaid, active_of, drives_of};
 
 use crate::seats::{Seat, active, is_half_active};
-use crate::text::{MOST_ROOM, slot_room};
 use crate::writing::write_all;
 use mdv_base::{BLOCK_BYTES, Block, Identity, Key, Mark, NUMBER_LIMIT};
-use mdv_record::{TooLong, text_bytes};
+use mdv_record::{TooLong, least_room, text_bytes};
 use mdv_shelf::Shelf;
 use mdv_table::Table;
 use mdv_votes::Row;
@@ -90,7 +88,7 @@ impl Store {
     pub fn commit<S: Shelf>(&mut self, shelf: &mut S, next: Table) -> Result<(), CommitFault>
         requires laid { AreLaid (S.sizes shelf.old) self.old.seats }
         requires lists { next.plan.lists ≡ self.old.table.plan.lists }
-        ensures answer { CommitAnswer (S.sizes shelf.new) (DriveFailures S.Shelf shelf.old shelf.new) self.old self.new next result }
+        ensures answer { CommitAnswer S.Shelf shelf.old shelf.new self.old self.new next result }
         ensures moments { AtEachTale S.Shelf (CommitMoment self.old next) shelf.old shelf.new }
         ensures end { OnOk result (AtEnd S.Shelf (CommitDone self.old self.new next) shelf.old shelf.new) }
         ensures counted { IsCommitCounted S.Shelf shelf.old shelf.new (length (record_text next)) self.old.seats self.new.seats result }
@@ -122,23 +120,12 @@ impl Store {
         ensures err { IfErr result (λ fault. (fault.bytes ≡ length (record_text next.now)) × (fault.room ≡ room_in self.now.table) × (fault.room < fault.bytes)) }
     {
         let bytes = text_bytes(next);
-        let room = room_of(self.seats.as_slice());
+        let room = (least_room(self.table.plan.lists.places()) * BLOCK_BYTES) as u64;
         if room < bytes {
             return Err(TooLong { bytes, room });
         }
         Ok(())
     }
-}
-
-// How many bytes the smallest slot of the listed places has.
-fn room_of(seats: &[Seat]) -> u64
-    ensures { result ≡ 512 * least_room (map (λ seat. seat.place) seats.now) }
-{
-    let mut least = MOST_ROOM;
-    for seat in seats {
-        least = least.min(slot_room(seat.place.blocks));
-    }
-    least as u64 * BLOCK_BYTES as u64
 }
 
 // How many places are active, and how many are listed.

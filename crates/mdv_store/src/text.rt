@@ -2,16 +2,12 @@
 ghost use Rattle.std.specs.Prelude.{◌≡◌, ◌<◌, ◌≤◌, ◌*◌, ◌%◌, ◌^◌, ℕ, length, slice_index, take, IfOk};
 ghost use Rattle.mdv_record.specs.Text.{record_text};
 ghost use Rattle.mdv_replica.specs.Replica.{slot_blocks};
-ghost use Rattle.mdv_store.specs.Opened.{least_room as spec_least_room};
 ghost use Rattle.mdv_store.specs.Text.{IsSpelled, blocks_for as spec_blocks_for};
 
-use mdv_base::{BLOCK_BYTES, Block, Place, ZERO_BLOCK};
+use mdv_base::{BLOCK_BYTES, Block, ZERO_BLOCK};
 use mdv_record::encode;
 use mdv_table::Table;
 use std::alloc::{AllocError, Global};
-
-// The blocks of a slot of the longest replica.
-pub(crate) const MOST_ROOM: usize = 4094;
 
 /// Room for a text of so many blocks.
 pub(crate) fn room_for(alloc: Global, blocks: usize) -> Result<Vec<Block>, AllocError>
@@ -25,17 +21,6 @@ pub(crate) fn slot_room(blocks: u32) -> usize
     ensures { result ≡ slot_blocks blocks }
 {
     (blocks as usize).saturating_sub(4) / 2
-}
-
-/// How many blocks the smallest slot of these places has.
-pub(crate) fn least_room(places: &[Place]) -> usize
-    ensures { result ≡ spec_least_room places.now }
-{
-    let mut least = MOST_ROOM;
-    for place in places {
-        least = least.min(slot_room(place.blocks));
-    }
-    least
 }
 
 /// How many blocks a text of so many bytes takes: one at least.

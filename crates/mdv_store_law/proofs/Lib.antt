@@ -1,15 +1,5 @@
-pub mod Adopting
-pub mod Agreeing
-pub mod Committing
-pub mod Covering
-pub mod Creating
 pub mod Families
-pub mod Frame
-pub mod Kept
-pub mod Lawful
 pub mod Logs
 pub mod Machine
 pub mod Orders
 pub mod Parts
-pub mod Replicas
-pub mod Shown

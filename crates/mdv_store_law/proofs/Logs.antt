@@ -1,12 +1,10 @@
 -- How logs go on, event by event.
 use Rattle.std.proofs.Common.{◌≡◌, ◌⊎◌, inl, inr, true, false, List, [], ◌∷◌, ◌++◌, slice_index_or, refl, sym, subst, Option, Some, None, All, Contains}
 use Rattle.std.proofs.lemmas.List.Elements.{All-nil, All-cons, All-same, All-contains, Contains-get_or}
-use Rattle.mdv_store_law.specs.Below.{Mark, Geometry, Tale, Change, Table}
-use Rattle.mdv_store_law.specs.Log.{Version, Log, Event, Issued, Writing, Written, Told, with_asked, log_after, log_after_all, is_firm, IsFirst, IsNext, Extends, IsUntold, IsTellable, IsNewestTellable, MayHappen, IsCourse, told_by, AreMade, IsDescended, IsHeld, IsLog}
+use Rattle.mdv_store_law.specs.Below.{Mark, Geometry, Change, Table}
+use Rattle.mdv_store_law.specs.Log.{Version, Log, Event, Issued, Writing, Written, Told, with_asked, log_after, log_after_all, is_firm, IsFirst, IsNext, Extends, IsUntold, IsTellable, MayHappen, IsCourse, told_by, AreMade, IsHeld, IsLog}
 use Rattle.mdv_store_law.specs.Laws.{CoursesAreLogs}
-use Rattle.mdv_store_law.specs.Site.{Site, Newest}
-use Rattle.mdv_store_law.specs.Standing.{nothing, replica, Covers, IsNewestIn}
-use Rattle.mdv_store_law.proofs.Families.{extends_itself, extends_more, extends_asked, made_next, contains_first, contains_behind, extends_written, newest_extends, written_firm, firm_answered, answered_rising, answered_descended, answered_made, answered_held}
+use Rattle.mdv_store_law.proofs.Families.{extends_itself, extends_more, extends_asked, made_next, contains_first, contains_behind, extends_written, written_firm, firm_answered, answered_rising, answered_descended, answered_made, answered_held}
 
 -- a table that begins to be written
 module _ (g : Geometry) (log : Log) (is : IsLog g log) (mark : Mark) (asked : Option Change) (before : List Change) (table : Table) where
@@ -77,23 +75,7 @@ is_log_after_all g log [] is course = is
 is_log_after_all g log (e ∷ es) is course = is_log_after_all g (log_after log e) es (is_log_after g log e is course.0) course.1
 
 pub courses_are_logs : CoursesAreLogs
-courses_are_logs = λ site log es is course. is_log_after_all site.drives log es is course
-
--- telling changes nothing that a drive has to show
-pub told_covers : (site : Site) (log : Log) (which before : List Change) (m : Tale) → Covers site log m → Covers site (log_after log (Told which before)) m
-told_covers site log which before m covers image is = elim (covers image is) [
-  | nothing not_firm none ↦ nothing not_firm none
-  | replica head agrees ↦ replica head (record {
-    replica = agrees.replica;
-    shown = agrees.shown;
-    as_issued = agrees.as_issued;
-    placed = agrees.placed;
-    of_first = agrees.of_first;
-    of_second = agrees.of_second;
-    covered = agrees.covered;
-    numbered = agrees.numbered;
-  })
-]
+courses_are_logs = is_log_after_all
 
 -- what was told is firm
 pub told_firm : (g : Geometry) (log : Log) (told : List Change) → IsLog g log → log.acknowledged ≡ Some told → is_firm log ≡ true
@@ -131,29 +113,3 @@ told_acknowledges g log (Told which before ∷ es) is course some =
 
 pub told_is_acknowledged : (g : Geometry) (log : Log) (es : List Event) → IsLog g log → IsCourse g log es → (told_by es ≡ [] → ⊥) → (log_after_all log es).acknowledged ≡ None → ⊥
 told_is_acknowledged g log es is course some none = let told = told_acknowledges g log es is course some in cc (told.1, none)
-
--- a table that a change made of the newest one, once its write was answered, may be told
-untold_newest : (g : Geometry) (log : Log) (newest : Newest) (known : IsNewestIn newest log) → IsLog g log → (acknowledged : Option (List Change)) → log.acknowledged ≡ acknowledged → IsUntold acknowledged known.version.changes
-untold_newest g log newest known is None same = tt
-untold_newest g log newest known is (Some told) same =
-    let held = is.held told same in
-    let descended = subst IsDescended known.family is.descended in
-    let one_of = subst (λ (f : List Version). Contains f held.by) known.family held.one_of in
-    extends_more known.version.changes held.by.changes told (newest_extends known.version held.by known.older descended one_of held.written) held.has
-
-pub tellable : (g : Geometry) (log : Log) (newest : Newest) (known : IsNewestIn newest log) (mark : Mark) (change : Change) (table : Table) → IsLog g log
-    → IsNewestTellable (log_after_all log (Writing mark (Some change) known.version.changes table ∷ Written ∷ [])) (Some change)
-tellable g log newest known mark change table is = record {
-  before = known.version.changes;
-  may = record {
-    newest = record { mark = mark; table = table; changes = change ∷ known.version.changes; is_written = true };
-    older = log.family;
-    family = refl;
-    written = refl;
-    later = [];
-    changes = refl;
-    creation = λ none. absurd (cc (none));
-    untold = untold_newest g log newest known is log.acknowledged refl;
-  };
-  newest = refl;
-}

@@ -1,12 +1,7 @@
 pub mod Below
 pub use Rattle.mdv_base.specs.Causes
-pub mod Site
 pub mod Part
 pub mod Machine
 pub mod Log
-pub mod Standing
-pub mod Steps
-pub mod Adoptable
 pub mod Effort
-pub mod Going
 pub mod Laws

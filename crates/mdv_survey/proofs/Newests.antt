@@ -68,6 +68,7 @@ module _ (replicas : List Replica) (r : Replica) where
     one_of = slice_get-append replicas (r ∷ []) newest.replica is.replica is.one_of;
     bytes = is.bytes;
     gate = is.gate;
+    tie = is.tie;
     greatest = λ x has. elim (Contains-push_cases replicas r x has) [
       | inl old ↦ is.greatest x old
       | inr same ↦ subst (λ (y : Replica). HasNoneAbove newest.mark y.head) same (λ slot m bytes gate below. closed_gates r.head slot m bytes dark gate)
@@ -81,6 +82,7 @@ module _ (replicas : List Replica) (r : Replica) where
     one_of = slice_get-append replicas (r ∷ []) newest.replica is.replica is.one_of;
     bytes = is.bytes;
     gate = is.gate;
+    tie = is.tie;
     greatest = λ x has. elim (Contains-push_cases replicas r x has) [
       | inl old ↦ is.greatest x old
       | inr same ↦ subst (λ (y : Replica). HasNoneAbove newest.mark y.head) same
@@ -97,6 +99,7 @@ module _ (replicas : List Replica) (r : Replica) where
     one_of = slice_get-push replicas r;
     bytes = by.bytes;
     gate = by.gate;
+    tie = by.tie;
     greatest = λ x has. elim (Contains-push_cases replicas r x has) [
       | inl old ↦ others newest is newer x old
       | inr same ↦ subst (λ (y : Replica). HasNoneAbove shown.mark y.head) same by.greatest

@@ -1,8 +1,8 @@
 -- What the two slots of a replica show.
-use Rattle.std.proofs.Common.{◌≡◌, ℕ, List, sym, ◌∙◌, subst, arith}
-use Rattle.mdv_replica.specs.Form.{IsNewest, IsNewestGate}
-use Rattle.mdv_survey.specs.Below.{Closed, First, Gate, Geometry, Head, IsBelow, Mark, Open, PlaceAt, Second, Slot, Table, gate_of, other_slot}
-use Rattle.mdv_survey.specs.Newest.{HasNoneAbove}
+use Rattle.std.proofs.Common.{◌≡◌, ℕ, List, refl, sym, ◌∙◌, subst, arith}
+use Rattle.mdv_replica.specs.Form.{IsNewest, IsNewestGate, IsSpare}
+use Rattle.mdv_survey.specs.Below.{Closed, First, Gate, Geometry, Head, IsBelow, IsSpareSlot, Mark, Open, PlaceAt, Second, Slot, Table, gate_of, other_slot}
+use Rattle.mdv_survey.specs.Newest.{HasNoneAbove, IsLastOfBoth}
 use Rattle.mdv_survey.specs.Slots.{BothFit, Fits, IsKept}
 
 not_below_own : (mark m : Mark) (bytes n : ℕ) (gate : Gate) → gate ≡ Open mark bytes → gate ≡ Open m n → IsBelow mark m → ⊥
@@ -24,6 +24,16 @@ newest_greatest head First mark bytes newest is First m n also = not_below_own m
 newest_greatest head First mark bytes newest is Second m n also = not_below_other mark m bytes n head.first head.second newest is also
 newest_greatest head Second mark bytes newest is First m n also = not_below_other mark m bytes n head.second head.first newest is also
 newest_greatest head Second mark bytes newest is Second m n also = not_below_own mark m bytes n head.second is also
+
+-- beside the spare slot, the first one of both, the newest is the second
+pub newest_last : (head : Head) (slot : Slot) (mark : Mark) (bytes : ℕ) → (slot ≡ First → IsSpareSlot head First → ⊥) → gate_of head slot ≡ Open mark bytes → IsLastOfBoth head slot mark
+newest_last head First mark bytes tie is same n also =
+    tie same (subst (λ (x : Gate). IsSpare x head.second) (sym is) (subst (λ (x : Gate). IsSpare (Open mark bytes) x) (sym also) (not_below_own mark mark bytes bytes (Open mark bytes) refl refl)))
+newest_last head Second mark bytes tie is same n also = absurd (cc (same))
+
+pub spare_behind : (head : Head) (slot : Slot) → (slot ≡ Second → IsSpareSlot head First → ⊥) → other_slot slot ≡ First → IsSpareSlot head First → ⊥
+spare_behind head First tie other = absurd (cc (other))
+spare_behind head Second tie other = tie refl
 
 -- the newest slot is open
 pub newest_open : (head : Head) (slot : Slot) (gate : Gate) → gate ≡ gate_of head slot → IsNewest head slot → gate ≡ Closed → ⊥

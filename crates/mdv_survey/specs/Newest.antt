@@ -1,6 +1,6 @@
 -- The newest of the tables that a survey's replicas show: the greatest mark of all.
 use Rattle.std.specs.Prelude.{◌≡◌, ◌<◌, ◌↔◌, ℕ, Bool, true, false, IsTrue, List, Contains, Option, None, Some, slice_get}
-use Rattle.mdv_survey.specs.Below.{Geometry, Head, IsBelow, IsTextOf, Mark, Open, PlaceAt, Slot, SlotShows, gate_of, shows}
+use Rattle.mdv_survey.specs.Below.{First, Geometry, Head, IsBelow, IsTextOf, Mark, Open, PlaceAt, Second, Slot, SlotShows, gate_of, shows}
 use Rattle.mdv_survey.specs.declared.replica.Finds.{Finds}
 use Rattle.mdv_survey.specs.declared.replica.Newest.{Newest}
 use Rattle.mdv_survey.specs.declared.replica.Replica.{Replica}
@@ -15,6 +15,10 @@ HasNoneAbove mark head = (slot : Slot) (m : Mark) (bytes : ℕ) → gate_of head
 abbrev pub HasNot : Mark → Head → Type 0
 HasNot mark head = (slot : Slot) (bytes : ℕ) → gate_of head slot ≡ Open mark bytes → ⊥
 
+-- where both slots of the head have the mark it is the second one
+abbrev pub IsLastOfBoth : Head → Slot → Mark → Type 0
+IsLastOfBoth head slot mark = slot ≡ First → (bytes : ℕ) → gate_of head Second ≡ Open mark bytes → ⊥
+
 -- of all marks that the replicas have this one is the greatest: the slot of that replica has it, no slot of any of them a greater one, and none of one before it
 -- the same
 pub record IsGreatest (replicas : List Replica) (newest : Newest) : Type 0 where
@@ -22,6 +26,7 @@ pub record IsGreatest (replicas : List Replica) (newest : Newest) : Type 0 where
   pub one_of : slice_get replicas newest.replica ≡ Some replica
   pub bytes : ℕ
   pub gate : gate_of replica.head newest.slot ≡ Open newest.mark bytes
+  pub tie : IsLastOfBoth replica.head newest.slot newest.mark
   pub greatest : (other : Replica) → Contains replicas other → HasNoneAbove newest.mark other.head
   pub first : (k : ℕ) (other : Replica) → k < newest.replica → slice_get replicas k ≡ Some other → HasNot newest.mark other.head
 
@@ -44,6 +49,7 @@ HasTable g content replicas (Some newest) = IsTableIn g content replicas newest
 pub record IsShownBy (head : Head) (shown : Shown) : Type 0 where
   pub bytes : ℕ
   pub gate : gate_of head shown.slot ≡ Open shown.mark bytes
+  pub tie : IsLastOfBoth head shown.slot shown.mark
   pub greatest : HasNoneAbove shown.mark head
 
 abbrev pub IsShown : Head → Option Shown → Type 0

@@ -4,7 +4,7 @@ ghost use Rattle.mdv_shelf.specs.Calls.{OnDrive};
 ghost use Rattle.mdv_shelf.specs.Shelves.{DriveFailures, KeptOn};
 ghost use Rattle.mdv_shelf.specs.Tale.{last};
 ghost use Rattle.mdv_name.specs.Sound.{IsSound};
-ghost use Rattle.mdv_replica.specs.Form.{IsNewest, gate_of};
+ghost use Rattle.mdv_replica.specs.Form.{IsNewest, IsSpareSlot, gate_of};
 ghost use Rattle.mdv_replica.specs.Replica.{IsPlaced, slot_blocks};
 ghost use Rattle.mdv_survey.specs.Counts.{AreReadFor, IsHeldCounted, open_slots, reads_of};
 ghost use Rattle.mdv_survey.specs.Slots.{AreSlots, IsHeld, IsHeldAnswer, IsNewestRead, IsSlotsAnswer, OnlyReads};
@@ -79,6 +79,7 @@ fn newest_slot<S: Shelf>(
     requires placed { IsPlaced (S.sizes shelf.old) at }
     requires whole { body.old ≡ slot_blocks at.place.blocks }
     requires newest { IsNewest head.now slot }
+    requires tie { slot ≡ Slot.First → IsSpareSlot head.now Slot.First → ⊥ }
     ensures whole { body.new ≡ body.old }
     ensures answer { IsSlotsAnswer (DriveFailures S.Shelf shelf.old shelf.new at.drive.0) head.now result }
     ensures reads { OnlyReads S.Shelf (λ t. IfOk result (IsNewestRead geometry.now at head.now slot (last t at.drive.0))) shelf.old shelf.new }

@@ -57,5 +57,6 @@ alone g p is first = record {
   some = lit≤ tt;
   few = lit≤ tt;
   spaced = spaced p (omega (arith, is.lies.least)) first;
+  differ = λ i j d below within. absurd (omega arith);
   each = All-cons (IsPlaceOf g) p [] is (All-nil (IsPlaceOf g));
 }

@@ -1,10 +1,11 @@
 -- The first of a stripe's causes.
 use Rattle.std.proofs.Common.{◌≡◌, Bool, true, false, refl, sym, ◌∙◌, ap, ◌++◌, Option, None, Some, Result, Ok, Err, OnOk, IfErr}
+use Rattle.std.proofs.lemmas.Bool.{or_left, or_right}
 use Rattle.std.proofs.lemmas.Option.{none-some, same_Some}
-use Rattle.std.specs.Prelude.{if◌then◌else◌}
+use Rattle.std.specs.Prelude.{◌||◌, if◌then◌else◌}
 use Rattle.std.specs.Option.{is_none}
 use Rattle.mdv_name.proofs.Finding.{slice_at-none, slice_at-some}
-use Rattle.mdv_table.specs.Below.{SliceName, VolId, Refusal, NoSuchSlice, NameTaken, WrongKind, SliceInUse, Geometry, SliceAt, HasSlice, HasNoSlice, slice_at, first_refusal, where_so}
+use Rattle.mdv_table.specs.Below.{SliceName, VolId, Refusal, NoSuchSlice, NameTaken, WrongKind, SliceInUse, Geometry, SliceAt, HasSlice, HasNoSlice, meets_db, slice_at, first_refusal, where_so}
 use Rattle.mdv_table.specs.declared.change.ApplyFault.{ApplyFault}
 use Rattle.mdv_table.specs.declared.change.ApplyFault.TheVariants.{Refused, Memory}
 use Rattle.mdv_table.specs.declared.change.Change.{Change}
@@ -47,37 +48,46 @@ module _ (g : Geometry) (sound : IsSound g) (p : Plan) (volume : VolId) (slice :
   abbrev used : Bool
   used = is_in_use g.slices (used_slices p) slice
 
+  abbrev barred : Bool
+  barred = used || meets_db g slice
+
   abbrev refusal : Option Refusal
   refusal = refusal_of g p (MakeStripe volume slice)
 
-  is_told : (at : Option SliceAt) → slice_at g.slices slice ≡ at → refusal ≡ told (is_none at) taken (is_db at) used
+  is_told : (at : Option SliceAt) → slice_at g.slices slice ≡ at → refusal ≡ told (is_none at) taken (is_db at) barred
   unfolding refusal_of
-  is_told at is = first_is_told (is_none (slice_at g.slices slice)) taken (is_db (slice_at g.slices slice)) used ∙ ap (λ (o : Option SliceAt). told (is_none o) taken (is_db o) used) is
+  is_told at is = first_is_told (is_none (slice_at g.slices slice)) taken (is_db (slice_at g.slices slice)) barred ∙ ap (λ (o : Option SliceAt). told (is_none o) taken (is_db o) barred) is
 
   pub no_slice : HasNoSlice g.slices slice → refusal ≡ Some NoSuchSlice
   no_slice none = is_told None ((slice_at-none g.slices slice).1 none)
 
   module _ (at : SliceAt) (has : HasSlice g.slices slice at) where
-    there : refusal ≡ told false taken at.db used
+    there : refusal ≡ told false taken at.db barred
     there = is_told (Some at) ((slice_at-some g slice at sound).1 has)
 
     pub name_taken : (v : Volume) → HasVolume p.volumes volume v → refusal ≡ Some NameTaken
-    name_taken v is = there ∙ ap (λ b. told false b at.db used) ((has_volume-true p.volumes volume).1 (v, is))
+    name_taken v is = there ∙ ap (λ b. told false b at.db barred) ((has_volume-true p.volumes volume).1 (v, is))
 
     module _ (free : HasNoVolume p.volumes volume) where
-      free_there : refusal ≡ told false false at.db used
-      free_there = there ∙ ap (λ b. told false b at.db used) (has_volume-false p.volumes volume free)
+      free_there : refusal ≡ told false false at.db barred
+      free_there = there ∙ ap (λ b. told false b at.db barred) (has_volume-false p.volumes volume free)
 
       pub wrong_kind : at.db ≡ true → refusal ≡ Some WrongKind
-      wrong_kind db = free_there ∙ ap (λ b. told false false b used) db
+      wrong_kind db = free_there ∙ ap (λ b. told false false b barred) db
+
+      is_barred : at.db ≡ false → barred ≡ true → refusal ≡ Some SliceInUse
+      is_barred plain is = free_there ∙ ap (λ b. told false false b barred) plain ∙ ap (told false false false) is
 
       pub in_use : at.db ≡ false → IsInUse g.slices (used_slices p) slice → refusal ≡ Some SliceInUse
-      in_use plain it = free_there ∙ ap (λ b. told false false b used) plain ∙ ap (told false false false) ((is_in_use-true g sound (used_slices p) slice).1 it)
+      in_use plain it = is_barred plain (or_left used (meets_db g slice) ((is_in_use-true g sound (used_slices p) slice).1 it))
+
+      pub near_db : at.db ≡ false → meets_db g slice ≡ true → refusal ≡ Some SliceInUse
+      near_db plain meets = is_barred plain (or_right used (meets_db g slice) meets)
 
   pub unrefused : (at : SliceAt) → AllowsStripe g p volume slice at → refusal ≡ None
   unrefused at allowed =
       let unused = not_so used (is_in_use-true g sound (used_slices p) slice) allowed.unused in
-      free_there at allowed.has allowed.free ∙ ap (λ b. told false false b used) allowed.plain ∙ ap (told false false false) unused
+      free_there at allowed.has allowed.free ∙ ap (λ b. told false false b barred) allowed.plain ∙ ap (told false false false) (ap (λ b. b || meets_db g slice) unused ∙ allowed.clear)
 
   pub volumes_after : (at : SliceAt) → HasSlice g.slices slice at → with_volume (stripe_on volume slice at.blocks) p.volumes ≡ (plan_after g (MakeStripe volume slice) p).volumes
   volumes_after at has = ap (λ (o : Option SliceAt). with_volume (stripe_on volume slice (blocks_at o)) p.volumes) (sym ((slice_at-some g slice at sound).1 has))

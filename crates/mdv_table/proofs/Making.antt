@@ -78,7 +78,7 @@ module _ (g : Geometry) (p q : Plan) (volume : VolId) (slice : SliceName) (at : 
   pub stays_of : IsPlanOf g p → AllowsStripe g p volume slice at → volume.0 < 8192 → q.volumes ≡ with_volume (stripe_on volume slice at.blocks) p.volumes → q.lists ≡ p.lists → IsPlanOf g q
   stays_of is allowed fits volumes lists =
       let v = stripe_on volume slice at.blocks in
-      let kind : IsKindOf g v.kind = record { least = lit≤ tt; most = lit≤ tt; component = record { at = at; has = allowed.has; whole = record { plain = allowed.plain; start = refl; blocks = refl } } } in
+      let kind : IsKindOf g v.kind = record { least = lit≤ tt; most = lit≤ tt; component = record { at = at; has = allowed.has; whole = record { plain = allowed.plain; start = refl; blocks = refl }; clear = allowed.clear } } in
       let made : Plan = record { lists = p.lists; volumes = with_volume v p.volumes } in
       let of_made : IsPlanOf g made = record {
         lists = is.lists;

@@ -1,6 +1,8 @@
 -- What holds of each element and each later one.
-use Rattle.std.proofs.Common.{◌+◌, ◌∙◌, zero, suc, List, ◌∷◌, ◌++◌, length, sym, Contains, arith}
-use Rattle.std.proofs.lemmas.List.{length-append, get_or_append_left, get_or-append-add, get_or_default}
+use Rattle.std.proofs.Common.{◌≡◌, ◌<◌, ◌+◌, ◌∙◌, ℕ, zero, suc, List, ◌∷◌, ◌++◌, length, get_or, take, drop, refl, sym, subst, Contains, arith}
+use Rattle.std.proofs.lemmas.List.{length-append, get_or_append_left, get_or-append-add, get_or_default, take_more, drop_more, take-append-drop}
+use Rattle.std.proofs.lemmas.List.Elements.{Contains-get_or}
+use Rattle.std.proofs.lemmas.List.Quantifiers.{all_pairs_push}
 use Rattle.std.specs.Prelude.{All, AllPairs}
 
 pub AllPairs-cons : {X : Type 0} (R : X → X → Type 0) (x : X) (xs : List X) → All (R x) xs → AllPairs R xs → AllPairs R (x ∷ xs)
@@ -23,3 +25,21 @@ AllPairs-parts R xs ys x y pairs first second =
     let behind = get_or-append-add xs ys second.0 x in
     let other = get_or_default ys second.0 x y second.1 in
     rw (sym (before ∙ first.2), sym (behind ∙ other ∙ second.2)) both
+
+-- nothing stands there twice
+abbrev pub Differ : {X : Type 0} → List X → Type 0
+Differ {X} xs = AllPairs (λ (x y : X). x ≡ y → ⊥) xs
+
+module _ {X : Type 0} (xs : List X) (i : ℕ) (d : X) (within : i < length xs) where
+  -- one element more, which isn't among those in front of it
+  pub differ_more : Differ (take i xs) → (Contains (take i xs) (get_or xs i d) → ⊥) → Differ (take (i + 1) xs)
+  differ_more pairs none =
+      let more = all_pairs_push (λ (x y : X). x ≡ y → ⊥) (take i xs) (get_or xs i d) pairs (λ k e inside same. none (subst (Contains (take i xs)) same (Contains-get_or (take i xs) k e inside))) in
+      subst Differ (sym (take_more xs i d within)) more
+
+  -- one that is among them
+  pub never_differ : Contains (take i xs) (get_or xs i d) → Differ xs → ⊥
+  never_differ has pairs =
+      let x = get_or xs i d in
+      let here : Contains (drop i xs) x = subst (λ (l : List X). Contains l x) (sym (drop_more xs i d within)) (0, omega arith, refl) in
+      AllPairs-parts (λ (y z : X). y ≡ z → ⊥) (take i xs) (drop i xs) x x (subst Differ (sym (take-append-drop i xs)) pairs) has here refl

@@ -1,11 +1,12 @@
 -- The test of a table passes exactly where the table is of the geometry.
-use Rattle.std.proofs.Common.{◌≡◌, ◌<◌, ◌≤◌, ◌+◌, ◌^◌, ℕ, Bool, true, false, not, refl, ◌∙◌, ap, List, [], ◌∷◌, length, get_or, Option, None, Some, arith, ltb-true, lt-ltb}
+use Rattle.std.proofs.Common.{◌≡◌, ◌<◌, ◌≤◌, ◌+◌, ◌^◌, ℕ, Bool, true, false, not, refl, ◌∙◌, ap, subst, List, [], ◌∷◌, length, get_or, Option, None, Some, arith, ltb-true, lt-ltb}
 use Rattle.std.proofs.lemmas.Bool.{and_parts, and_from, eq-eqb, eqb-true, false≢true, le-leb, leb-true, not-true, not_from_false}
+use Rattle.std.proofs.lemmas.Bool.Decides.{nat_tests}
 use Rattle.std.proofs.lemmas.List.Sums.{AllPass-from_list_all, list_all-from_AllPass}
 use Rattle.std.specs.Prelude.{◌↔◌, ◌==◌, ◌&&◌, nat_le, nat_lt, All, AllPairs}
 use Rattle.std.specs.List.{list_all}
-use Rattle.mdv_name.proofs.Finding.{slice_at-some}
-use Rattle.mdv_table.specs.Below.{SliceName, Place, Geometry, SliceAt, HasSlice, OneList, are_spaced, meets_db, slice_at}
+use Rattle.mdv_name.proofs.Finding.{same_slice-equal, same_slice-refl, slice_at-some}
+use Rattle.mdv_table.specs.Below.{SliceName, Place, Geometry, SliceAt, HasSlice, OneList, are_spaced, meets_db, same_slice, slice_at}
 use Rattle.mdv_table.specs.declared.plan.Lists.{Lists}
 use Rattle.mdv_table.specs.declared.plan.Lists.TheVariants.{One}
 use Rattle.mdv_table.specs.declared.table.Table.{Table}
@@ -19,7 +20,7 @@ use Rattle.mdv_table.specs.declared.volume.VolumeKind.TheVariants.{Stripe}
 use Rattle.mdv_table.specs.Plan.{places_of, component_slices}
 use Rattle.mdv_table.specs.Slices.{IsSound, Overlaps, overlaps_by}
 use Rattle.mdv_table.specs.Table.{IsPlaceIn, IsPlaceOf, IsPlacesOf, IsListsOf, IsWhole, IsComponentOn, IsStripeOf, IsKindOf, IsApart, IsOfGeometry}
-use Rattle.mdv_table.specs.Tests.{pairs_pass, is_there_and, is_place_in, is_place_of, are_places_of, are_lists_of, is_whole, is_component_on, is_stripe_of, is_kind_of, are_volumes, are_apart, is_of_geometry}
+use Rattle.mdv_table.specs.Tests.{pairs_pass, is_there_and, is_place_in, is_place_of, same_place, do_differ, are_places_of, are_lists_of, is_whole, is_component_on, is_stripe_of, is_kind_of, are_volumes, are_apart, is_of_geometry}
 use Rattle.mdv_table.specs.Volumes.{IsVolumes}
 use Rattle.mdv_table.proofs.Deciding.{overlaps_by-true}
 use Rattle.mdv_table.proofs.Pairs.{AllPairs-cons, AllPairs-first, AllPairs-rest}
@@ -69,6 +70,20 @@ place_in p at =
     (λ has. record { db = has.0.0; start = has.0.1; least = has.1.0.0; most = has.1.0.1; within = has.1.1 })
     (λ is. ((is.db, is.start), ((is.least, is.most), is.within)))
 
+pub same_place-true : (p q : Place) → same_place p q ≡ true ↔ (p ≡ q)
+same_place-true p q = (
+  λ is.
+      let slice = same_slice-equal p.slice q.slice (and_parts (same_slice p.slice q.slice) ((p.start == q.start) && (p.blocks == q.blocks)) is).0 in
+      let rest = (and_parts (same_slice p.slice q.slice) ((p.start == q.start) && (p.blocks == q.blocks)) is).1 in
+      let start : p.start ≡ q.start = grind (arith, nat_tests) in
+      let blocks : p.blocks ≡ q.blocks = grind (arith, nat_tests) in
+      λ i. record { slice = slice i; start = start i; blocks = blocks i },
+  λ equal. subst (λ (o : Place). same_place p o ≡ true) equal (and_from (same_slice p.slice p.slice) ((p.start == p.start) && (p.blocks == p.blocks)) (same_slice-refl p.slice) (grind (arith, nat_tests))),
+)
+
+different : (ps : List Place) → do_differ ps ≡ true ↔ AllPairs (λ (p q : Place). p ≡ q → ⊥) ps
+different ps = pairs_are (λ p q. not (same_place p q)) (λ p q. p ≡ q → ⊥) (λ p q. never (same_place p q) (same_place-true p q)) ps
+
 whole : (c : Component) (at : SliceAt) → is_whole c at ≡ true ↔ IsWhole at c
 whole c at =
     told (both (isn't at.db) (both (same c.start 0) (same c.blocks at.blocks)))
@@ -97,18 +112,18 @@ module _ (g : Geometry) (sound : IsSound g) where
 
   places : (ps : List Place) → are_places_of g ps ≡ true ↔ IsPlacesOf g ps
   places ps =
-      told (both (both (up_to 1 (length ps)) (up_to (length ps) 50)) (both (itself (are_spaced (OneList ps))) (all_pass (is_place_of g) (IsPlaceOf g) place ps)))
-      (λ has. record { some = has.0.0; few = has.0.1; spaced = has.1.0; each = has.1.1 })
-      (λ is. ((is.some, is.few), (is.spaced, is.each)))
+      told (both (both (up_to 1 (length ps)) (up_to (length ps) 50)) (both (itself (are_spaced (OneList ps))) (both (different ps) (all_pass (is_place_of g) (IsPlaceOf g) place ps))))
+      (λ has. record { some = has.0.0; few = has.0.1; spaced = has.1.0; differ = has.1.1.0; each = has.1.1.1 })
+      (λ is. ((is.some, is.few), (is.spaced, (is.differ, is.each))))
 
   lists : (l : Lists) → are_lists_of g l ≡ true ↔ IsListsOf g l
   lists (One ps) = places ps
 
   component : (c : Component) (b : Base) → is_component_on g c b ≡ true ↔ IsComponentOn g c b
   component c (Slice s) =
-      told (there s (is_whole c) (λ at. IsWhole at c) (whole c))
-      (λ has. record { at = has.0; has = has.1.0; whole = has.1.1 })
-      (λ is. (is.at, (is.has, is.whole)))
+      told (both (there s (is_whole c) (λ at. IsWhole at c) (whole c)) (isn't (meets_db g s)))
+      (λ has. record { at = has.0.0; has = has.0.1.0; whole = has.0.1.1; clear = has.1 })
+      (λ is. ((is.at, (is.has, is.whole)), is.clear))
 
   stripe : (s : OneStripe) → is_stripe_of g s ≡ true ↔ IsStripeOf g s
   stripe s =

@@ -7,7 +7,7 @@ pub use Rattle.mdv_base.specs.declared.place.Place.{Place}
 pub use Rattle.mdv_base.specs.declared.refusal.Refusal.{Refusal}
 pub use Rattle.mdv_base.specs.declared.refusal.Refusal.TheVariants.{NameTaken, NoSuchSlice, SliceInUse, WrongKind}
 pub use Rattle.mdv_fields.specs.Sets.{are_spaced}
-pub use Rattle.mdv_name.specs.SliceIndex.{HasNoSlice, HasSlice, slice_at}
+pub use Rattle.mdv_name.specs.SliceIndex.{HasNoSlice, HasSlice, same_slice, slice_at}
 pub use Rattle.mdv_name.specs.declared.geometry.Geometry.{Geometry}
 pub use Rattle.mdv_name.specs.declared.slice_lines.SliceAt.{SliceAt}
 pub use Rattle.mdv_name.specs.declared.slice_lines.SliceLine.{SliceLine}

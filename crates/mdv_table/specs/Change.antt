@@ -1,7 +1,7 @@
 -- Why a change is refused, and the plan after it.
-use Rattle.std.specs.Prelude.{◌≡◌, ◌<◌, ℕ, Bool, false, Option, None, Some, List, ◌++◌}
+use Rattle.std.specs.Prelude.{◌≡◌, ◌<◌, ◌||◌, ℕ, Bool, false, Option, None, Some, List, ◌++◌}
 use Rattle.std.specs.Option.{is_none}
-use Rattle.mdv_table.specs.Below.{SliceName, VolId, Refusal, NoSuchSlice, NameTaken, WrongKind, SliceInUse, Geometry, SliceAt, HasSlice, slice_at, first_refusal, where_so}
+use Rattle.mdv_table.specs.Below.{SliceName, VolId, Refusal, NoSuchSlice, NameTaken, WrongKind, SliceInUse, Geometry, SliceAt, HasSlice, meets_db, slice_at, first_refusal, where_so}
 use Rattle.mdv_table.specs.declared.change.ApplyFault.{ApplyFault}
 use Rattle.mdv_table.specs.declared.change.ApplyFault.TheVariants.{Refused, Memory}
 use Rattle.mdv_table.specs.declared.change.Change.{Change}
@@ -21,12 +21,12 @@ abbrev pub is_db : Option SliceAt → Bool
 is_db None = false
 is_db (Some at) = at.db
 
--- the refusals whose causes hold, each by itself
+-- the refusals whose causes hold, each by itself; a slice that one set aside for replicas overlaps is in use
 abbrev pub held : Geometry → Plan → Change → List Refusal
 held g p (MakeStripe volume slice) =
     let at = slice_at g.slices slice in
     let uses = used_slices p in
-    where_so (is_none at) NoSuchSlice ++ where_so (has_volume p.volumes volume) NameTaken ++ where_so (is_db at) WrongKind ++ where_so (is_in_use g.slices uses slice) SliceInUse
+    where_so (is_none at) NoSuchSlice ++ where_so (has_volume p.volumes volume) NameTaken ++ where_so (is_db at) WrongKind ++ where_so (is_in_use g.slices uses slice || meets_db g slice) SliceInUse
 
 -- the one for which the change is refused
 unfoldable pub refusal_of : Geometry → Plan → Change → Option Refusal
@@ -60,3 +60,4 @@ pub record AllowsStripe (g : Geometry) (p : Plan) (volume : VolId) (slice : Slic
   pub free : HasNoVolume p.volumes volume
   pub plain : at.db ≡ false
   pub unused : IsInUse g.slices (used_slices p) slice → ⊥
+  pub clear : meets_db g slice ≡ false

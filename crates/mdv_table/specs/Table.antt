@@ -30,11 +30,12 @@ pub record IsPlaceOf (g : Geometry) (p : Place) : Type 0 where
   pub lies : IsPlaceIn at p
   pub clear : meets_db g p.slice ≡ false
 
--- 1 to 50 places, and all of a slice have one number b of blocks and start at 16 + k * b
+-- 1 to 50 different places, and all of a slice have one number b of blocks and start at 16 + k * b
 pub record IsPlacesOf (g : Geometry) (places : List Place) : Type 0 where
   pub some : 1 ≤ length places
   pub few : length places ≤ 50
   pub spaced : IsTrue (are_spaced (OneList places))
+  pub differ : AllPairs (λ (p q : Place). p ≡ q → ⊥) places
   pub each : All (IsPlaceOf g) places
 
 -- one list of places
@@ -47,11 +48,12 @@ pub record IsWhole (at : SliceAt) (c : Component) : Type 0 where
   pub start : c.start ≡ 0
   pub blocks : c.blocks ≡ at.blocks
 
--- a component takes up a slice of the geometry
+-- a component takes up a slice of the geometry, which no other slice that is set aside for replicas overlaps
 pub record IsWholeSlice (g : Geometry) (c : Component) (slice : SliceName) : Type 0 where
   pub at : SliceAt
   pub has : HasSlice g.slices slice at
   pub whole : IsWhole at c
+  pub clear : meets_db g slice ≡ false
 
 abbrev pub IsComponentOn : Geometry → Component → Base → Type 0
 IsComponentOn g c (Slice slice) = IsWholeSlice g c slice

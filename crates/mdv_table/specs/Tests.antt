@@ -1,7 +1,7 @@
 -- By tests, so that it can be computed: which tables are of a geometry.
 use Rattle.std.specs.Prelude.{◌==◌, ◌&&◌, ◌+◌, ◌^◌, Bool, true, false, not, nat_le, nat_lt, Option, None, Some, List, [], ◌∷◌, length}
 use Rattle.std.specs.List.{list_all}
-use Rattle.mdv_table.specs.Below.{SliceName, Place, Geometry, SliceAt, OneList, are_spaced, meets_db, slice_at}
+use Rattle.mdv_table.specs.Below.{SliceName, Place, Geometry, SliceAt, OneList, are_spaced, meets_db, same_slice, slice_at}
 use Rattle.mdv_table.specs.declared.plan.Lists.{Lists}
 use Rattle.mdv_table.specs.declared.plan.Lists.TheVariants.{One}
 use Rattle.mdv_table.specs.declared.table.Table.{Table}
@@ -31,8 +31,16 @@ is_place_in p at = (at.db && nat_lt p.start (2 ^ 32)) && ((nat_le 16 p.blocks &&
 abbrev pub is_place_of : Geometry → Place → Bool
 is_place_of g p = is_there_and (is_place_in p) (slice_at g.slices p.slice) && not (meets_db g p.slice)
 
+-- the same blocks of one slice
+abbrev pub same_place : Place → Place → Bool
+same_place p q = same_slice p.slice q.slice && ((p.start == q.start) && (p.blocks == q.blocks))
+
+-- no place stands there twice
+abbrev pub do_differ : List Place → Bool
+do_differ places = pairs_pass (λ p q. not (same_place p q)) places
+
 abbrev pub are_places_of : Geometry → List Place → Bool
-are_places_of g places = (nat_le 1 (length places) && nat_le (length places) 50) && (are_spaced (OneList places) && list_all (is_place_of g) places)
+are_places_of g places = (nat_le 1 (length places) && nat_le (length places) 50) && (are_spaced (OneList places) && (do_differ places && list_all (is_place_of g) places))
 
 abbrev pub are_lists_of : Geometry → Lists → Bool
 are_lists_of g (One places) = are_places_of g places
@@ -41,7 +49,7 @@ abbrev pub is_whole : Component → SliceAt → Bool
 is_whole c at = not at.db && (c.start == 0 && c.blocks == at.blocks)
 
 abbrev pub is_component_on : Geometry → Component → Base → Bool
-is_component_on g c (Slice slice) = is_there_and (is_whole c) (slice_at g.slices slice)
+is_component_on g c (Slice slice) = is_there_and (is_whole c) (slice_at g.slices slice) && not (meets_db g slice)
 
 abbrev pub is_stripe_of : Geometry → OneStripe → Bool
 is_stripe_of g s = (nat_le 16 s.interlace && nat_le s.interlace 204800) && is_component_on g s.component s.component.on

@@ -11,6 +11,7 @@ use crate::uses::Uses;
 use crate::volume::Volume;
 use mdv_base::{Refusal, SliceName, VolId};
 use mdv_name::{Geometry, SliceAt};
+use mdv_plan::meets_db;
 use std::alloc::{AllocError, Global};
 
 /// What a command asks of a plan.
@@ -117,7 +118,7 @@ impl Plan {
         if at.db {
             return Err(Refusal::WrongKind);
         }
-        if Uses::of_plan(geometry, self).has(geometry, slice) {
+        if Uses::of_plan(geometry, self).has(geometry, slice) || meets_db(geometry, slice) {
             return Err(Refusal::SliceInUse);
         }
         Ok(at)

@@ -1,5 +1,6 @@
 // Which tables are of a geometry: what a record may say beside the drives that there are.
-ghost use Rattle.std.specs.Prelude.{◌≡◌, ◌↔◌, IsTrue, All};
+ghost use Rattle.std.specs.Prelude.{◌≡◌, ◌↔◌, IsTrue, All, AllPairs, Contains};
+ghost use Rattle.mdv_base.specs.declared.place.Place.{Place};
 ghost use Rattle.mdv_table.specs.Below.{OneList, are_spaced as spec_are_spaced};
 ghost use Rattle.mdv_table.specs.Plan.{component_slices};
 ghost use Rattle.mdv_table.specs.Slices.{IsSound};
@@ -54,7 +55,28 @@ fn are_places_of(geometry: &Geometry, places: &Places) -> bool
     ensures { IsTrue result ↔ IsPlacesOf geometry.now places.now }
 {
     let all = all_of(places);
-    !all.is_empty() && are_in_step(places) && all.iter().all(|place| is_place_of(geometry, place))
+    !all.is_empty()
+        && are_in_step(places)
+        && do_differ(all)
+        && all.iter().all(|place| is_place_of(geometry, place))
+}
+
+// Whether no place stands there twice.
+fn do_differ(places: &[Place]) -> bool
+    ensures { IsTrue result ↔ AllPairs (λ (p q : Place). p ≡ q → ⊥) places.now }
+{
+    for index in 0..places.len() {
+        if is_among(&places[index], &places[..index]) {
+            return false;
+        }
+    }
+    true
+}
+
+fn is_among(place: &Place, places: &[Place]) -> bool
+    ensures { IsTrue result ↔ Contains places.now place.now }
+{
+    places.iter().any(|other| other == place)
 }
 
 // Whether all places of a slice have one number b of blocks and start at 16 + k * b.
@@ -122,7 +144,7 @@ fn is_whole_slice(geometry: &Geometry, component: &Component, slice: SliceName) 
     ensures { IsTrue result ↔ IsWholeSlice geometry.now component.now slice }
 {
     match geometry.slices.find(slice) {
-        Some(at) => is_whole(at, component),
+        Some(at) => is_whole(at, component) && !meets_db(geometry, slice),
         None => false,
     }
 }

@@ -103,6 +103,8 @@ no_end : (over : Ended) → IsAtEnd (status_at over) → ⊥
 no_end (stop.Lost active listed) is = is
 no_end stop.Spent is = is
 no_end stop.Memory is = is
+no_end (stop.NoQuorum readable needed) is = is
+no_end (stop.TwoDatabases a b) is = is
 
 -- the script is at its end then, and nothing more was told
 record Came (now : At) (told : List ℕ) (status : RunStatus) : Type 0 where

@@ -21,7 +21,6 @@ use Rattle.mdv_engine_law.specs.declared.answer.Answer.TheVariants.{Over}
 use Rattle.mdv_name.specs.SliceIndex.{slice_at}
 use Rattle.mdv_run_law.specs.Below.{Command, Create, Host, Line, MakeStripe, NoSuchSlice, OutOfMemory, OutOfRange, Print, Read, Refusal, ReplicaFull, SliceInUse, SliceName, VolId, Volume, Write, WrongKind}
 use Rattle.mdv_run_law.specs.Run.{IsAnswered, IsSaid}
-use Rattle.mdv_store_law.specs.Site.{Newest}
 use Rattle.mdv_table.specs.Change as table
 use Rattle.mdv_table.specs.Change.{is_db}
 use Rattle.mdv_table.specs.Plan.{is_in_use, used_slices}
@@ -32,6 +31,8 @@ use Rattle.mdv_words.proofs.Lines.{one_line}
 use Rattle.mdv_words.specs.Line.{Exec, IsLine}
 use Rattle.mdv_theorem.specs.Exchanges.{IsAbout}
 use Rattle.mdv_theorem.proofs.Telling.{ok_is_none, one_number, values_are_none, listing_is_none}
+use Rattle.mdv_store.specs.Opened.{Opened}
+use Rattle.mdv_plan.specs.Slices.{meets_db}
 
 -- it is neither NoDatabase nor NoSuchVolume
 abbrev IsAsideNumber : ℕ → Type 0
@@ -55,53 +56,53 @@ stripe_aside gone taken db used =
     (where_all IsAside db WrongKind (omega arith)))
     (where_all IsAside used SliceInUse (omega arith))
 
-pub change_aside : (host : Host) (newest : Newest) (volume : VolId) (slice : SliceName) → All IsAside (held_of_change host (Some newest) (change.MakeStripe volume slice))
-change_aside host newest volume slice =
-    let size = bytes_after host newest (change.MakeStripe volume slice) in
-    let full : Refusal = ReplicaFull size (record_room newest) in
-    All-append IsAside (table.held host.drives newest.table.plan (change.MakeStripe volume slice)) (where_so (nat_lt (record_room newest) size) full)
-    (stripe_aside (is_none (slice_at host.drives.slices slice)) (has_volume newest.table.plan.volumes volume) (is_db (slice_at host.drives.slices slice)) (is_in_use host.drives.slices (used_slices newest.table.plan) slice))
-    (where_all IsAside (nat_lt (record_room newest) size) full (omega arith))
+pub change_aside : (host : Host) (o : Opened) (volume : VolId) (slice : SliceName) → All IsAside (held_of_change host (Some o) (change.MakeStripe volume slice))
+change_aside host o volume slice =
+    let size = bytes_after host o (change.MakeStripe volume slice) in
+    let full : Refusal = ReplicaFull size (record_room o) in
+    All-append IsAside (table.held host.drives o.table.plan (change.MakeStripe volume slice)) (where_so (nat_lt (record_room o) size) full)
+    (stripe_aside (is_none (slice_at host.drives.slices slice)) (has_volume o.table.plan.volumes volume) (is_db (slice_at host.drives.slices slice)) (is_in_use host.drives.slices (used_slices o.table.plan) slice || meets_db host.drives slice))
+    (where_all IsAside (nat_lt (record_room o) size) full (omega arith))
 
 -- of a volume that is there
 past_aside : (found : Option Volume) (of : Volume) (end : ℕ) → found ≡ Some of → All IsAside (held_past found end)
 past_aside found of end is = subst (λ (o : Option Volume). All IsAside (held_past o end)) (sym is) (where_all IsAside (nat_lt (size_of of.kind) end) OutOfRange (omega arith))
 
-module _ (case : Case) (newest : Newest) (opened : case.memory.opened ≡ Some newest) (volume : VolId) (of : Volume) (found : find (has_number volume) newest.table.plan.volumes ≡ Some of)
-    (has : HasVolume newest.table.plan.volumes volume of) where
+module _ (case : Case) (o : Opened) (opened : case.memory.opened ≡ Some o) (volume : VolId) (of : Volume) (found : find (has_number volume) o.table.plan.volumes ≡ Some of)
+    (has : HasVolume o.table.plan.volumes volume of) where
   -- with this database open
-  by_opened : (causes : Option Newest → List Refusal) → All IsAside (causes (Some newest)) → All IsAside (causes case.memory.opened)
-  by_opened causes is = subst (λ (o : Option Newest). All IsAside (causes o)) (sym opened) is
+  by_opened : (causes : Option Opened → List Refusal) → All IsAside (causes (Some o)) → All IsAside (causes case.memory.opened)
+  by_opened causes is = subst (λ (p : Option Opened). All IsAside (causes p)) (sym opened) is
 
-  blocks_aside : (other : VolId) (end : ℕ) → other ≡ volume → All IsAside (held_of_blocks (Some newest) other end)
-  blocks_aside other end on = subst (λ (n : VolId). All IsAside (held_of_blocks (Some newest) n end)) (sym on) (past_aside (find (has_number volume) newest.table.plan.volumes) of end found)
+  blocks_aside : (other : VolId) (end : ℕ) → other ≡ volume → All IsAside (held_of_blocks (Some o) other end)
+  blocks_aside other end on = subst (λ (n : VolId). All IsAside (held_of_blocks (Some o) n end)) (sym on) (past_aside (find (has_number volume) o.table.plan.volumes) of end found)
 
   -- of a print of the volume alone
-  print_aside : (names : List Named) → names ≡ named.Volume volume ∷ [] → All IsAside (held_of_names newest.table.plan.volumes names)
+  print_aside : (names : List Named) → names ≡ named.Volume volume ∷ [] → All IsAside (held_of_names o.table.plan.volumes names)
   print_aside names alone =
-      let there : has_volume newest.table.plan.volumes volume ≡ true = (has_volume-true newest.table.plan.volumes volume).1 (of, has) in
-      subst (λ (l : List Named). All IsAside (held_of_names newest.table.plan.volumes l)) (sym alone)
+      let there : has_volume o.table.plan.volumes volume ≡ true = (has_volume-true o.table.plan.volumes volume).1 (of, has) in
+      subst (λ (l : List Named). All IsAside (held_of_names o.table.plan.volumes l)) (sym alone)
       (subst (λ (b : Bool). All IsAside (where_so (not b || false) NoSuchVolume ++ where_so false NoSuchPool)) (sym there) (All-nil IsAside))
 
   held_aside : (command : Command) → IsAbout volume command → All IsAside (held case command)
-  held_aside (Create slice force blocks) on = absurd on
-  held_aside (MakeStripe other slice) on = by_opened (λ o. held_of_change case.host o (change.MakeStripe other slice)) (change_aside case.host newest other slice)
+  held_aside (Create slices force count blocks) on = absurd on
+  held_aside (MakeStripe other slice) on = by_opened (λ p. held_of_change case.host p (change.MakeStripe other slice)) (change_aside case.host o other slice)
   held_aside (Read other at count) on =
-      by_opened (λ o. held_of_read o other at count)
-      (All-append IsAside (held_of_blocks (Some newest) other (at + count)) (where_so (nat_lt 1024 count) TooMany) (blocks_aside other (at + count) on) (where_all IsAside (nat_lt 1024 count) TooMany (omega arith)))
-  held_aside (Write other at block) on = by_opened (λ o. held_of_blocks o other (at + 1)) (blocks_aside other (at + 1) on)
-  held_aside (Print names) alone = by_opened (λ o. held_of_print o names) (print_aside names alone)
+      by_opened (λ p. held_of_read p other at count)
+      (All-append IsAside (held_of_blocks (Some o) other (at + count)) (where_so (nat_lt 1024 count) TooMany) (blocks_aside other (at + count) on) (where_all IsAside (nat_lt 1024 count) TooMany (omega arith)))
+  held_aside (Write other at block) on = by_opened (λ p. held_of_blocks p other (at + 1)) (blocks_aside other (at + 1) on)
+  held_aside (Print names) alone = by_opened (λ p. held_of_print p names) (print_aside names alone)
 
   pub refused_aside : (command : Command) (r : Refusal) → IsAbout volume command → refusal_of case command ≡ Some r → IsAside r
   refused_aside command r on is = first_holds IsAside order (held case command) r (held_aside command on) is
 
 -- what is done is told by no refusal
-done_untold : (host : Host) (kept next : Kept) (command : Command) (answer : Answer) (r : Refusal) → Effect host kept command answer next → text_of answer ≡ refusal_line r → ⊥
-done_untold host kept next (Create slice force blocks) answer r effect told = ok_is_none r (sym (ap text_of effect.0) ∙ told)
-done_untold host kept next (MakeStripe volume slice) answer r effect told = ok_is_none r (sym (ap text_of effect.0) ∙ told)
-done_untold host kept next (Read volume at count) answer r effect told = values_are_none at _ r (sym (ap text_of effect.2) ∙ told)
-done_untold host kept next (Write volume at block) answer r effect told = ok_is_none r (sym (ap text_of effect.2) ∙ told)
-done_untold host kept next (Print names) answer r (newest, opened, text, same) told = listing_is_none newest.table.plan names r (sym (ap text_of text) ∙ told)
+done_untold : (calls : Outcomes) (host : Host) (kept next : Kept) (command : Command) (answer : Answer) (r : Refusal) → Effect calls host kept command answer next → text_of answer ≡ refusal_line r → ⊥
+done_untold calls host kept next (Create slices force count blocks) answer r effect told = ok_is_none r (sym (ap text_of effect.0) ∙ told)
+done_untold calls host kept next (MakeStripe volume slice) answer r effect told = ok_is_none r (sym (ap text_of effect.0) ∙ told)
+done_untold calls host kept next (Read volume at count) answer r effect told = values_are_none at _ r (sym (ap text_of effect.3) ∙ told)
+done_untold calls host kept next (Write volume at block) answer r effect told = ok_is_none r (sym (ap text_of effect.3) ∙ told)
+done_untold calls host kept next (Print names) answer r (calm, o, opened, text, same) told = listing_is_none o.table.plan names r (sym (ap text_of text) ∙ told)
 
 -- what a line that spells a command comes to
 pub data Commanded (calls : Outcomes) (host : Host) (kept : Kept) (command : Command) (answer : Answer) (next : Kept) : Type 0 where
@@ -122,7 +123,7 @@ module _ (Q : ℕ → Type 0) (of_fault : Q 23) (of_want : Q 24) (calls : Outcom
   came_as : CameTo calls host kept command answer next → Q (number_of r)
   came_as (refused quiet s why turned) = by_refusal s turned.0 (of_refusal s why)
   came_as (wanting quiet is left) = by_refusal OutOfMemory is of_want
-  came_as (done quiet free effect) = absurd (done_untold host kept next command answer r effect told)
+  came_as (done free effect) = absurd (done_untold calls host kept next command answer r effect told)
   came_as (faulted free is left) = by_refusal IoFault is of_fault
   came_as (over end free is left) = (let never : IsSaid (Over end) = subst IsSaid is said in absurd never)
 
@@ -131,7 +132,7 @@ module _ (Q : ℕ → Type 0) (of_fault : Q 23) (of_want : Q 24) (calls : Outcom
   told_as (unread is) = by_refusal OutOfMemory is of_want
 
 -- where this is kept the volume is in the open table: so a line on it is refused for neither of the two
-pub told_aside : (calls : Outcomes) (host : Host) (kept next : Kept) (newest : Newest) → kept.memory.opened ≡ Some newest → (volume : VolId) (of : Volume) → find (has_number volume) newest.table.plan.volumes ≡ Some of → HasVolume newest.table.plan.volumes volume of → (command : Command) → IsAbout volume command
+pub told_aside : (calls : Outcomes) (host : Host) (kept next : Kept) (o : Opened) → kept.memory.opened ≡ Some o → (volume : VolId) (of : Volume) → find (has_number volume) o.table.plan.volumes ≡ Some of → HasVolume o.table.plan.volumes volume of → (command : Command) → IsAbout volume command
     → (answer : Answer) → IsSaid answer → (r : Refusal) → text_of answer ≡ refusal_line r → Commanded calls host kept command answer next → IsAside r
-told_aside calls host kept next newest opened volume of found has command on answer said r told is =
-    told_as IsAsideNumber (omega arith) (omega arith) calls host kept next command (λ s why. refused_aside (case_of host kept) newest opened volume of found has command s on why) answer said r told is
+told_aside calls host kept next o opened volume of found has command on answer said r told is =
+    told_as IsAsideNumber (omega arith) (omega arith) calls host kept next command (λ s why. refused_aside (case_of host kept) o opened volume of found has command s on why) answer said r told is

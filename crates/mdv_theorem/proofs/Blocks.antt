@@ -1,26 +1,21 @@
 -- A write of an earlier run that was acknowledged: the block is there at the start, and has its value, or one that was issued later.
-use Rattle.std.proofs.Common.{◌≡◌, ◌⊎◌, inl, inr, ⊎_elim, ℕ, ◌+◌, ◌-◌, ◌<◌, true, Option, None, List, [], ◌∷◌, ◌++◌, length, slice_index_or, Contains, sym, ◌∙◌, ap, subst, arith}
+use Rattle.std.proofs.Common.{◌≡◌, ◌⊎◌, inl, inr, ⊎_elim, ℕ, ◌+◌, ◌-◌, ◌<◌, true, Option, List, [], ◌∷◌, ◌++◌, length, slice_index_or, Contains, sym, ◌∙◌, ap, subst, arith}
 use Rattle.std.proofs.lemmas.List.Elements.{Contains-append_cases, Contains-append_left, Contains-append_right}
 use Rattle.mdv_base.specs.declared.name.Key.{Key}
 use Rattle.mdv_base.specs.declared.name.VolId.{VolId}
-use Rattle.mdv_engine_law.specs.Home.{site_of, sites_of}
-use Rattle.mdv_engine_law.specs.Line.{Ask, deeds}
+use Rattle.mdv_engine_law.specs.Line.{Ask, deeds, HasNoTableOn}
 use Rattle.mdv_engine_law.specs.declared.host.Host.{Host}
 use Rattle.mdv_engine_law.specs.Replies.{issuable, ok_line}
-use Rattle.mdv_engine_law.proofs.Sites.{own_site}
-use Rattle.mdv_home.specs.Home.{IsHome}
-use Rattle.mdv_home.specs.declared.geometry.Home.{Home}
 use Rattle.mdv_map.specs.Logs.{is_among}
 use Rattle.mdv_map.specs.Maps.{Map, readings}
 use Rattle.mdv_map.proofs.Copies.{among_at}
 use Rattle.mdv_name.specs.declared.geometry.Geometry.{Geometry}
-use Rattle.mdv_run_law.specs.Lives.{Life, Ran}
+use Rattle.mdv_run_law.specs.Lives.{Ran, IsLife}
 use Rattle.mdv_run_law.proofs.Deeds.{part_contains}
 use Rattle.mdv_shelf.specs.Everywhere.{Image}
 use Rattle.mdv_shelf.specs.Tale.{Among, Tale, last}
 use Rattle.mdv_shelf.proofs.Blocks.{both_ways}
 use Rattle.mdv_status.specs.Values.{significant}
-use Rattle.mdv_store_law.specs.Site.{IsFound}
 use Rattle.mdv_store_law.proofs.Machine.{all_more}
 use Rattle.mdv_table.specs.Slices.{IsSound}
 use Rattle.mdv_table.specs.declared.table.Table.{Table}
@@ -38,10 +33,11 @@ use Rattle.mdv_volumes.proofs.Lists.{contains_first}
 use Rattle.mdv_words.specs.declared.command.Command.TheVariants.{Write}
 use Rattle.mdv_theorem.specs.Exchanges.{Exchange, IsAcknowledged, MayBeWritten, exchanges_by}
 use Rattle.mdv_theorem.specs.Words.{IsOrWasWritten}
-use Rattle.mdv_theorem.proofs.Found.{Found, asked_at, content, deed_told, es, its, its_course, key, lasting_found, lined, ok_sated, range_found, site}
+use Rattle.mdv_theorem.proofs.Found.{Found, asked_at, deed_told, es, its, its_course, lasting_found, lined, ok_sated, range_found}
 use Rattle.mdv_theorem.proofs.Lined.{AreLined, AreOfReply, AreReplied, IsLinedAt, host, lined_at, lined_begins}
 use Rattle.mdv_theorem.proofs.Lines.{lets, the_only}
 use Rattle.mdv_theorem.proofs.Places.{IsToldAt, at_among, may_at, told_at}
+use Rattle.mdv_base.specs.declared.name.Key.TheVariants.{Local}
 
 module _ (key : Key) (volume : VolId) (number : ℕ) (x : List ℕ) where
   -- one of these events issues blocks of the volume, and that value for this one
@@ -119,29 +115,29 @@ blocks_of (Changed other change) = []
 blocks_of (Wrote other volume at blocks) = blocks
 blocks_of (Saw other volume at blocks) = []
 
-module _ (drives : Geometry) (home : Home) (made : Image) (before : List Ran) (t : Tale) (sound : IsSound drives) (is_home : IsHome drives home) (life : Life drives made before t) where
+module _ (drives : Geometry) (name : List ℕ) (made : Image) (before : List Ran) (t : Tale) (sound : IsSound drives) (of_table : Contains drives.hosts name) (life : IsLife drives made before t) where
   abbrev own : Host
-  own = host drives home
+  own = host drives name
 
   abbrev all : List Event
-  all = es drives home made before t sound is_home life
+  all = es drives name made before t sound of_table life
 
   abbrev its_key : Key
-  its_key = key drives home t
+  its_key = Local name
 
-  module _ (first between : List Exchange) (write : Exchange) (volume : VolId) (number : ℕ) (old : List ℕ) (stood : exchanges_by home before ≡ first ++ write ∷ between) (acknowledged : IsAcknowledged volume number old write) where
+  module _ (first between : List Exchange) (write : Exchange) (volume : VolId) (number : ℕ) (old : List ℕ) (stood : exchanges_by name before ≡ first ++ write ∷ between) (acknowledged : IsAcknowledged volume number old write) where
     abbrev deed : Deed
     deed = Wrote its_key volume number (old ∷ [])
 
-    line : IsLinedAt drives home write between all
-    line = lined_at drives home first write between all (subst (λ (l : List Exchange). AreLined drives home l all) stood (lined drives home made before t sound is_home life))
+    line : IsLinedAt drives name write between all
+    line = lined_at drives name first write between all (subst (λ (l : List Exchange). AreLined drives name l all) stood (lined drives name made before t sound of_table life))
 
-    replied : AreReplied drives home write.text ok_line line.own
-    replied = subst (λ (r : Option (List ℕ)). AreOfReply drives home write.text r line.own) acknowledged.told line.of_line
+    replied : AreReplied drives name write.text ok_line line.own
+    replied = subst (λ (r : Option (List ℕ)). AreOfReply drives name write.text r line.own) acknowledged.told line.of_line
 
     its_told : IsToldAt deed line.own
     its_told =
-        let tells = deed_told drives home made before t sound is_home life write (Write volume number old) deed line.own (λ done acks. acks) acknowledged.asks replied in
+        let tells = deed_told drives name made before t sound of_table life write (Write volume number old) deed line.own (λ done acks. acks) acknowledged.asks replied in
         told_at deed line.own tt (subst (λ (l : List Deed). Contains l deed) (sym tells) (contains_first deed []))
 
     -- where it was told, what came before, and behind
@@ -158,8 +154,8 @@ module _ (drives : Geometry) (home : Home) (made : Image) (before : List Ran) (t
     stands_so = at_among event all line.first line.own line.later line.is its_told.at
 
     -- the volume was there with the block
-    its_range : HasRange (sites_of own) (history_after_all new_history front).databases its_key volume number 1
-    its_range = (may_at (sites_of own) new_history event all front rest stands_so (its_course drives home made before t sound is_home life)).0.1
+    its_range : HasRange own.drives (history_after_all new_history front).databases its_key volume number 1
+    its_range = (may_at own.drives new_history event all front rest stands_so (its_course drives name made before t sound of_table life)).0.1
 
     abbrev its_map : Map
     its_map = its_range.map
@@ -168,7 +164,7 @@ module _ (drives : Geometry) (home : Home) (made : Image) (before : List Ran) (t
     Lies table = IsMapOf own.drives table volume its_map
 
     its_tables : AreLasting own.drives Lies (log_of (history_after_all new_history all).databases its_key)
-    its_tables = range_found drives home made before t sound is_home life front (event ∷ rest) volume number 1 stands_so its_range
+    its_tables = range_found drives name made before t sound of_table life front (event ∷ rest) volume number 1 stands_so its_range
 
     -- what its own line issued behind that is the same value
     own_issue : (at : ℕ) (blocks : List (List ℕ)) → Contains (issued_by its_told.at.later) (Wrote its_key volume at blocks) → deed ≡ Wrote its_key volume at blocks
@@ -179,7 +175,7 @@ module _ (drives : Geometry) (home : Home) (made : Image) (before : List Ran) (t
         let is : issued_by line.own ≡ issued_by a ++ issued_by b = ap issued_by its_told.at.is ∙ all_more begins a (event ∷ b) in
         let here : Contains (issued_by line.own) issue = subst (λ (l : List Deed). Contains l issue) (sym is) (Contains-append_right (issued_by a) (issued_by b) issue has) in
         let may = lets replied.ask ok_line issue (part_contains (issued_by line.own) (issuable replied.ask ok_line) issue replied.begins here) in
-        let asked = asked_at drives home made before t sound is_home life write ok_line (Write volume number old) line.own acknowledged.asks (ok_sated drives home made before t sound is_home life) replied in
+        let asked = asked_at drives name made before t sound of_table life write ok_line (Write volume number old) line.own acknowledged.asks (ok_sated drives name made before t sound of_table life) replied in
         the_only deed issue (subst (λ (a : Ask). Contains (deeds a) issue) asked may.asked)
 
     later_value : (x : List ℕ) → IsIssued its_key volume number x (issued_by rest) → IsOrWasWritten volume number old between x
@@ -190,7 +186,7 @@ module _ (drives : Geometry) (home : Home) (made : Image) (before : List Ran) (t
               let same = own_issue is.at is.blocks now in
               inl (ap significant (one_issue its_key volume number x is.at is.blocks old (sym (ap blocks_of same)) is.among is.value).1)
           | inr later ↦
-              let came = lined_begins drives home between line.later line.of_between issue later in
+              let came = lined_begins drives name between line.later line.of_between issue later in
               let value = one_issue its_key volume number x is.at is.blocks came.2.0 came.2.1 is.among is.value in
               inr (inl (came.0, came.2.0, came.1, subst (λ (n : ℕ). MayBeWritten volume n came.2.0 came.0) value.0 came.2.2, ap significant value.1))
         ]
@@ -199,7 +195,7 @@ module _ (drives : Geometry) (home : Home) (made : Image) (before : List Ran) (t
     log_value : (x : List ℕ) → MayBe ((history_after_all new_history all).volumes its_key volume) number x → IsOrWasWritten volume number old between x
     log_value x may =
         let here : number + 0 ≡ number = omega arith in
-        let lasts = (its drives home made before t sound is_home life).lasts front rest its_told.place its_key volume number (old ∷ []) stands_so in
+        let lasts = (its drives name made before t sound of_table life).lasts front rest its_told.place its_key volume number (old ∷ []) stands_so in
         let so : MayBe ((history_after_all new_history (front ++ event ∷ rest)).volumes its_key volume) (number + 0) x =
         subst (λ (l : List Event). MayBe ((history_after_all new_history l).volumes its_key volume) (number + 0) x) stands_so (subst (λ (n : ℕ). MayBe ((history_after_all new_history all).volumes its_key volume) n x) (sym here) may) in
         elim (lasts.lasts 0 x (omega arith) so) [
@@ -211,20 +207,20 @@ module _ (drives : Geometry) (home : Home) (made : Image) (before : List Ran) (t
     its_blocks = let within = its_range.within in omega (arith, within)
 
     -- a table that a boot may find has it
-    its_named : IsNamed (sites_of own) (history_after_all new_history all).databases its_key volume its_map
+    its_named : IsNamed own.drives (history_after_all new_history all).databases its_key volume its_map
     its_named =
         let some = some_lasts own.drives Lies (log_of (history_after_all new_history all).databases its_key) its_tables in
-        record { site = site_of own; is_site = own_site own; version = some.0; found = some.1; map = some.2 }
+        record { version = some.0; found = some.1; map = some.2 }
 
     read_value : (x : List ℕ) → Among (readings its_map (last t) number) x → IsOrWasWritten volume number old between x
-    read_value x among = log_value x (inl ((its drives home made before t sound is_home life).reads volume its_map its_named number x its_blocks among))
+    read_value x among = log_value x (inl ((its drives name made before t sound of_table life).reads volume its_map its_named number x its_blocks among))
 
   -- An acknowledged write of an earlier run: each table that is found has the volume with the block, which has the write's value, or one that a line behind it may have written.
-  pub write_left : (first between : List Exchange) (write : Exchange) (volume : VolId) (number : ℕ) (old : List ℕ) → exchanges_by home before ≡ first ++ write ∷ between → IsAcknowledged volume number old write
-      → (IsFound (site drives home t) (content drives home t) None → ⊥)
-      × (v : Map) × ((table : Table) → Found drives home t table → IsMapOf own.drives table volume v) × (number < v.blocks) × ((x : List ℕ) → Among (readings v (last t) number) x → IsOrWasWritten volume number old between x)
+  pub write_left : (first between : List Exchange) (write : Exchange) (volume : VolId) (number : ℕ) (old : List ℕ) → exchanges_by name before ≡ first ++ write ∷ between → IsAcknowledged volume number old write
+      → (HasNoTableOn own.drives its_key (last t) → ⊥)
+      × (v : Map) × ((table : Table) → Found drives name t table → IsMapOf own.drives table volume v) × (number < v.blocks) × ((x : List ℕ) → Among (readings v (last t) number) x → IsOrWasWritten volume number old between x)
   write_left first between write volume number old stood acknowledged =
-      let found = lasting_found drives home made before t sound is_home life (Lies first between write volume number old stood acknowledged) (its_tables first between write volume number old stood acknowledged) in (
+      let found = lasting_found drives name made before t sound of_table life (Lies first between write volume number old stood acknowledged) (its_tables first between write volume number old stood acknowledged) in (
         found.0,
         its_map first between write volume number old stood acknowledged,
         found.1,

@@ -3,24 +3,16 @@ use Rattle.std.proofs.Common.{◌≡◌, inl, inr, ℕ, Bool, true, List, [], �
 use Rattle.std.proofs.lemmas.List.Elements.{Contains-append_left, Contains-append_right}
 use Rattle.std.proofs.lemmas.Slice.Eq.{bytes_eq-Decides}
 use Rattle.mdv_base.specs.declared.drive.SliceName.{SliceName}
-use Rattle.mdv_base.specs.declared.mark.Mark.{Mark}
 use Rattle.mdv_base.specs.declared.name.Key.{Key}
 use Rattle.mdv_base.specs.declared.name.VolId.{VolId}
-use Rattle.mdv_engine_law.specs.Home.{key_of, site_of, sites_of}
-use Rattle.mdv_engine_law.specs.Line.{Ask, ToDo, ToSee, asked_by, on_site}
+use Rattle.mdv_engine_law.specs.Line.{Ask, ToDo, ToSee, asked_by, HasNoTableOn}
 use Rattle.mdv_engine_law.specs.Replies.{AcksBy, IsRefusal, ok_line}
 use Rattle.mdv_engine_law.specs.declared.host.Host.{Host}
 use Rattle.mdv_engine_law.proofs.Going.{may_course}
-use Rattle.mdv_engine_law.proofs.Sites.{own_site}
-use Rattle.mdv_home.specs.Home.{IsHome}
-use Rattle.mdv_home.specs.declared.geometry.Home.{Home}
 use Rattle.mdv_home.proofs.Viewing.{view_is_own}
 use Rattle.mdv_map.specs.Maps.{Map}
 use Rattle.mdv_name.specs.declared.geometry.Geometry.{Geometry}
-use Rattle.mdv_replica.specs.Form.{IsNewest}
-use Rattle.mdv_replica.specs.declared.replica.Head.{Head}
-use Rattle.mdv_replica.specs.declared.replica.Slot.{Slot}
-use Rattle.mdv_run_law.specs.Lives.{BlocksAre, Life, Ran}
+use Rattle.mdv_run_law.specs.Lives.{BlocksAre, Ran, IsLife}
 use Rattle.mdv_run_law.specs.Standing.{IsWanting}
 use Rattle.mdv_run_law.proofs.Coming.{no_ok, one_asked}
 use Rattle.mdv_run_law.proofs.Deeds.{change_has, deed_has, part_contains}
@@ -28,25 +20,19 @@ use Rattle.mdv_run_law.proofs.Living.{among_reversed, blocks_hold}
 use Rattle.mdv_run_law.proofs.Made.{empty_is_log, some_told}
 use Rattle.mdv_shelf.specs.Everywhere.{Image}
 use Rattle.mdv_shelf.specs.Tale.{Tale, last}
-use Rattle.mdv_shelf.proofs.Everywhere.{last_image}
 use Rattle.mdv_status.specs.Values.{values_reply}
 use Rattle.mdv_store_law.specs.Log as log
-use Rattle.mdv_store_law.specs.Log.{AreMade, IsNotOlder, Log, Version, changes_of, empty_log, is_firm}
+use Rattle.mdv_store_law.specs.Log.{AreMade, Log, Version, changes_of, empty_log, is_firm, IsLog}
 use Rattle.mdv_store_law.specs.Part.{IsPart}
-use Rattle.mdv_store_law.specs.Site.{HasTable, IsFound, IsReplica, Site}
-use Rattle.mdv_store_law.specs.Standing.{Holds, Stands, nothing, replica}
-use Rattle.mdv_store_law.proofs.Agreeing.{newest_not_older}
-use Rattle.mdv_store_law.proofs.Lawful.{finds_hold}
 use Rattle.mdv_store_law.proofs.Logs.{told_acknowledges, told_firm}
 use Rattle.mdv_store_law.proofs.Machine.{after_more, all_more}
 use Rattle.mdv_store_law.proofs.Orders.{IsToldPart, all_told}
-use Rattle.mdv_store_law.proofs.Shown.{agrees_with, its_table, shown_slot, shown_version}
 use Rattle.mdv_table.specs.Slices.{IsSound}
 use Rattle.mdv_table.specs.declared.change.Change.{Change}
 use Rattle.mdv_table.specs.declared.change.Change.TheVariants.{MakeStripe}
 use Rattle.mdv_table.specs.declared.table.Table.{Table}
 use Rattle.mdv_volumes.specs.Databases.{log_of}
-use Rattle.mdv_volumes.specs.Happening.{HasRange, IsCourse, MayBeFound, MayHappen, deed_of, tells, told_by}
+use Rattle.mdv_volumes.specs.Happening.{HasRange, IsCourse, MayHappen, deed_of, tells, told_by}
 use Rattle.mdv_volumes.specs.History.{Acknowledges, Changed, Created, Deed, Event, History, Reads, Saw, Shows, Wrote, history_after, history_after_all}
 use Rattle.mdv_volumes.specs.HistoryLaws.{database_deeds, log_events_of, new_history}
 use Rattle.mdv_volumes.specs.Tables.{IsMapOf}
@@ -66,45 +52,28 @@ use Rattle.mdv_theorem.proofs.Parting.{cut}
 use Rattle.mdv_theorem.proofs.Places.{at_among, may_at, seen_at, told_at}
 use Rattle.mdv_theorem.proofs.Ranges.{range_lasts}
 use Rattle.mdv_theorem.proofs.Telling.{values_are_none}
+use Rattle.mdv_base.specs.declared.name.Key.TheVariants.{Local}
+use Rattle.mdv_volumes.proofs.Databases.{is_log_of}
+use Rattle.mdv_theorem.proofs.Adopted.{Adopts, IsFoundBy, adopts_found, adopts_geometry, firm_shows}
 
-module _ (drives : Geometry) (home : Home) (t : Tale) where
-  abbrev pub site : Site
-  site = site_of (host drives home)
+module _ (drives : Geometry) (name : List ℕ) (t : Tale) where
+  -- what a boot may adopt there
+  abbrev pub Found : Table → Type 0
+  Found table = Adopts (host drives name).drives (host drives name).site (last t) table
 
-  abbrev pub key : Key
-  key = key_of (host drives home)
-
-  abbrev pub content : ℕ → List ℕ
-  content = on_site site (last t)
-
-  -- what a boot finds there
-  pub record Found (table : Table) : Type 0 where
-    pub head : Head
-    pub slot : Slot
-    pub mark : Mark
-    pub its_replica : IsReplica site content head
-    pub newest : IsNewest head slot
-    pub has : HasTable site content head slot mark table
-
-  -- it finds something, and whatever it finds is so
+  -- some replica shows a table, and whatever a boot may adopt is so
   abbrev pub IsFoundWith : (Table → Type 0) → Type 0
-  IsFoundWith P = (IsFound site content None → ⊥) × ((table : Table) → Found table → P table)
+  IsFoundWith P = (HasNoTableOn (host drives name).drives (Local name) (last t) → ⊥) × ((table : Table) → Found table → P table)
 
-module _ (drives : Geometry) (home : Home) (made : Image) (before : List Ran) (t : Tale) (sound : IsSound drives) (is_home : IsHome drives home) (life : Life drives made before t) where
+module _ (drives : Geometry) (name : List ℕ) (made : Image) (before : List Ran) (t : Tale) (sound : IsSound drives) (of_table : Contains drives.hosts name) (life : IsLife drives made before t) where
   abbrev own : Host
-  own = host drives home
-
-  abbrev place : Site
-  place = site drives home t
+  own = host drives name
 
   abbrev own_key : Key
-  own_key = key drives home t
+  own_key = Local name
 
-  abbrev held : ℕ → List ℕ
-  held = content drives home t
-
-  pub its : BlocksAre drives home made before t
-  its = blocks_hold drives home made before t is_home (record { sound = sound; life = life; fair = tt })
+  pub its : BlocksAre drives name made before t
+  its = blocks_hold drives name made before t of_table life
 
   abbrev pub es : List Event
   es = its.history.es
@@ -115,56 +84,38 @@ module _ (drives : Geometry) (home : Home) (made : Image) (before : List Ran) (t
   abbrev pub database : Log
   database = log_of now.databases own_key
 
-  pub its_course : IsCourse (sites_of own) new_history es
+  pub its_course : IsCourse own.drives new_history es
   its_course = may_course own new_history es its.history.course
 
-  pub lined : AreLined drives home (exchanges_by home before) es
-  lined = runs_lined drives home before es its.history.come
+  pub lined : AreLined drives name (exchanges_by name before) es
+  lined = runs_lined drives name before es its.history.come
 
   its_sound : IsSound own.drives
-  its_sound = view_is_own.sound drives home.host sound
+  its_sound = view_is_own.sound drives name sound
 
-  stands : Stands place database t
-  stands = its.history.stands.databases own_key place (own_site own)
+  pub is_log : IsLog own.drives database
+  is_log = is_log_of own.drives now.databases t its.history.stands.databases own_key
 
-  holds : Holds place database held
-  holds = stands.covers (last t) (last_image t)
-
-  firm_found : is_firm database ≡ true → IsFound place held None → ⊥
-  firm_found firm none = elim holds [
-    | nothing loose found ↦ absurd (cc (firm, loose))
-    | replica head agrees ↦ none head agrees.replica agrees.shown
-  ]
+  firm_found : is_firm database ≡ true → HasNoTableOn own.drives own_key (last t) → ⊥
+  firm_found firm none = firm_shows own now t its.history.stands firm (last t) (λ drive block. refl) none
 
   -- a table that is found is one that a boot may find
-  pub record FoundIs (table : Table) : Type 0 where
-    pub version : Version
-    pub found : MayBeFound database.family version
-    pub is_table : version.table ≡ table
+  pub found_is : (table : Table) → Found drives name t table → IsFoundBy own.drives database table
+  found_is table is = adopts_found own its_sound refl now t its.history.stands (last t) (λ drive block. refl) table is
 
-  pub found_is : (table : Table) → Found drives home t table → FoundIs table
-  found_is table is =
-      let agrees = agrees_with place database held is.head holds is.its_replica (shown_slot is.head is.slot is.mark is.has.bytes is.has.gate) in
-      let found = shown_version place database held is.head is.slot is.mark table is.has agrees in
-      record {
-        version = found.version;
-        found = (found.one_of, subst (λ (m : Mark). IsNotOlder m database.family) (sym found.mark) (newest_not_older place database held is.head agrees is.slot is.mark is.has.bytes is.has.gate is.newest));
-        is_table = its_table place database held is.head is.slot is.mark table is.has its_sound agrees found;
-      }
-
-  pub lasting_found : (P : Table → Type 0) → AreLasting own.drives P database → IsFoundWith drives home t P
-  lasting_found P are = (firm_found are.firm, λ table found. (let is = found_is table found in subst P is.is_table (are.all is.version is.found)))
+  pub lasting_found : (P : Table → Type 0) → AreLasting own.drives P database → IsFoundWith drives name t P
+  lasting_found P are = (firm_found are.firm, λ table found. (let is = found_is table found in subst P is.is_table (are.all is.version (is.one_of, is.holds.not_older))))
 
   -- a volume that was there at some event, where it lay then
-  pub range_found : (first later : List Event) (volume : VolId) (at count : ℕ) → es ≡ first ++ later → (range : HasRange (sites_of own) (history_after_all new_history first).databases own_key volume at count)
+  pub range_found : (first later : List Event) (volume : VolId) (at count : ℕ) → es ≡ first ++ later → (range : HasRange own.drives (history_after_all new_history first).databases own_key volume at count)
       → AreLasting own.drives (λ table. IsMapOf own.drives table volume range.map) database
   range_found first later volume at count is range =
-      let course = subst (IsCourse (sites_of own) new_history) is its_course in
+      let course = subst (IsCourse own.drives new_history) is its_course in
       let there = history_after_all new_history first in
-      let logs = still_logs (sites_of own) new_history first (course_front history_after (MayHappen (sites_of own)) new_history first later course) (λ other at has. empty_is_log at.drives) in
+      let logs = still_logs own.drives new_history first (course_front history_after (MayHappen own.drives) new_history first later course) (λ k. empty_is_log own.drives) in
       let same : now ≡ history_after_all there later = ap (history_after_all new_history) is ∙ after_more history_after new_history first later in
       subst (λ (h : History). AreLasting own.drives (λ table. IsMapOf own.drives table volume range.map) (log_of h.databases own_key)) (sym same)
-      (range_lasts own there later volume at count logs range (course_rest history_after (MayHappen (sites_of own)) new_history first later course))
+      (range_lasts own.drives own_key there later volume at count logs range (course_rest history_after (MayHappen own.drives) new_history first later course))
 
   -- a line that was answered, with its events
   pub record IsRepliedAt (one : Exchange) (reply : List ℕ) : Type 0 where
@@ -172,16 +123,16 @@ module _ (drives : Geometry) (home : Home) (made : Image) (before : List Ran) (t
     pub own : List Event
     pub later : List Event
     pub is : es ≡ first ++ (own ++ later)
-    pub replied : AreReplied drives home one.text reply own
+    pub replied : AreReplied drives name one.text reply own
 
-  pub replied_at : (one : Exchange) (reply : List ℕ) → Contains (exchanges_by home before) one → IsTold one reply → IsRepliedAt one reply
+  pub replied_at : (one : Exchange) (reply : List ℕ) → Contains (exchanges_by name before) one → IsTold one reply → IsRepliedAt one reply
   replied_at one reply has told =
-      let parts = cut (exchanges_by home before) one has in
-      let at = lined_at drives home parts.front one parts.rest es (subst (λ (l : List Exchange). AreLined drives home l es) parts.is lined) in
-      record { first = at.first; own = at.own; later = at.later; is = at.is; replied = subst (λ (r : Option (List ℕ)). AreOfReply drives home one.text r at.own) told at.of_line }
+      let parts = cut (exchanges_by name before) one has in
+      let at = lined_at drives name parts.front one parts.rest es (subst (λ (l : List Exchange). AreLined drives name l es) parts.is lined) in
+      record { first = at.first; own = at.own; later = at.later; is = at.is; replied = subst (λ (r : Option (List ℕ)). AreOfReply drives name one.text r at.own) told at.of_line }
 
   -- what it asked
-  pub asked_at : (one : Exchange) (reply : List ℕ) (spelled : Command) (here : List Event) → Asks one spelled → (IsWanting reply → ⊥) → (are : AreReplied drives home one.text reply here) → are.ask ≡ asked_by own spelled
+  pub asked_at : (one : Exchange) (reply : List ℕ) (spelled : Command) (here : List Event) → Asks one spelled → (IsWanting reply → ⊥) → (are : AreReplied drives name one.text reply here) → are.ask ≡ asked_by own spelled
   asked_at one reply spelled here asks sated are = elim are.asks [
     | inl is ↦ one_asked own one.text are.ask (asked_by own spelled) is (inr (Exec spelled, asks, refl))
     | inr none ↦ absurd (sated none.1)
@@ -195,7 +146,7 @@ module _ (drives : Geometry) (home : Home) (made : Image) (before : List Ran) (t
   IsAckedAs spelled deed = (done : List Deed) → AcksBy (asked_by own spelled) ok_line done → AcksBy (ToDo deed) ok_line done
 
   -- `ok` told the deed that it asked
-  pub deed_told : (one : Exchange) (spelled : Command) (deed : Deed) (here : List Event) → IsAckedAs spelled deed → Asks one spelled → AreReplied drives home one.text ok_line here → told_by here ≡ deed ∷ []
+  pub deed_told : (one : Exchange) (spelled : Command) (deed : Deed) (here : List Event) → IsAckedAs spelled deed → Asks one spelled → AreReplied drives name one.text ok_line here → told_by here ≡ deed ∷ []
   deed_told one spelled deed here is asks are =
       let acks : AcksBy (ToDo deed) ok_line are.done = is are.done (subst (λ (a : Ask). AcksBy a ok_line are.done) (asked_at one ok_line spelled here asks ok_sated are) are.acks) in
       are.tells ∙ acks ∙ ap (λ (ok : Bool). if ok then deed ∷ [] else []) ((bytes_eq-Decides ok_line ok_line).1 refl)
@@ -204,12 +155,12 @@ module _ (drives : Geometry) (home : Home) (made : Image) (before : List Ran) (t
   HasMap volume table = (v : Map) × IsMapOf own.drives table volume v
 
   -- where a range of its blocks was there, the volume is found
-  volume_found : (first later : List Event) (volume : VolId) (at count : ℕ) → es ≡ first ++ later → HasRange (sites_of own) (history_after_all new_history first).databases own_key volume at count → IsFoundWith drives home t (HasMap volume)
+  volume_found : (first later : List Event) (volume : VolId) (at count : ℕ) → es ≡ first ++ later → HasRange own.drives (history_after_all new_history first).databases own_key volume at count → IsFoundWith drives name t (HasMap volume)
   volume_found first later volume at count is range =
       let found = lasting_found (λ table. IsMapOf own.drives table volume range.map) (range_found first later volume at count is range) in
       (found.0, λ table is_found. (range.map, found.1 table is_found))
 
-  write_found : (one : Exchange) (volume : VolId) (at : ℕ) (block : List ℕ) → Contains (exchanges_by home before) one → Asks one (command.Write volume at block) → IsTold one ok_line → IsFoundWith drives home t (HasMap volume)
+  write_found : (one : Exchange) (volume : VolId) (at : ℕ) (block : List ℕ) → Contains (exchanges_by name before) one → Asks one (command.Write volume at block) → IsTold one ok_line → IsFoundWith drives name t (HasMap volume)
   write_found one volume at block has asks told =
       let deed = Wrote own_key volume at (block ∷ []) in
       let answered = replied_at one ok_line has told in
@@ -219,11 +170,11 @@ module _ (drives : Geometry) (home : Home) (made : Image) (before : List Ran) (t
       let first = answered.first ++ its_told.at.first in
       let later = its_told.at.later ++ answered.later in
       let is = at_among event es answered.first answered.own answered.later answered.is its_told.at in
-      let may = may_at (sites_of own) new_history event es first later is its_course in
+      let may = may_at own.drives new_history event es first later is its_course in
       volume_found first (event ∷ later) volume at 1 is may.0.1
 
   -- a read that was told
-  read_found : (one : Exchange) (volume : VolId) (at count : ℕ) (reply : List ℕ) → Contains (exchanges_by home before) one → Asks one (command.Read volume at count) → IsTold one reply → (IsWanting reply → ⊥) → (IsRefusal reply → ⊥) → IsFoundWith drives home t (HasMap volume)
+  read_found : (one : Exchange) (volume : VolId) (at count : ℕ) (reply : List ℕ) → Contains (exchanges_by name before) one → Asks one (command.Read volume at count) → IsTold one reply → (IsWanting reply → ⊥) → (IsRefusal reply → ⊥) → IsFoundWith drives name t (HasMap volume)
   read_found one volume at count reply has asks told sated granted =
       let answered = replied_at one reply has told in
       let are = answered.replied in
@@ -237,16 +188,16 @@ module _ (drives : Geometry) (home : Home) (made : Image) (before : List Ran) (t
             (at_among (Shows its_told.place own_key volume at values.blocks) es answered.first answered.own answered.later answered.is its_told.at)
       ]
     where
-      seen_found : (beside : VolId) (from : ℕ) (blocks : List (List ℕ)) (spot : ℕ) (first later : List Event) → es ≡ first ++ Shows spot own_key beside from blocks ∷ later → IsFoundWith drives home t (HasMap beside)
+      seen_found : (beside : VolId) (from : ℕ) (blocks : List (List ℕ)) (spot : ℕ) (first later : List Event) → es ≡ first ++ Shows spot own_key beside from blocks ∷ later → IsFoundWith drives name t (HasMap beside)
       seen_found beside from blocks spot first later is =
-          let may = may_at (sites_of own) new_history (Shows spot own_key beside from blocks) es first later is its_course in
+          let may = may_at own.drives new_history (Shows spot own_key beside from blocks) es first later is its_course in
           elim (seen_at own_key beside from blocks new_history first (spot, may.0.0, may.0.1)) [
             | inl none ↦ absurd (never_in (Saw own_key beside from blocks) none)
             | inr at ↦
                 let event = Reads own_key beside from blocks in
                 let more = Shows spot own_key beside from blocks ∷ later in
                 let all = at_among event es [] first more is at in
-                let could = may_at (sites_of own) new_history event es at.first (at.later ++ more) all its_course in
+                let could = may_at own.drives new_history event es at.first (at.later ++ more) all its_course in
                 volume_found at.first (event ∷ (at.later ++ more)) beside from (length blocks) all could.0.0
           ]
 
@@ -255,10 +206,10 @@ module _ (drives : Geometry) (home : Home) (made : Image) (before : List Ran) (t
   events = log_events_of own_key es
 
   pub its_log : database ≡ log.log_after_all empty_log events
-  its_log = databases_live.is own_key (sites_of own) new_history es its_course
+  its_log = databases_live.is own_key own.drives new_history es its_course
 
   pub log_course : log.IsCourse own.drives empty_log events
-  log_course = databases_live.may own_key place (sites_of own) new_history es (own_site own) its_course
+  log_course = databases_live.may own_key own.drives new_history es its_course
 
   -- a table that is found was made by changes, that one among them
   abbrev HasChange : Change → Table → Type 0
@@ -274,13 +225,15 @@ module _ (drives : Geometry) (home : Home) (made : Image) (before : List Ran) (t
   log_acknowledges : (asked : Option Change) → Contains (log.told_by events) asked → (later : List Change) × ((log.log_after_all empty_log events).acknowledged ≡ Some later)
   log_acknowledges asked has = told_acknowledges own.drives empty_log events (empty_is_log own.drives) log_course (some_told (log.told_by events) asked has)
 
-  -- and a boot finds the database
-  told_found : (asked : Option Change) → Contains (log.told_by events) asked → IsFound place held None → ⊥
-  told_found asked has =
-      let later = log_acknowledges asked has in
-      firm_found (told_firm own.drives database later.0 stands.is_log (ap (λ (lg : Log). lg.acknowledged) its_log ∙ later.1))
+  -- so a table of it was written
+  told_written : (asked : Option Change) → Contains (log.told_by events) asked → is_firm database ≡ true
+  told_written asked has = (let later = log_acknowledges asked has in told_firm own.drives database later.0 is_log (ap (λ (lg : Log). lg.acknowledged) its_log ∙ later.1))
 
-  change_found : (change : Change) → Contains (told_by es) (Changed own_key change) → IsFoundWith drives home t (HasChange change)
+  -- and a boot finds the database
+  told_found : (asked : Option Change) → Contains (log.told_by events) asked → HasNoTableOn own.drives own_key (last t) → ⊥
+  told_found asked has = firm_found (told_written asked has)
+
+  change_found : (change : Change) → Contains (told_by es) (Changed own_key change) → IsFoundWith drives name t (HasChange change)
   change_found change told =
       let has : Contains (log.told_by events) (Some change) = log_told (Some change) told in
       let later = log_acknowledges (Some change) has in
@@ -289,13 +242,16 @@ module _ (drives : Geometry) (home : Home) (made : Image) (before : List Ran) (t
       let among = among_reversed later.0 change (part_contains (changes_of (log.told_by events)) (reverse later.0) change part (change_has (log.told_by events) change has)) in (
         told_found (Some change) has,
         λ table is. (
-            let found = finds_hold place database held is.head is.slot is.mark table its_sound stands.is_log holds is.its_replica is.newest is.has in
-            let extends = found.told later.0 same in
-            (found.version.changes, found.made, subst (λ (l : List Change). Contains l change) (sym extends.is) (Contains-append_right extends.more later.0 change among))),
+            let found = found_is table is in
+            let extends = found.holds.told later.0 same in (
+              found.version.changes,
+              subst (AreMade own.drives found.version.changes) found.is_table found.holds.made,
+              subst (λ (l : List Change). Contains l change) (sym extends.is) (Contains-append_right extends.more later.0 change among),
+            )),
       )
 
   -- a deed that a line of these runs asked, and was told `ok` for, was told
-  deed_among : (one : Exchange) (spelled : Command) (deed : Deed) → IsAckedAs spelled deed → Contains (exchanges_by home before) one → Asks one spelled → IsTold one ok_line → Contains (told_by es) deed
+  deed_among : (one : Exchange) (spelled : Command) (deed : Deed) → IsAckedAs spelled deed → Contains (exchanges_by name before) one → Asks one spelled → IsTold one ok_line → Contains (told_by es) deed
   deed_among one spelled deed is has asks told =
       let answered = replied_at one ok_line has told in
       let tells_it = deed_told one spelled deed answered.own is asks answered.replied in
@@ -304,27 +260,30 @@ module _ (drives : Geometry) (home : Home) (made : Image) (before : List Ran) (t
       subst (λ (l : List Deed). Contains l deed) (sym (ap told_by answered.is ∙ all_more tells answered.first (answered.own ++ answered.later)))
       (Contains-append_right (told_by answered.first) (told_by (answered.own ++ answered.later)) deed behind)
 
-  -- A database whose creation was told is found.
-  pub created_found : (one : Exchange) (slice : SliceName) (force : Bool) (blocks : ℕ) → Contains (exchanges_by home before) one → Asks one (command.Create slice force blocks) → IsTold one ok_line → IsFound place held None → ⊥
-  created_found one slice force blocks has asks told = told_found None (log_told None (deed_among one (command.Create slice force blocks) (Created own_key) (λ done acks. acks) has asks told))
+  -- A database whose creation was told is found, for a table of it was written.
+  pub created_written : (one : Exchange) (slices : List SliceName) (force : Bool) (count blocks : ℕ) → Contains (exchanges_by name before) one → Asks one (command.Create slices force count blocks) → IsTold one ok_line → is_firm database ≡ true
+  created_written one slices force count blocks has asks told = told_written None (log_told None (deed_among one (command.Create slices force count blocks) (Created own_key) (λ done acks. acks) has asks told))
+
+  pub created_found : (one : Exchange) (slices : List SliceName) (force : Bool) (count blocks : ℕ) → Contains (exchanges_by name before) one → Asks one (command.Create slices force count blocks) → IsTold one ok_line → HasNoTableOn own.drives own_key (last t) → ⊥
+  created_found one slices force count blocks has asks told = firm_found (created_written one slices force count blocks has asks told)
 
   -- So is a volume whose making was told, on the slice that was named.
-  pub stripe_found : (one : Exchange) (volume : VolId) (slice : SliceName) → Contains (exchanges_by home before) one → Asks one (command.MakeStripe volume slice) → IsTold one ok_line → IsFoundWith drives home t (HasStripe own.drives volume slice)
+  pub stripe_found : (one : Exchange) (volume : VolId) (slice : SliceName) → Contains (exchanges_by name before) one → Asks one (command.MakeStripe volume slice) → IsTold one ok_line → IsFoundWith drives name t (HasStripe own.drives volume slice)
   stripe_found one volume slice has asks told =
       let change = MakeStripe volume slice in
       let found = change_found change (deed_among one (command.MakeStripe volume slice) (Changed own_key change) (λ done acks. acks) has asks told) in
       (found.0, λ table is. (let made = found.1 table is in made_has own.drives made.0 table volume slice made.1 made.2))
 
-  made_found : (one : Exchange) (volume : VolId) (slice : SliceName) → Contains (exchanges_by home before) one → Asks one (command.MakeStripe volume slice) → IsTold one ok_line → IsFoundWith drives home t (HasMap volume)
+  made_found : (one : Exchange) (volume : VolId) (slice : SliceName) → Contains (exchanges_by name before) one → Asks one (command.MakeStripe volume slice) → IsTold one ok_line → IsFoundWith drives name t (HasMap volume)
   made_found one volume slice has asks told =
       let found = stripe_found one volume slice has asks told in
-      (found.0, λ table is. tables_lie.some own.drives table (stripe own.drives volume slice) is.has.is.of_geometry (found.1 table is))
+      (found.0, λ table is. tables_lie.some own.drives table (stripe own.drives volume slice) (adopts_geometry own.drives own.site (last t) table its_sound is) (found.1 table is))
 
   -- A volume that was shown to be there is found: there is a database, and each table that may be found of it has the volume.
-  pub shown_found : (one : Exchange) (volume : VolId) (spelled : Command) → Contains (exchanges_by home before) one → Asks one spelled → IsOn volume spelled → IsGranted one spelled → IsFoundWith drives home t (HasMap volume)
-  shown_found one volume (command.Create slice force blocks) has asks on granted = absurd on
-  shown_found one volume (command.MakeStripe other slice) has asks on granted = subst (λ (n : VolId). IsFoundWith drives home t (HasMap n)) on (made_found one other slice has asks granted)
+  pub shown_found : (one : Exchange) (volume : VolId) (spelled : Command) → Contains (exchanges_by name before) one → Asks one spelled → IsOn volume spelled → IsGranted one spelled → IsFoundWith drives name t (HasMap volume)
+  shown_found one volume (command.Create slices force count blocks) has asks on granted = absurd on
+  shown_found one volume (command.MakeStripe other slice) has asks on granted = subst (λ (n : VolId). IsFoundWith drives name t (HasMap n)) on (made_found one other slice has asks granted)
   shown_found one volume (command.Read other at count) has asks on granted =
-      subst (λ (n : VolId). IsFoundWith drives home t (HasMap n)) on (read_found one other at count (values_reply granted.0 granted.1) has asks granted.2 (values_want granted.0 granted.1) (λ is. values_are_none granted.0 granted.1 is.0 is.1))
-  shown_found one volume (command.Write other at block) has asks on granted = subst (λ (n : VolId). IsFoundWith drives home t (HasMap n)) on (write_found one other at block has asks granted)
+      subst (λ (n : VolId). IsFoundWith drives name t (HasMap n)) on (read_found one other at count (values_reply granted.0 granted.1) has asks granted.2 (values_want granted.0 granted.1) (λ is. values_are_none granted.0 granted.1 is.0 is.1))
+  shown_found one volume (command.Write other at block) has asks on granted = subst (λ (n : VolId). IsFoundWith drives name t (HasMap n)) on (write_found one other at block has asks granted)
   shown_found one volume (command.Print names) has asks on granted = absurd on

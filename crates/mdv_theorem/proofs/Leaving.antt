@@ -1,11 +1,10 @@
 -- What a line leaves in a block of a volume, behind a crash too: what was left there before, or what the line may have written.
-use Rattle.std.proofs.Common.{◌≡◌, ◌⊎◌, ⊎_elim, inl, inr, ℕ, ◌+◌, ◌-◌, ◌<◌, false, true, List, [], ◌∷◌, ◌++◌, slice_index_or, Contains, Some, None, refl, sym, ◌∙◌, ap, subst, arith}
+use Rattle.std.proofs.Common.{◌≡◌, ◌⊎◌, ⊎_elim, inl, inr, ℕ, ◌+◌, ◌-◌, ◌<◌, false, true, List, [], ◌∷◌, ◌++◌, slice_index_or, Contains, Some, refl, sym, ◌∙◌, ap, subst, arith}
 use Rattle.std.proofs.lemmas.Bool.{cases_eq}
 use Rattle.std.proofs.lemmas.List.Elements.{Contains-append_left, Contains-append_right}
 use Rattle.mdv_base.specs.declared.name.VolId.{VolId}
 use Rattle.mdv_base.specs.declared.refusal.Refusal.{Refusal}
 use Rattle.mdv_base.specs.declared.refusal.Refusal.TheVariants.{IoFault}
-use Rattle.mdv_engine_law.specs.Home.{site_of}
 use Rattle.mdv_engine_law.specs.Line.{AreBlocksAt, Memory, asked_by}
 use Rattle.mdv_engine_law.specs.Replies.{IsPlainAnswer, ok_line, refusal_line, text_of}
 use Rattle.mdv_engine_law.specs.Standing.{ArePutBy, LineWrites, WritesOnly}
@@ -14,18 +13,15 @@ use Rattle.mdv_engine_law.specs.declared.answer.Answer.TheVariants.{Said, Over}
 use Rattle.mdv_engine_law.specs.declared.answer.Outcome.TheVariants as outcome
 use Rattle.mdv_engine_law.specs.declared.host.Host.{Host}
 use Rattle.mdv_engine_law.proofs.Beside.{lies_plain}
-use Rattle.mdv_home.specs.Home.{IsHome}
-use Rattle.mdv_home.specs.declared.geometry.Home.{Home}
 use Rattle.mdv_map.specs.Maps.{DriveBlock, run_map}
 use Rattle.mdv_name.specs.declared.geometry.Geometry.{Geometry}
 use Rattle.mdv_run_law.specs.Lives.{host_of}
 use Rattle.mdv_run_law.specs.Run.{IsQuiet, IsSaid, TextWrites}
 use Rattle.mdv_run_law.proofs.Extents.{lies_beside, one_place}
-use Rattle.mdv_run_law.proofs.Keeping.{put_at}
+use Rattle.mdv_run_law.proofs.Placing.{put_at}
 use Rattle.mdv_shelf.specs.Area.{IsKept, KeptOutside, nowhere}
 use Rattle.mdv_shelf.specs.Tale.{MayLeave, Tale, covers}
 use Rattle.mdv_shelf.proofs.Blocks.{both_ways}
-use Rattle.mdv_store_law.specs.Site.{Newest, area_of}
 use Rattle.mdv_table.specs.Slices.{IsSound}
 use Rattle.mdv_table.specs.Table.{IsPlanOf}
 use Rattle.mdv_table.specs.declared.table.Table.{Table}
@@ -38,11 +34,13 @@ use Rattle.mdv_words.specs.declared.command.Command.{Command}
 use Rattle.mdv_words.specs.declared.command.Command.TheVariants.{Create, Print, Read, Write}
 use Rattle.mdv_words.specs.declared.command.Command.TheVariants as command
 use Rattle.mdv_theorem.specs.Exchanges.{Asks, Exchange, IsTold, MayBeWritten, MayHaveBegun}
-use Rattle.mdv_theorem.proofs.Agreeing.{own_sound, sees_home}
+use Rattle.mdv_theorem.proofs.Agreeing.{own_sound}
 use Rattle.mdv_theorem.proofs.Steps.{told_once}
 use Rattle.mdv_theorem.proofs.Tables.{Grows}
 use Rattle.mdv_theorem.proofs.Telling.{entries_are_none, is_fault, ok_is_none, one_number, quiet_is_none, values_are_none}
-use Rattle.mdv_engine_law.proofs.Within.{opened_in_place, replica_in_place}
+use Rattle.mdv_store.specs.Opened.{Opened}
+use Rattle.mdv_engine_law.specs.Hosts.{opened_area}
+use Rattle.mdv_shown.specs.Site.{site_area}
 
 -- a refusal for another cause than a failed call, or that one
 quiet_or_fault : (r : Refusal) → IsQuiet (Said (outcome.Refused r)) ⊎ (r ≡ IoFault)
@@ -79,9 +77,9 @@ module _ (volume : VolId) (number : ℕ) where
     pub kept_leaves : (es : List Exchange) (t u : Tale) → IsKept t u drive block → Leaves drive block es t u
     kept_leaves es t u kept x may = inl (kept.left x may)
 
-module _ (drives : Geometry) (home : Home) where
+module _ (drives : Geometry) (name : List ℕ) where
   abbrev pub own : Host
-  own = host_of drives home 0
+  own = host_of drives name 0
 
   -- where a block of a volume of a table lies
   pub record Spot (table : Table) (volume : VolId) (number : ℕ) : Type 0 where
@@ -92,7 +90,11 @@ module _ (drives : Geometry) (home : Home) where
     pub plan : IsPlanOf own.drives table.plan
     pub lies : IsMapOf own.drives table volume (run_map drive first count)
 
-  module _ (sound : IsSound drives) (is_home : IsHome drives home) (final : Table) (volume : VolId) (number : ℕ) (spot : Spot final volume number) where
+  -- what is open has no volume but those of the table, and its places lie where a boot looks
+  abbrev pub IsInto : Table → Memory → Type 0
+  IsInto final memory = ((o : Opened) → memory.opened ≡ Some o → Grows own.drives o.table final) × ((drive block : ℕ) → site_area own.site drive block ≡ false → opened_area memory.opened drive block ≡ false)
+
+  module _ (sound : IsSound drives) (of_table : Contains drives.hosts name) (final : Table) (volume : VolId) (number : ℕ) (spot : Spot final volume number) where
     abbrev block : ℕ
     block = spot.first + number
 
@@ -100,16 +102,16 @@ module _ (drives : Geometry) (home : Home) where
     AreLeft es t u = Leaves volume number spot.drive block es t u
 
     its_sound : IsSound own.drives
-    its_sound = own_sound drives home 0 sound
+    its_sound = own_sound drives name 0 sound
 
-    -- it is none of the replica's
-    pub spot_out : area_of (site_of own) spot.drive block ≡ false
+    -- it is none of a replica's
+    pub spot_out : site_area own.site spot.drive block ≡ false
     spot_out =
         let within = spot.within in
-        lies_beside own (sees_home drives home 0 is_home) spot.drive spot.first spot.count (lies_plain own its_sound final spot.plan volume spot.drive spot.first spot.count spot.lies) block (omega arith) (omega (arith, within))
+        lies_beside own its_sound refl spot.drive spot.first spot.count (lies_plain own its_sound final spot.plan volume spot.drive spot.first spot.count spot.lies) block (omega arith) (omega (arith, within))
 
-    pub home_leaves : (es : List Exchange) (t u : Tale) → KeptOutside (area_of (site_of own)) t u → AreLeft es t u
-    home_leaves es t u kept = kept_leaves volume number spot.drive block es t u (kept spot.drive block spot_out)
+    pub site_leaves : (es : List Exchange) (t u : Tale) → KeptOutside (site_area own.site) t u → AreLeft es t u
+    site_leaves es t u kept = kept_leaves volume number spot.drive block es t u (kept spot.drive block spot_out)
 
     pub none_leaves : (es : List Exchange) (t u : Tale) → KeptOutside nowhere t u → AreLeft es t u
     none_leaves es t u kept = kept_leaves volume number spot.drive block es t u (kept spot.drive block refl)
@@ -123,7 +125,7 @@ module _ (drives : Geometry) (home : Home) where
 
       never_other : (volume ≡ other → ⊥) → ⊥
       never_other differ =
-          let laid = tables_lie.laid (λ key. None) own.drives final its_sound (λ key site name at never. absurd (cc (never))) spot.plan in
+          let laid = tables_lie.laid own.drives final its_sound spot.plan in
           let within = spot.within in
           laid.apart volume other (run_map spot.drive spot.first spot.count) (run_map on start blocks) differ spot.lies its number at spot.drive block within in_it (inl (refl, refl)) (inl (on_drive, is_there))
 
@@ -134,9 +136,9 @@ module _ (drives : Geometry) (home : Home) where
       ]
 
     -- the table that is open has no volume but those of that one
-    module _ (fresh : ℕ) (memory : Memory) (into : (newest : Newest) → memory.opened ≡ Some newest → Grows own.drives newest.table final) (one : Exchange) (t u : Tale) where
+    module _ (fresh : ℕ) (memory : Memory) (into : IsInto final memory) (one : Exchange) (t u : Tale) where
       abbrev its_host : Host
-      its_host = host_of drives home fresh
+      its_host = host_of drives name fresh
 
       put_leaves : (other : VolId) (at : ℕ) (new : List ℕ) → Asks one (Write other at new) → MayHaveBegun one → (place : DriveBlock) → AreBlocksAt its_host memory other at 1 place → ArePutBy place (new ∷ []) t u → AreLeft (one ∷ []) t u
       put_leaves other at new asks begun place there put = elim (both_ways (covers place.drive place.block 1 spot.drive block)) [
@@ -146,7 +148,7 @@ module _ (drives : Geometry) (home : Home) where
             let starts = there.block_is in
             let bound = there.within in
             let is_there : block ≡ there.first + at = omega (arith, from, starts) in
-            let its = into there.lies.0 there.lies.1 other (run_map place.drive there.first there.blocks) there.lies.2 in
+            let its = into.0 there.lies.0 there.lies.1 other (run_map place.drive there.first there.blocks) there.lies.2 in
             let same = same_volume other at place.drive there.first there.blocks its (omega (arith, bound)) to.0 is_there in
             let number_is = same_number other at place.drive there.first there.blocks its (omega (arith, bound)) to.0 is_there same in
             let is = put.inside block (subst (λ (d : ℕ). covers place.drive place.block 1 d block ≡ true) to.0 here) in
@@ -165,15 +167,15 @@ module _ (drives : Geometry) (home : Home) where
         contains_one e = contains_first e []
 
       pub command_leaves : (spelled : Command) → Asks one spelled → MayHaveBegun one → WritesOnly its_host (asked_by its_host spelled) memory t u → AreLeft (one ∷ []) t u
-      command_leaves (Create slice force blocks) asks begun wrote = home_leaves (one ∷ []) t u (replica_in_place (site_of own) t u blocks wrote)
-      command_leaves (command.MakeStripe other slice) asks begun wrote = home_leaves (one ∷ []) t u (opened_in_place (site_of own) t u memory.opened wrote)
+      command_leaves (Create slices force count blocks) asks begun wrote = site_leaves (one ∷ []) t u wrote.0
+      command_leaves (command.MakeStripe other slice) asks begun wrote = site_leaves (one ∷ []) t u (λ d b out. wrote d b (into.1 d b out))
       command_leaves (Read other at count) asks begun wrote = none_leaves (one ∷ []) t u wrote
       command_leaves (Write other at new) asks begun (inl kept) = none_leaves (one ∷ []) t u kept
       command_leaves (Write other at new) asks begun (inr (place, there, put)) = put_leaves other at new asks begun place there put
       command_leaves (Print names) asks begun wrote = none_leaves (one ∷ []) t u wrote
 
       spelled_leaves : (spelled : Line) → IsLine one.text spelled → MayHaveBegun one → LineWrites its_host spelled memory t u → AreLeft (one ∷ []) t u
-      spelled_leaves words.Boot is begun wrote = home_leaves (one ∷ []) t u wrote
+      spelled_leaves words.Boot is begun wrote = site_leaves (one ∷ []) t u wrote
       spelled_leaves (words.Tab lines) is begun wrote = none_leaves (one ∷ []) t u wrote
       spelled_leaves (words.Exec asked) is begun wrote = command_leaves asked is begun wrote
 

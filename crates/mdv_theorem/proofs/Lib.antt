@@ -2,6 +2,11 @@ mod Telling
 mod Living
 mod Lines
 mod Lined
+mod Owned
+mod Sure
+mod Adopted
+mod Sharing
+mod Counting
 mod Places
 mod Ranges
 mod Given
@@ -18,7 +23,11 @@ mod Contents
 mod Holding
 mod Aside
 mod Readable
+mod Seeing
 mod Staying
+mod Creating
+mod Founded
+mod Enduring
 mod Databases
 mod Reading
 mod Lying
@@ -26,7 +35,9 @@ mod Agreeing
 mod Leaving
 mod Left
 mod Over
+mod Losing
 mod Ending
+mod Alone
 mod Answered
 mod Lasting
 mod Moments

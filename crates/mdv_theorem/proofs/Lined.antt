@@ -4,11 +4,11 @@ use Rattle.std.proofs.lemmas.List.{append-nil}
 use Rattle.std.proofs.lemmas.List.Elements.{Contains-append_cases}
 use Rattle.std.proofs.lemmas.Slice.Eq.{bytes_eq-Decides}
 use Rattle.std.specs.Str.{bytes_eq}
+use Rattle.mdv_engine_law.specs.Hosts.{key_of}
 use Rattle.mdv_engine_law.specs.Line.{Ask, Nothing, asked_by_line, deeds}
 use Rattle.mdv_engine_law.specs.Replies.{AcksBy, issuable, issuable_front, is_front_of, ok_line, refusal_line}
 use Rattle.mdv_engine_law.specs.declared.host.Host.{Host}
 use Rattle.mdv_base.specs.declared.refusal.Refusal.TheVariants.{IoFault}
-use Rattle.mdv_home.specs.declared.geometry.Home.{Home}
 use Rattle.mdv_name.specs.declared.geometry.Geometry.{Geometry}
 use Rattle.mdv_port.specs.Script.{Script, at_end, line, spent, too_long}
 use Rattle.mdv_run_law.specs.Lives.{AreOfRuns, IsBetween, OfHost, Ran, host_of}
@@ -47,9 +47,9 @@ between_quiet : (end : List Event) → IsBetween end → AreQuiet end
 between_quiet end (inl is) = subst AreQuiet (sym is) (λ deed has. never_in deed has)
 between_quiet end (inr is) = subst AreQuiet (sym is) (λ deed has. never_in deed has)
 
-module _ (drives : Geometry) (home : Home) where
+module _ (drives : Geometry) (name : List ℕ) where
   abbrev pub host : Host
-  host = host_of drives home 0
+  host = host_of drives name 0
 
   -- events of a line that this reply answers
   pub record AreReplied (text reply : List ℕ) (es : List Event) : Type 0 where
@@ -117,14 +117,14 @@ module _ (drives : Geometry) (home : Home) where
         of_between = rest.of_between;
       }
 
-  reply_begins : (text : List ℕ) (reply : Option (List ℕ)) (es : List Event) → AreOfReply text reply es → (deed : Deed) → Contains (issued_by es) deed → MayBegin deed (record { text = text; reply = reply })
+  reply_begins : (text : List ℕ) (reply : Option (List ℕ)) (es : List Event) → AreOfReply text reply es → (deed : Deed) → Contains (issued_by es) deed → MayBegin (key_of host) deed (record { text = text; reply = reply })
   reply_begins text None es are deed has = begins_asked host (record { text = text; reply = None }) are.ask are.asks (λ refusal none. absurd (cc none)) deed (are.begins deed has)
   reply_begins text (Some reply) es are deed has =
       let may = lets are.ask reply deed (part_contains (issued_by es) (issuable are.ask reply) deed are.begins has) in
       begins_asked host (record { text = text; reply = Some reply }) are.ask (⊎_elim (λ asks. inl asks) (λ none. inr none.0) are.asks) (λ refusal told. may.begun refusal (let same = told in cc same)) deed may.asked
 
   -- what the events begin, a line may have begun
-  pub lined_begins : (lines : List Exchange) (es : List Event) → AreLined lines es → (deed : Deed) → Contains (issued_by es) deed → (one : Exchange) × Contains lines one × MayBegin deed one
+  pub lined_begins : (lines : List Exchange) (es : List Event) → AreLined lines es → (deed : Deed) → Contains (issued_by es) deed → (one : Exchange) × Contains lines one × MayBegin (key_of host) deed one
   lined_begins [] es quiet deed has = absurd (quiet deed has)
   lined_begins (one ∷ lines) es are deed has = elim (begun_cases are.0 (are.1 ++ are.2) deed (subst (λ (l : List Event). Contains (issued_by l) deed) are.3 has)) [
     | inl before ↦ absurd (are.4 deed before)
@@ -136,13 +136,13 @@ module _ (drives : Geometry) (home : Home) where
 
   module _ (fresh : ℕ) where
     abbrev its : Host
-    its = host_of drives home fresh
+    its = host_of drives name fresh
 
     -- the word of a run's identities is nothing to what its lines ask
     same_ask : (spelled : Line) → asked_by_line its spelled ≡ asked_by_line host spelled
     same_ask Boot = refl
     same_ask (Tab lines) = refl
-    same_ask (Exec (command.Create slice force blocks)) = refl
+    same_ask (Exec (command.Create slices force count blocks)) = refl
     same_ask (Exec (command.MakeStripe volume slice)) = refl
     same_ask (Exec (command.Read volume at count)) = refl
     same_ask (Exec (command.Write volume at block)) = refl
@@ -179,7 +179,7 @@ module _ (drives : Geometry) (home : Home) where
     alone : (one : Exchange) (es : List Event) → AreOfReply one.text one.reply es → AreLined (one ∷ []) es
     alone one es are = ([], es, [], sym (append-nil es), quiet_none, are, quiet_none)
 
-    come_lined : (front : List ℕ) (now : Context) (script : Script) (replies : List (List ℕ)) (es : List Event) → ComeOf its (InWork its front) now script replies es → AreLined (exchanges script replies) es
+    pub come_lined : (front : List ℕ) (now : Context) (script : Script) (replies : List (List ℕ)) (es : List Event) → ComeOf its (InWork its front) now script replies es → AreLined (exchanges script replies) es
     come_lined front now at_end [] es come = idle_quiet its es come
     come_lined front now (spent lines bytes) [] es come = idle_quiet its es come
     come_lined front now (too_long more) [] es come = idle_quiet its es come
@@ -198,20 +198,20 @@ module _ (drives : Geometry) (home : Home) where
 
   -- the lines of one run, where it is the host's
   abbrev lines_of : Ran → List Exchange
-  lines_of ran = if bytes_eq ran.home.host home.host then exchanges_of ran.script ran.bytes else []
+  lines_of ran = if bytes_eq ran.host name then exchanges_of ran.script ran.bytes else []
 
-  host_lined : (ran : Ran) (es : List Event) → OfHost home ran (AreOfRun (host_of drives home ran.fresh) ran.script ran.bytes es) (es ≡ []) → AreLined (lines_of ran) es
+  host_lined : (ran : Ran) (es : List Event) → OfHost name ran (AreOfRun (host_of drives name ran.fresh) ran.script ran.bytes es) (es ≡ []) → AreLined (lines_of ran) es
   host_lined ran es (inl is) =
-      subst (λ (own : Bool). AreLined (if own then exchanges_of ran.script ran.bytes else []) es) (sym ((bytes_eq-Decides ran.home.host home.host).1 (ap (λ (h : Home). h.host) is.0)))
+      subst (λ (own : Bool). AreLined (if own then exchanges_of ran.script ran.bytes else []) es) (sym ((bytes_eq-Decides ran.host name).1 is.0))
       (run_lined ran.fresh ran.script ran.bytes es is.1)
-  host_lined ran es (inr other) = elim (both_ways (bytes_eq ran.home.host home.host)) [
-    | inl does ↦ absurd (other.0 ((bytes_eq-Decides ran.home.host home.host).0 does))
+  host_lined ran es (inr other) = elim (both_ways (bytes_eq ran.host name)) [
+    | inl does ↦ absurd (other.0 ((bytes_eq-Decides ran.host name).0 does))
     | inr never ↦ subst (λ (own : Bool). AreLined (if own then exchanges_of ran.script ran.bytes else []) es) (sym never) (subst AreQuiet (sym other.1) quiet_none)
   ]
 
   -- the events of all the host's runs, by their lines
-  pub runs_lined : (before : List Ran) (es : List Event) → AreOfRuns drives home before es → AreLined (exchanges_by home before) es
+  pub runs_lined : (before : List Ran) (es : List Event) → AreOfRuns drives name before es → AreLined (exchanges_by name before) es
   runs_lined [] es none = subst AreQuiet (sym none) quiet_none
   runs_lined (ran ∷ before) es are =
       let here = subst (λ (l : List Exchange). AreLined l (are.1 ++ are.2)) (append-nil (lines_of ran)) (lined_more (lines_of ran) [] are.1 are.2 (host_lined ran are.1 are.5) (between_quiet are.2 are.6)) in
-      subst (AreLined (exchanges_by home (ran ∷ before))) (sym are.3) (lined_more (exchanges_by home before) (lines_of ran) are.0 (are.1 ++ are.2) (runs_lined before are.0 are.4) here)
+      subst (AreLined (exchanges_by name (ran ∷ before))) (sym are.3) (lined_more (exchanges_by name before) (lines_of ran) are.0 (are.1 ++ are.2) (runs_lined before are.0 are.4) here)

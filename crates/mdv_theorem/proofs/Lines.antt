@@ -4,8 +4,10 @@ use Rattle.std.specs.Char.{is_ascii_digit}
 use Rattle.std.specs.Fmt.{digits}
 use Rattle.std.specs.Str.{bytes_eq}
 use Rattle.std.proofs.lemmas.Slice.Eq.{bytes_eq-Decides}
+use Rattle.mdv_base.specs.declared.name.Key.{Key}
 use Rattle.mdv_base.specs.declared.refusal.Refusal.{Refusal}
 use Rattle.mdv_base.specs.declared.refusal.Refusal.TheVariants.{IoFault, OutOfMemory}
+use Rattle.mdv_engine_law.specs.Hosts.{key_of}
 use Rattle.mdv_engine_law.specs.Line.{Ask, Nothing, asked_by_line, deeds}
 use Rattle.mdv_engine_law.specs.Replies.{issuable, ok_line, refusal_line}
 use Rattle.mdv_engine_law.specs.declared.host.Host.{Host}
@@ -22,12 +24,12 @@ use Rattle.mdv_words.specs.declared.command.Command.TheVariants as command
 use Rattle.mdv_theorem.specs.Exchanges.{Exchange, MayBeMade, MayBeWritten, MayHaveBegun}
 use Rattle.mdv_theorem.proofs.Telling.{begins_append, is_fault, ok_is_none, one_number}
 
--- the line may have begun the deed: a change, or a block that is written
-abbrev pub MayBegin : Deed → Exchange → Type 0
-MayBegin (Created key) one = Unit {0}
-MayBegin (Changed key (MakeStripe volume slice)) one = MayBeMade volume slice one
-MayBegin (Wrote key volume at blocks) one = (block : List ℕ) × (blocks ≡ block ∷ []) × MayBeWritten volume at block one
-MayBegin (Saw key volume at blocks) one = Unit {0}
+-- the line may have begun the deed: a database of the host's key, a change, or a block that is written
+abbrev pub MayBegin : Key → Deed → Exchange → Type 0
+MayBegin own (Created key) one = key ≡ own
+MayBegin own (Changed key (MakeStripe volume slice)) one = MayBeMade volume slice one
+MayBegin own (Wrote key volume at blocks) one = (block : List ℕ) × (blocks ≡ block ∷ []) × MayBeWritten volume at block one
+MayBegin own (Saw key volume at blocks) one = Unit {0}
 
 pub never_in : {X : Type 0} (x : X) → Contains [] x → ⊥
 never_in x has = omega (arith, has.1)
@@ -38,21 +40,21 @@ the_only x y has = elim (first_or_behind x y [] has) [ inl same ↦ same | inr n
 
 module _ (host : Host) where
   -- what a line asks it may have begun, where its reply doesn't say otherwise
-  spelled_begins : (one : Exchange) (spelled : Line) → IsLine one.text spelled → MayHaveBegun one → (deed : Deed) → Contains (deeds (asked_by_line host spelled)) deed → MayBegin deed one
+  spelled_begins : (one : Exchange) (spelled : Line) → IsLine one.text spelled → MayHaveBegun one → (deed : Deed) → Contains (deeds (asked_by_line host spelled)) deed → MayBegin (key_of host) deed one
   spelled_begins one Boot is begun deed has = absurd (never_in deed has)
   spelled_begins one (Tab lines) is begun deed has = absurd (never_in deed has)
-  spelled_begins one (Exec (command.Create slice force blocks)) is begun deed has = subst (λ (d : Deed). MayBegin d one) (the_only _ deed has) tt
-  spelled_begins one (Exec (command.MakeStripe volume slice)) is begun deed has = subst (λ (d : Deed). MayBegin d one) (the_only _ deed has) (record { asks = is; begun = begun })
+  spelled_begins one (Exec (command.Create slices force count blocks)) is begun deed has = subst (λ (d : Deed). MayBegin (key_of host) d one) (the_only _ deed has) refl
+  spelled_begins one (Exec (command.MakeStripe volume slice)) is begun deed has = subst (λ (d : Deed). MayBegin (key_of host) d one) (the_only _ deed has) (record { asks = is; begun = begun })
   spelled_begins one (Exec (command.Read volume at count)) is begun deed has = absurd (never_in deed has)
-  spelled_begins one (Exec (command.Write volume at block)) is begun deed has = subst (λ (d : Deed). MayBegin d one) (the_only _ deed has) (block, refl, record { asks = is; begun = begun })
+  spelled_begins one (Exec (command.Write volume at block)) is begun deed has = subst (λ (d : Deed). MayBegin (key_of host) d one) (the_only _ deed has) (block, refl, record { asks = is; begun = begun })
   spelled_begins one (Exec (command.Print names)) is begun deed has = absurd (never_in deed has)
 
-  words_begin : (one : Exchange) (ask : Ask) → AsksWords host one.text ask → MayHaveBegun one → (deed : Deed) → Contains (deeds ask) deed → MayBegin deed one
+  words_begin : (one : Exchange) (ask : Ask) → AsksWords host one.text ask → MayHaveBegun one → (deed : Deed) → Contains (deeds ask) deed → MayBegin (key_of host) deed one
   words_begin one ask (inl none) begun deed has = absurd (never_in deed (subst (λ (a : Ask). Contains (deeds a) deed) none.1 has))
   words_begin one ask (inr is) begun deed has = spelled_begins one is.0 is.1 begun deed (subst (λ (a : Ask). Contains (deeds a) deed) is.2 has)
 
   -- so it is of one that asks nothing, as far as is known
-  pub begins_asked : (one : Exchange) (ask : Ask) → AsksWords host one.text ask ⊎ (ask ≡ Nothing) → MayHaveBegun one → (deed : Deed) → Contains (deeds ask) deed → MayBegin deed one
+  pub begins_asked : (one : Exchange) (ask : Ask) → AsksWords host one.text ask ⊎ (ask ≡ Nothing) → MayHaveBegun one → (deed : Deed) → Contains (deeds ask) deed → MayBegin (key_of host) deed one
   begins_asked one ask (inl asks) begun deed has = words_begin one ask asks begun deed has
   begins_asked one ask (inr none) begun deed has = absurd (never_in deed (subst (λ (a : Ask). Contains (deeds a) deed) none has))
 

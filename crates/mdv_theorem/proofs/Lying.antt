@@ -7,19 +7,15 @@ use Rattle.mdv_engine_law.specs.Line.{IsRebooted, Kept, Memory, contents}
 use Rattle.mdv_engine_law.specs.Replies.{ok_line}
 use Rattle.mdv_engine_law.specs.declared.answer.Answer.{Answer}
 use Rattle.mdv_engine_law.proofs.Volumes.{one_volume}
-use Rattle.mdv_home.specs.Home.{IsHome}
-use Rattle.mdv_home.specs.declared.geometry.Home.{Home}
 use Rattle.mdv_name.specs.SliceIndex.{HasSlice}
 use Rattle.mdv_name.specs.declared.geometry.Geometry.{Geometry}
 use Rattle.mdv_name.specs.declared.slice_lines.SliceAt.{SliceAt}
 use Rattle.mdv_port.specs.Script.{Script}
-use Rattle.mdv_run_law.specs.Below.{Host, IsSound, Map, Newest, SliceName, Table, VolId, Volume, run_map}
+use Rattle.mdv_run_law.specs.Below.{Host, IsSound, Map, SliceName, Table, VolId, Volume, run_map}
 use Rattle.mdv_run_law.specs.Lives.{Ran, host_of}
 use Rattle.mdv_run_law.specs.Run.{started}
-use Rattle.mdv_run_law.proofs.Extents.{SeesHome}
 use Rattle.mdv_shelf.specs.Failing.{Outcomes}
-use Rattle.mdv_store_law.specs.Steps.{next_newest}
-use Rattle.mdv_table.specs.Change.{IsAfter, table_after}
+use Rattle.mdv_table.specs.Change.{IsAfter}
 use Rattle.mdv_table.specs.Table.{IsKindOf, IsPlanOf}
 use Rattle.mdv_table.specs.Volumes.{HasVolume}
 use Rattle.mdv_table.specs.declared.change.Change.TheVariants.{MakeStripe}
@@ -36,16 +32,18 @@ use Rattle.mdv_theorem.proofs.Lines.{never_in}
 use Rattle.mdv_theorem.proofs.Living.{lived_life}
 use Rattle.mdv_theorem.proofs.Makings.{table_made}
 use Rattle.mdv_theorem.proofs.Parting.{cut}
-use Rattle.mdv_theorem.proofs.Staying.{its_home, its_sound}
-use Rattle.mdv_theorem.proofs.Steps.{Failed, Reached, Steps, stepped, steps_cut}
+use Rattle.mdv_theorem.proofs.Staying.{its_sound}
+use Rattle.mdv_theorem.proofs.Steps.{Failed, Reached, Steps, stepped, steps_cut, sure_first, sure_last}
 use Rattle.mdv_theorem.proofs.Tables.{IsCarried, Keeps, Offers, granted_done, keeps_boot, keeps_steps, open_keeps, up}
+use Rattle.mdv_store.specs.Opened.{Opened}
+use Rattle.mdv_theorem.proofs.Sure.{IsSure, sure_plan}
 
-module _ (drives : Geometry) (home : Home) (before : List Ran) (script : Script) (sound : IsSound drives) (is_home : IsHome drives home) (run : Running drives home before script) (volume : VolId) where
+module _ (drives : Geometry) (name : List ℕ) (before : List Ran) (script : Script) (sound : IsSound drives) (of_table : Contains drives.hosts name) (run : Running drives name before script) (volume : VolId) where
   abbrev host : Host
-  host = host_of drives home run.fresh
+  host = host_of drives name run.fresh
 
   host_sound : IsSound host.drives
-  host_sound = its_sound drives home before script sound is_home run
+  host_sound = its_sound drives name before script sound of_table run
 
   module _ (all : List Exchange) where
     -- it is on a slice on which one of these lines may have made it
@@ -72,9 +70,9 @@ module _ (drives : Geometry) (home : Home) (before : List Ran) (script : Script)
         ]
 
     -- so it is in each table that is found as the run begins
-    found_made : ((one : Exchange) → Contains (exchanges_by home before) one → Contains all one) → (table : Table) → Found drives home run.t.tale table → AllMade table
+    found_made : ((one : Exchange) → Contains (exchanges_by name before) one → Contains all one) → (table : Table) → Found drives name run.t.tale table → AllMade table
     found_made among table found of has =
-        let made = table_made drives home run.made before run.t.tale sound is_home (lived_life drives run.made before run.t.tale run.life) table found volume of has in
+        let made = table_made drives name run.made before run.t.tale sound of_table (lived_life drives run.made before run.t.tale run.life) table found volume of has in
         record { made = made.0; slice = made.1; asked = among made.0 made.2; may = made.3; is = made.4 }
 
     -- a volume is on a slice on which it may lie
@@ -93,17 +91,21 @@ module _ (drives : Geometry) (home : Home) (before : List Ran) (script : Script)
       pub is : v ≡ run_map at.drive.0 at.start at.blocks
 
   -- a making that was done
-  made_kept : (slice : SliceName) (mid next : Kept) (answer : Answer) → IsAllowed (case_of host mid) (command.MakeStripe volume slice) × Effect host mid (command.MakeStripe volume slice) answer next → Keeps host (HasStripe host.drives volume slice) next
-  made_kept slice mid next answer (free, (ok, its, opened, less, made)) =
-      up (next_newest its (table_after host.drives (MakeStripe volume slice) its.table)) (ap (λ (m : Memory). m.opened) made.memory) made.head made.content (has_new (stripe host.drives volume slice) its.table.plan.volumes)
+  made_kept : (slice : SliceName) (calls : Outcomes) (mid next : Kept) (answer : Answer) → IsAllowed (case_of host mid) (command.MakeStripe volume slice) × Effect calls host mid (command.MakeStripe volume slice) answer next → Keeps host (HasStripe host.drives volume slice) next
+  made_kept slice calls mid next answer (free, (ok, its, opened, made)) =
+      up made.opened (ap (λ (m : Memory). m.opened) made.memory)
+      (subst (λ (t : Table). HasStripe host.drives volume slice t) (sym (ap (λ (x : Opened). x.table) made.committed.is)) (has_new (stripe host.drives volume slice) its.table.plan.volumes))
 
   -- behind these lines
   module _ (here : List Exchange) (booted : Outcomes) (first kept : Kept) (boots : IsRebooted booted host (started (contents run.t.tale)) accepted first) (Fails : ℕ → Type 0) (steps : Steps host Fails first here kept) where
     abbrev lines : List Exchange
-    lines = exchanges_by home before ++ here
+    lines = exchanges_by name before ++ here
 
-    abbrev sees : SeesHome host
-    sees = its_home drives home before script sound is_home run
+    first_sure : IsSure host first
+    first_sure = sure_first host Fails first kept here steps
+
+    last_sure : IsSure host kept
+    last_sure = sure_last host Fails first kept here steps
 
     module _ (slice : SliceName) where
       abbrev Made_there : Table → Type 0
@@ -113,14 +115,11 @@ module _ (drives : Geometry) (home : Home) (before : List Ran) (script : Script)
       carried = stripe_stays host.drives volume slice
 
       -- a making that an earlier run told of
-      by_earlier : (other : Exchange) → Contains (exchanges_by home before) other → Asks other (command.MakeStripe volume slice) → IsTold other ok_line → Keeps host Made_there kept
+      by_earlier : (other : Exchange) → Contains (exchanges_by name before) other → Asks other (command.MakeStripe volume slice) → IsTold other ok_line → Keeps host Made_there kept
       by_earlier other old asks told =
-          let found = stripe_found drives home run.made before run.t.tale sound is_home (lived_life drives run.made before run.t.tale run.life) other volume slice old asks told in
-          let offers : Offers host Made_there (contents run.t.tale) = record {
-            found = found.0;
-            each = λ head slot mark table replica newest is. found.1 table (record { head = head; slot = slot; mark = mark; its_replica = replica; newest = newest; has = is });
-          } in
-          keeps_steps host host_sound sees Made_there carried Fails first kept here (keeps_boot host host_sound sees Made_there booted (started (contents run.t.tale)) first accepted offers boots tt) steps
+          let found = stripe_found drives name run.made before run.t.tale sound of_table (lived_life drives run.made before run.t.tale run.life) other volume slice old asks told in
+          let offers : Offers host Made_there (contents run.t.tale) = record { found = found.0; each = found.1 } in
+          keeps_steps host host_sound refl Made_there carried Fails first kept here (keeps_boot host host_sound refl Made_there booted (started (contents run.t.tale)) first accepted offers first_sure boots tt) steps
 
       -- or this one
       by_here : (other : Exchange) → Contains here other → Asks other (command.MakeStripe volume slice) → IsTold other ok_line → Keeps host Made_there kept
@@ -129,48 +128,48 @@ module _ (drives : Geometry) (home : Home) (before : List Ran) (script : Script)
           let parts = steps_cut host Fails c.front (other ∷ c.rest) first kept (subst (λ (l : List Exchange). Steps host Fails first l kept) c.is steps) in
           let step = stepped host Fails parts.0 kept other c.rest parts.2 in
           let done = granted_done host step.calls step.kept step.mid other step.answer step.comes step.said step.told (command.MakeStripe volume slice) asks told in
-          keeps_steps host host_sound sees Made_there carried Fails step.mid kept c.rest (made_kept slice step.kept step.mid step.answer done) step.after
+          keeps_steps host host_sound refl Made_there carried Fails step.mid kept c.rest (made_kept slice step.calls step.kept step.mid step.answer done) step.after
 
       -- the table that is open has the volume there
       made_stays : (other : Exchange) → Contains lines other → Asks other (command.MakeStripe volume slice) → IsTold other ok_line → Keeps host Made_there kept
-      made_stays other has asks told = elim (Contains-append_cases (exchanges_by home before) here other has) [ inl old ↦ by_earlier other old asks told | inr new ↦ by_here other new asks told ]
+      made_stays other has asks told = elim (Contains-append_cases (exchanges_by name before) here other has) [ inl old ↦ by_earlier other old asks told | inr new ↦ by_here other new asks told ]
 
     -- each volume of the open table
-    now_made : (newest : Newest) → kept.memory.opened ≡ Some newest → AllMade lines newest.table
-    now_made newest opened =
-        let from_boot = holds_boot host host_sound sees (AllMade lines) booted (started (contents run.t.tale)) first accepted
-        (λ head slot mark table replica newer is. found_made lines (λ e has. Contains-append_left (exchanges_by home before) here e has) table (record { head = head; slot = slot; mark = mark; its_replica = replica; newest = newer; has = is })) boots tt in
-        let now = holds_steps host host_sound sees (AllMade lines) (fresh_made lines) (Contains lines) (changed_made lines) Fails first kept here (λ e has. Contains-append_right (exchanges_by home before) here e has) from_boot steps in
-        open_holds host (AllMade lines) kept newest opened now
+    now_made : (o : Opened) → kept.memory.opened ≡ Some o → AllMade lines o.table
+    now_made o opened =
+        let from_boot = holds_boot host host_sound refl (AllMade lines) booted (started (contents run.t.tale)) first accepted
+        (λ table adopts. found_made lines (λ e has. Contains-append_left (exchanges_by name before) here e has) table adopts) boots tt in
+        let now = holds_steps host host_sound refl (AllMade lines) (fresh_made lines) (Contains lines) (changed_made lines) Fails first kept here (λ e has. Contains-append_right (exchanges_by name before) here e has) from_boot steps in
+        open_holds host (AllMade lines) kept o opened now
 
     -- it is on one slice, on which each line made it that was told `ok`
-    only_there : (newest : Newest) → kept.memory.opened ≡ Some newest → (of : Volume) (slice : SliceName) → HasVolume newest.table.plan.volumes volume of → of ≡ stripe host.drives volume slice → (other : Exchange) (elsewhere : SliceName) → Contains lines other
+    only_there : (o : Opened) → kept.memory.opened ≡ Some o → (of : Volume) (slice : SliceName) → HasVolume o.table.plan.volumes volume of → of ≡ stripe host.drives volume slice → (other : Exchange) (elsewhere : SliceName) → Contains lines other
         → Asks other (command.MakeStripe volume elsewhere) → IsTold other ok_line → elsewhere ≡ slice
-    only_there newest opened of slice has is other elsewhere among asks told =
-        let there = open_keeps host (HasStripe host.drives volume elsewhere) kept newest (made_stays elsewhere other among asks told) opened in
-        let same = one_volume newest.table.plan.volumes volume (stripe host.drives volume elsewhere) of there.1.numbers.ascending (there.0, refl) has in
+    only_there o opened of slice has is other elsewhere among asks told =
+        let there = open_keeps host (HasStripe host.drives volume elsewhere) kept o (made_stays elsewhere other among asks told) opened in
+        let same = one_volume o.table.plan.volumes volume (stripe host.drives volume elsewhere) of (sure_plan host kept o last_sure opened).numbers.ascending (there, refl) has in
         one_slice host.drives volume elsewhere slice (same ∙ is)
 
-    only_since : (newest : Newest) → kept.memory.opened ≡ Some newest → (of : Volume) (slice : SliceName) → HasVolume newest.table.plan.volumes volume of → of ≡ stripe host.drives volume slice → (old since : List Exchange) → lines ≡ old ++ since
+    only_since : (o : Opened) → kept.memory.opened ≡ Some o → (of : Volume) (slice : SliceName) → HasVolume o.table.plan.volumes volume of → of ≡ stripe host.drives volume slice → (old since : List Exchange) → lines ≡ old ++ since
         → ((one : Exchange) → Contains since one → MayTakeAway volume one → ⊥) → (other : Exchange) (elsewhere : SliceName) → Contains since other → Asks other (command.MakeStripe volume elsewhere) → IsTold other ok_line → elsewhere ≡ slice
-    only_since newest opened of slice has is old since parts stays other elsewhere among =
-        only_there newest opened of slice has is other elsewhere (subst (λ (l : List Exchange). Contains l other) (sym parts) (Contains-append_right old since other among))
+    only_since o opened of slice has is old since parts stays other elsewhere among =
+        only_there o opened of slice has is other elsewhere (subst (λ (l : List Exchange). Contains l other) (sym parts) (Contains-append_right old since other among))
 
-    laid_there : (newest : Newest) → kept.memory.opened ≡ Some newest → (of : Volume) → HasVolume newest.table.plan.volumes volume of → IsLaid lines of
-    laid_there newest opened of has =
-        let made = now_made newest opened of has in
-        record { slice = made.slice; may = record { made = made.made; asked = made.asked; may = made.may; only = only_since newest opened of made.slice has made.is }; is = made.is }
+    laid_there : (o : Opened) → kept.memory.opened ≡ Some o → (of : Volume) → HasVolume o.table.plan.volumes volume of → IsLaid lines of
+    laid_there o opened of has =
+        let made = now_made o opened of has in
+        record { slice = made.slice; may = record { made = made.made; asked = made.asked; may = made.may; only = only_since o opened of made.slice has made.is }; is = made.is }
 
-    pub lies_there : (newest : Newest) → kept.memory.opened ≡ Some newest → IsPlanOf host.drives newest.table.plan → (v : Map) → IsMapOf host.drives newest.table volume v → LiesOn lines v
-    lies_there newest opened plan v lies =
-        let laid = laid_there newest opened lies.of lies.has in
-        let kind = All-contains (λ (w : Volume). IsKindOf host.drives w.kind) newest.table.plan.volumes lies.of plan.kinds lies.has.0 in
+    pub lies_there : (o : Opened) → kept.memory.opened ≡ Some o → IsPlanOf host.drives o.table.plan → (v : Map) → IsMapOf host.drives o.table volume v → LiesOn lines v
+    lies_there o opened plan v lies =
+        let laid = laid_there o opened lies.of lies.has in
+        let kind = All-contains (λ (w : Volume). IsKindOf host.drives w.kind) o.table.plan.volumes lies.of plan.kinds lies.has.0 in
         let at = stripe_map host.drives volume laid.slice v host_sound (subst (λ (w : Volume). IsKindMap host.drives w.kind v) laid.is lies.kind) in
         record { slice = laid.slice; may = laid.may; at = at.0; has = at.1; plain = stripe_plain host.drives volume laid.slice at.0 host_sound (subst (λ (w : Volume). IsKindOf host.drives w.kind) laid.is kind) at.1; is = at.2 }
 
   -- where the run has come to a line
-  pub laid : (here : List Exchange) (one : Exchange) (at : Reached run here one) (newest : Newest) → at.kept.memory.opened ≡ Some newest → (of : Volume) → HasVolume newest.table.plan.volumes volume of → IsLaid (exchanges_by home before ++ here) of
-  laid here one at newest opened of has = laid_there here at.booted at.first at.kept at.boots (Failed run) at.steps newest opened of has
+  pub laid : (here : List Exchange) (one : Exchange) (at : Reached run here one) (o : Opened) → at.kept.memory.opened ≡ Some o → (of : Volume) → HasVolume o.table.plan.volumes volume of → IsLaid (exchanges_by name before ++ here) of
+  laid here one at o opened of has = laid_there here at.booted at.first at.kept at.boots (Failed run) at.steps o opened of has
 
-  pub lies_made : (here : List Exchange) (one : Exchange) (at : Reached run here one) (newest : Newest) → at.kept.memory.opened ≡ Some newest → IsPlanOf host.drives newest.table.plan → (v : Map) → IsMapOf host.drives newest.table volume v → LiesOn (exchanges_by home before ++ here) v
-  lies_made here one at newest opened plan v lies = lies_there here at.booted at.first at.kept at.boots (Failed run) at.steps newest opened plan v lies
+  pub lies_made : (here : List Exchange) (one : Exchange) (at : Reached run here one) (o : Opened) → at.kept.memory.opened ≡ Some o → IsPlanOf host.drives o.table.plan → (v : Map) → IsMapOf host.drives o.table volume v → LiesOn (exchanges_by name before ++ here) v
+  lies_made here one at o opened plan v lies = lies_there here at.booted at.first at.kept at.boots (Failed run) at.steps o opened plan v lies

@@ -1,16 +1,13 @@
 -- A volume of a table that is found was made by a line of the earlier runs, on the slice where it lies.
-use Rattle.std.proofs.Common.{◌≡◌, ◌⊎◌, ⊎_elim, inl, inr, List, [], ◌∷◌, reverse, Contains, sym, ◌∙◌, ap, subst}
+use Rattle.std.proofs.Common.{◌≡◌, ◌⊎◌, ⊎_elim, inl, inr, ℕ, List, [], ◌∷◌, reverse, Contains, sym, ◌∙◌, ap, subst}
 use Rattle.std.proofs.lemmas.List.{reverse-append}
 use Rattle.std.proofs.lemmas.List.Elements.{Contains-append_left, Contains-append_right, All-contains}
 use Rattle.mdv_base.specs.declared.drive.SliceName.{SliceName}
 use Rattle.mdv_base.specs.declared.name.Key.{Key}
 use Rattle.mdv_base.specs.declared.name.VolId.{VolId}
 use Rattle.mdv_engine_law.specs.declared.host.Host.{Host}
-use Rattle.mdv_engine_law.proofs.Sites.{own_site}
-use Rattle.mdv_home.specs.Home.{IsHome}
-use Rattle.mdv_home.specs.declared.geometry.Home.{Home}
 use Rattle.mdv_name.specs.declared.geometry.Geometry.{Geometry}
-use Rattle.mdv_run_law.specs.Lives.{Life, Ran, changes_in}
+use Rattle.mdv_run_law.specs.Lives.{Ran, changes_in, IsLife}
 use Rattle.mdv_run_law.proofs.Deeds.{part_contains}
 use Rattle.mdv_shelf.specs.Everywhere.{Image}
 use Rattle.mdv_shelf.specs.Tale.{Tale}
@@ -28,14 +25,15 @@ use Rattle.mdv_table.specs.declared.volume.Volume.{Volume}
 use Rattle.mdv_volumes.specs.Databases.{same_key}
 use Rattle.mdv_volumes.specs.Happening.{issued_by}
 use Rattle.mdv_volumes.specs.History.{Changed, Created, Deed, Event, Saw, Wrote}
-use Rattle.mdv_volumes.proofs.Databases.{key_is}
+use Rattle.mdv_databases.proofs.Lists.{key_is}
 use Rattle.mdv_volumes.proofs.Keys.{databases_live}
 use Rattle.mdv_volumes.proofs.Lists.{contains_behind, contains_first, first_or_behind}
 use Rattle.mdv_theorem.specs.Exchanges.{Exchange, MayBeMade, exchanges_by}
 use Rattle.mdv_theorem.proofs.Changes.{made_by, stripe}
-use Rattle.mdv_theorem.proofs.Found.{Found, found_is, database, es, events, its, its_log, key, lined, log_course}
+use Rattle.mdv_theorem.proofs.Found.{Found, found_is, database, es, events, is_log, its_log, lined, log_course}
 use Rattle.mdv_theorem.proofs.Lined.{host, lined_begins}
 use Rattle.mdv_theorem.proofs.Lines.{never_in}
+use Rattle.mdv_base.specs.declared.name.Key.TheVariants.{Local}
 
 -- what is among changes is among them in any order
 to_reversed : (changes : List Change) (change : Change) → Contains changes change → Contains (reverse changes) change
@@ -64,46 +62,44 @@ module _ (key : Key) (change : Change) where
   deed_of_change (Wrote other beside at blocks ∷ deeds) has = contains_behind (Wrote other beside at blocks) (Changed key change) deeds (deed_of_change deeds has)
   deed_of_change (Saw other beside at blocks ∷ deeds) has = contains_behind (Saw other beside at blocks) (Changed key change) deeds (deed_of_change deeds has)
 
-module _ (drives : Geometry) (home : Home) (made : Image) (before : List Ran) (t : Tale) (sound : IsSound drives) (is_home : IsHome drives home) (life : Life drives made before t) where
+module _ (drives : Geometry) (name : List ℕ) (made : Image) (before : List Ran) (t : Tale) (sound : IsSound drives) (of_table : Contains drives.hosts name) (life : IsLife drives made before t) where
   abbrev own : Host
-  own = host drives home
+  own = host drives name
 
   abbrev all : List Event
-  all = es drives home made before t sound is_home life
+  all = es drives name made before t sound of_table life
 
   abbrev its_key : Key
-  its_key = key drives home t
+  its_key = Local name
 
   abbrev its_database : Log
-  its_database = database drives home made before t sound is_home life
+  its_database = database drives name made before t sound of_table life
 
   abbrev its_events : List log.Event
-  its_events = events drives home made before t sound is_home life
+  its_events = events drives name made before t sound of_table life
 
   -- the changes of each table of the history were begun by its events
   change_begun : (v : Version) → Contains its_database.family v → (change : Change) → Contains v.changes change → Contains (issued_by all) (Changed its_key change)
   change_begun v one_of change has =
-      let written = all_written own.drives empty_log its_events [] (λ w none. absurd (never_in w none)) (log_course drives home made before t sound is_home life) in
+      let written = all_written own.drives empty_log its_events [] (λ w none. absurd (never_in w none)) (log_course drives name made before t sound of_table life) in
       let part : IsPart (reverse v.changes) (changes_in its_key (issued_by all)) =
       subst (λ (l : List Change). IsPart (reverse v.changes) l) (ap changes_of (databases_live.begins its_key all))
-      (written v (subst (λ (lg : Log). Contains lg.family v) (its_log drives home made before t sound is_home life) one_of)) in
+      (written v (subst (λ (lg : Log). Contains lg.family v) (its_log drives name made before t sound of_table life) one_of)) in
       deed_of_change its_key change (issued_by all) (part_contains (reverse v.changes) (changes_in its_key (issued_by all)) change part (to_reversed v.changes change has))
 
   -- each of its versions is a table that its changes made
   version_made : (v : Version) → Contains its_database.family v → AreMade own.drives v.changes v.table
-  version_made v one_of =
-      let is_log = ((its drives home made before t sound is_home life).history.stands.databases its_key _ (own_site own)).is_log in
-      All-contains (λ (w : Version). AreMade own.drives w.changes w.table) its_database.family v is_log.made one_of
+  version_made v one_of = All-contains (λ (w : Version). AreMade own.drives w.changes w.table) its_database.family v (is_log drives name made before t sound of_table life).made one_of
 
   -- Each volume of a table that is found was made by a line of these runs, or may have been; and it is on the slice that the line names.
-  pub table_made : (table : Table) → Found drives home t table → (volume : VolId) (of : Volume) → HasVolume table.plan.volumes volume of
-      → (one : Exchange) × (slice : SliceName) × Contains (exchanges_by home before) one × MayBeMade volume slice one × (of ≡ stripe own.drives volume slice)
+  pub table_made : (table : Table) → Found drives name t table → (volume : VolId) (of : Volume) → HasVolume table.plan.volumes volume of
+      → (one : Exchange) × (slice : SliceName) × Contains (exchanges_by name before) one × MayBeMade volume slice one × (of ≡ stripe own.drives volume slice)
   table_made table found volume of has =
-      let is = found_is drives home made before t sound is_home life table found in
+      let is = found_is drives name made before t sound of_table life table found in
       let version = is.version in
-      let one_of = is.found.0 in
+      let one_of = is.one_of in
       let there = subst (λ (b : Table). HasVolume b.plan.volumes volume of) (sym is.is_table) has in
       let by = made_by own.drives version.changes version.table volume of (version_made version one_of) there in
       let begun = change_begun version one_of (MakeStripe volume by.slice) by.change in
-      let came = lined_begins drives home (exchanges_by home before) all (lined drives home made before t sound is_home life) (Changed its_key (MakeStripe volume by.slice)) begun in
+      let came = lined_begins drives name (exchanges_by name before) all (lined drives name made before t sound of_table life) (Changed its_key (MakeStripe volume by.slice)) begun in
       (came.0, by.slice, came.1, came.2, by.is)

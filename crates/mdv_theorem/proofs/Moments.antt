@@ -1,12 +1,10 @@
 -- Each moment at which the contract of a run says what was told is one that the run's other moments are shown by, and wherever it is stopped it is one more run of its life. From one such
 -- moment it went on to another.
-use Rattle.std.proofs.Common.{◌≡◌, refl, ℕ, List, [], ◌∷◌, Some, sym, ◌∙◌, subst}
+use Rattle.std.proofs.Common.{◌≡◌, refl, ℕ, List, [], ◌∷◌, Some, sym, ◌∙◌, subst, Contains}
 use Rattle.std.proofs.lemmas.List.{append_cancel_left}
-use Rattle.mdv_home.specs.Home.{IsHome}
-use Rattle.mdv_home.specs.declared.geometry.Home.{Home}
 use Rattle.mdv_name.specs.declared.geometry.Geometry.{Geometry}
 use Rattle.mdv_port.specs.Script.{Script}
-use Rattle.mdv_run_law.specs.Lives.{MayBeFound, Ran, host_of}
+use Rattle.mdv_run_law.specs.Lives.{MayBeFound, Ran, host_of, IsNewWord}
 use Rattle.mdv_run_law.specs.Run.{AreShown, At, Counts, IsShown, Stretch}
 use Rattle.mdv_run_law.specs.Standing.{RunMoment}
 use Rattle.mdv_run_law.specs.Told.{IsToldBy}
@@ -65,24 +63,24 @@ with_places R stretch each s old =
           (λ m here. (here.0, record { begins = (s, old, refl); shows = λ bytes piece at shown. here.1 (record { bytes = bytes; piece = piece; at = at; shown = shown }) })) all,
     )
 
-module _ (drives : Geometry) (home : Home) (made : Image) (before : List Ran) (fresh : ℕ) (script : Script) (stretch : Stretch) (start : Counts) (is_home : IsHome drives home) where
+module _ (drives : Geometry) (name : List ℕ) (made : Image) (before : List Ran) (fresh : ℕ) (script : Script) (stretch : Stretch) (start : Counts) (of_table : Contains drives.hosts name) (new_word : IsNewWord name fresh before) where
   -- what the contract says of a moment, and its places
   abbrev Says : Moment → Moment → Type 0
-  Says t m = (OfTales (RunMoment (host_of drives home fresh) script) t m × IsToldBy (host_of drives home fresh) stretch start script t m) × IsMomentOf stretch t m
+  Says t m = (OfTales (RunMoment (host_of drives name fresh) script) t m × IsToldBy (host_of drives name fresh) stretch start script t m) × IsMomentOf stretch t m
 
   -- one more run behind any that led to its start
   one_more : (t m : Moment) (here : Says t m) (first : List Ran) (from : Tale) → Runs drives first from before t.tale → (next : Tale) → MayBeFound m.tale next
-      → Runs drives first from (record { home = home; fresh = fresh; script = script; bytes = here.0.1.bytes } ∷ before) next
+      → Runs drives first from (record { host = name; fresh = fresh; script = script; bytes = here.0.1.bytes } ∷ before) next
   one_more t m here first from runs next found =
       let same : here.0.0.bytes ≡ here.0.1.bytes = append_cancel_left (told t.tale) here.0.0.bytes here.0.1.bytes (sym here.0.0.is_told ∙ here.0.1.is_told) in
-      subst (λ (bytes : List ℕ). Runs drives first from (record { home = home; fresh = fresh; script = script; bytes = bytes } ∷ before) next) same
-      (run_on before home fresh stretch start t m next script runs is_home here.0.0 here.0.1 here.1 found)
+      subst (λ (bytes : List ℕ). Runs drives first from (record { host = name; fresh = fresh; script = script; bytes = bytes } ∷ before) next) same
+      (run_on before name fresh stretch start t m next script runs of_table new_word here.0.0 here.0.1 here.1 found)
 
-  lives_on : (t m : Moment) → Lived drives made before t.tale → Says t m → LivesOn drives home made before fresh script stretch start t m
+  lives_on : (t m : Moment) → Lived drives made before t.tale → Says t m → LivesOn drives name made before fresh script stretch start t m
   lives_on t m lived here =
       let same : here.0.0.bytes ≡ here.0.1.bytes = append_cancel_left (told t.tale) here.0.0.bytes here.0.1.bytes (sym here.0.0.is_told ∙ here.0.1.is_told) in
       record {
-        run = record { made = made; fresh = fresh; stretch = stretch; start = start; t = t; m = m; life = lived; tells = here.0.1; moment = here.1 };
+        run = record { made = made; fresh = fresh; stretch = stretch; start = start; t = t; m = m; life = lived; new_word = new_word; tells = here.0.1; moment = here.1 };
         held = refl;
         numbered = refl;
         stretched = refl;
@@ -101,22 +99,22 @@ module _ (drives : Geometry) (home : Home) (made : Image) (before : List Ran) (f
       }
 
 pub runs_live_on : RunsLiveOn
-runs_live_on drives home made before fresh script stretch start is_home lived stands tells s old =
-    let host = host_of drives home fresh in
+runs_live_on drives name made before fresh script stretch start of_table new_word lived stands tells s old =
+    let host = host_of drives name fresh in
     let both = each_both (OfTales (RunMoment host script)) (IsToldBy host stretch start script) stretch.old stretch.before stretch.new stretch.after stands tells in
-    let says = Says drives home made before fresh script stretch start is_home in
+    let says = Says drives name made before fresh script stretch start of_table new_word in
     let is = with_places (λ t m. OfTales (RunMoment host script) t m × IsToldBy host stretch start script t m) stretch both s old in
     let t = moment_at (tale_of s) stretch.before in
-    (is.0, is.1, passed_weaker (says t) (LivesOn drives home made before fresh script stretch start t) s stretch.before is.0 stretch.after (λ m. lives_on drives home made before fresh script stretch start is_home t m (lived s old)) is.2)
+    (is.0, is.1, passed_weaker (says t) (LivesOn drives name made before fresh script stretch start t) s stretch.before is.0 stretch.after (λ m. lives_on drives name made before fresh script stretch start of_table new_word t m (lived s old)) is.2)
 
 -- how a run starts: the word of its identities, its stretch, its counts of failures and its first moment
 abbrev Start : Type 0
 Start = ℕ × Stretch × Counts × Moment
 
-module _ (drives : Geometry) (home : Home) (made : Image) (before : List Ran) (script : Script) (m : Moment) (next : Tale) (run : Running drives home before script) where
+module _ (drives : Geometry) (name : List ℕ) (made : Image) (before : List Ran) (script : Script) (m : Moment) (next : Tale) (run : Running drives name before script) where
   -- from that start the run went on to the moment
   abbrev GoesOn : Start → Type 0
-  GoesOn at = (later : LivesOn drives home made before at.0 script at.1 at.2 at.3 m) → MayBeFound m.tale next → (went : WentOn run next) × (went.m ≡ m) × (ran_on run next went ≡ ran_now later.run)
+  GoesOn at = (later : LivesOn drives name made before at.0 script at.1 at.2 at.3 m) → MayBeFound m.tale next → (went : WentOn run next) × (went.m ≡ m) × (ran_on run next went ≡ ran_now later.run)
 
   goes_on : GoesOn (run.fresh, run.stretch, run.start, run.t)
   goes_on later found =
@@ -125,15 +123,15 @@ module _ (drives : Geometry) (home : Home) (made : Image) (before : List Ran) (s
         record {
           m = m;
           stands = later.stands;
-          tells = subst (λ (at : Start × Moment). IsToldBy (host_of drives home at.0.0) at.0.1 at.0.2 script at.0.3 at.1) same later.run.tells;
+          tells = subst (λ (at : Start × Moment). IsToldBy (host_of drives name at.0.0) at.0.1 at.0.2 script at.0.3 at.1) same later.run.tells;
           moment = subst (λ (at : Start × Moment). IsMomentOf at.0.1 at.0.3 at.1) same later.run.moment;
           found = found;
         },
         refl,
-        λ i. record { home = home; fresh = sym later.numbered i; script = script; bytes = later.said i },
+        λ i. record { host = name; fresh = sym later.numbered i; script = script; bytes = later.said i },
       )
 
 pub runs_go_on : RunsGoOn
-runs_go_on drives home made before fresh script stretch start t m next run numbered stretched counted started =
+runs_go_on drives name made before fresh script stretch start t m next run numbered stretched counted started =
     let same : ◌≡◌ {A = Start} (run.fresh, run.stretch, run.start, run.t) (fresh, stretch, start, t) = λ i. (numbered i, stretched i, counted i, started i) in
-    subst (GoesOn drives home made before script m next run) same (goes_on drives home made before script m next run)
+    subst (GoesOn drives name made before script m next run) same (goes_on drives name made before script m next run)

@@ -14,6 +14,7 @@ use Rattle.mdv_run_law.specs.Run.{At, Counts, IsAnswered, IsNextFront, IsSaid, I
 use Rattle.mdv_shelf.specs.Story.{Moment}
 use Rattle.mdv_status.specs.Telling.{Said as SaidBytes, replies_in}
 use Rattle.mdv_theorem.specs.Exchanges.{Exchange, IsTold, exchanges, exchanges_of}
+use Rattle.mdv_theorem.proofs.Sure.{IsSure, IsSureAt, sure_of, sure_on}
 use Rattle.mdv_theorem.proofs.Steps.{Steps, next_reply, no_step, one_step, skipped, unreplied, whole_or_none}
 
 -- calls may have failed on any drive
@@ -60,6 +61,7 @@ module _ (host : Host) (start : Counts) (m : Moment) (stretch : Stretch) where
     pub comes : IsAnswered calls host at.kept one.text answer next
     pub said : IsSaid answer
     pub told : IsTold one (text_of answer)
+    pub is_next : (more : Script) × (at.script ≡ line one.text more)
 
   -- a line before it
   module _ (bytes : ℕ) (now mid last : At) (piece left rest : List ℕ) (some : 0 < length piece) (line_told : LineTold host now piece mid) (shown : IsShown stretch bytes (length piece) mid) (here before : List Exchange) (one : Exchange) (behind : List Exchange)
@@ -85,11 +87,12 @@ module _ (host : Host) (start : Counts) (m : Moment) (stretch : Stretch) where
           comes = place.comes;
           said = place.said;
           told = place.told;
+          is_next = place.is_next;
         }
 
   -- it is the next line
   module _ (bytes : ℕ) (now last : At) (so_far rest : List ℕ) (lines : LinesTold host stretch bytes now so_far last) (some : 0 < length (so_far ++ rest)) (text : List ℕ) (more : Script) (is_script : now.script ≡ line text more) (one : Exchange) (behind : List Exchange)
-      (asked : exchanges_of now.script (so_far ++ rest) ≡ one ∷ behind) (calls : Outcomes) (answer : Answer) (next : Kept) (comes : IsAnswered calls host now.kept one.text answer next) (said : IsSaid answer) (told : IsTold one (text_of answer)) where
+      (asked : exchanges_of now.script (so_far ++ rest) ≡ one ∷ behind) (calls : Outcomes) (answer : Answer) (next : Kept) (comes : IsAnswered calls host now.kept one.text answer next) (said : IsSaid answer) (told : IsTold one (text_of answer)) (sure : IsSure host now.kept) (named : text ≡ one.text) where
     right_here : Place bytes now last so_far rest [] one behind
     right_here = record {
       at = now;
@@ -101,46 +104,47 @@ module _ (host : Host) (start : Counts) (m : Moment) (stretch : Stretch) where
       asked = asked;
       size = ap (λ (s : Script). told_before s []) (sym is_script);
       some = some;
-      upto = no_step now.kept;
+      upto = no_step now.kept sure;
       calls = calls;
       answer = answer;
       next = next;
       comes = comes;
       said = said;
       told = told;
+      is_next = (more, is_script ∙ ap (λ (t : List ℕ). line t more) named);
     }
 
   -- of the next line a whole reply was told
-  next_place : (bytes : ℕ) (now last : At) (so_far rest : List ℕ) (lines : LinesTold host stretch bytes now so_far last) (later : Counts) (next : Kept) (more : Script) (answer : Answer) → IsSaid answer → 0 < length (so_far ++ rest)
+  next_place : (bytes : ℕ) (now last : At) (so_far rest : List ℕ) (lines : LinesTold host stretch bytes now so_far last) (later : Counts) (next : Kept) (more : Script) (answer : Answer) → IsSure host now.kept → IsSaid answer → 0 < length (so_far ++ rest)
       → (script : Script) → now.script ≡ script → NextLine host now.counts now.kept script answer later next more → (replies : List (List ℕ)) → replies_in (so_far ++ rest) ≡ text_of answer ∷ replies
       → ((front behind : List Exchange) (one : Exchange) (reply : List ℕ) → exchanges more replies ≡ front ++ one ∷ behind → IsTold one reply → (before : List Exchange) → (length (text_of answer) + told_before more front ≡ told_before script before)
       → ((at : Kept) → Steps host Any next front at → Steps host Any now.kept before at) → Place bytes now last so_far rest before one behind)
       → (here behind : List Exchange) (one : Exchange) (reply : List ℕ) → exchanges script (text_of answer ∷ replies) ≡ here ++ one ∷ behind → IsTold one reply → Place bytes now last so_far rest here one behind
-  next_place bytes now last so_far rest lines later next more answer said some at_end is comes replies split further here behind one reply parts told = absurd comes
-  next_place bytes now last so_far rest lines later next more answer said some (spent n b) is comes replies split further here behind one reply parts told = absurd comes
-  next_place bytes now last so_far rest lines later next more answer said some (too_long left) is comes replies split further here behind one reply parts told =
+  next_place bytes now last so_far rest lines later next more answer sure said some at_end is comes replies split further here behind one reply parts told = absurd comes
+  next_place bytes now last so_far rest lines later next more answer sure said some (spent n b) is comes replies split further here behind one reply parts told = absurd comes
+  next_place bytes now last so_far rest lines later next more answer sure said some (too_long left) is comes replies split further here behind one reply parts told =
       further here behind one reply (subst (λ (s : Script). exchanges s replies ≡ here ++ one ∷ behind) (sym comes.0) parts) told here
       ((λ i. length (text_of (comes.3.0 i)) + told_before (comes.0 i) here))
-      (λ at steps. skipped now.kept next at here comes.3.1 steps)
-  next_place bytes now last so_far rest lines later next more answer said some (line text left) is comes replies split further [] behind one reply parts told =
+      (λ at steps. skipped now.kept next at here sure comes.3.1 steps)
+  next_place bytes now last so_far rest lines later next more answer sure said some (line text left) is comes replies split further [] behind one reply parts told =
       let same : ◌≡◌ {A = Exchange} (record { text = text; reply = Some (text_of answer) }) one = cc (parts) in
       let asked : exchanges_of now.script (so_far ++ rest) ≡ one ∷ behind = (λ i. exchanges (is i) (split i)) ∙ parts in
       right_here bytes now last so_far rest lines some text left is one behind asked (drive_failures now.counts later) answer next
-      (subst (λ (e : Exchange). IsAnswered (drive_failures now.counts later) host now.kept e.text answer next) same comes.2) said (ap (λ (e : Exchange). e.reply) (sym same))
-  next_place bytes now last so_far rest lines later next more answer said some (line text left) is comes replies split further (x ∷ here) behind one reply parts told =
+      (subst (λ (e : Exchange). IsAnswered (drive_failures now.counts later) host now.kept e.text answer next) same comes.2) said (ap (λ (e : Exchange). e.reply) (sym same)) sure (ap (λ (e : Exchange). e.text) same)
+  next_place bytes now last so_far rest lines later next more answer sure said some (line text left) is comes replies split further (x ∷ here) behind one reply parts told =
       let same : ◌≡◌ {A = Exchange} (record { text = text; reply = Some (text_of answer) }) x = cc (parts) in
       let left_parts : exchanges left replies ≡ here ++ one ∷ behind = cc (parts) in
       further here behind one reply (subst (λ (s : Script). exchanges s replies ≡ here ++ one ∷ behind) (sym comes.0) left_parts) told (x ∷ here)
       ((λ i. reply_size ((same i).reply) + told_before (comes.0 i) here))
-      (λ at steps. one_step (drive_failures now.counts later) now.kept next at x answer here (λ drive never. absurd (never tt)) (subst (λ (e : Exchange). IsAnswered (drive_failures now.counts later) host now.kept e.text answer next) same comes.2) said
+      (λ at steps. one_step (drive_failures now.counts later) now.kept next at x answer here sure (λ drive never. absurd (never tt)) (subst (λ (e : Exchange). IsAnswered (drive_failures now.counts later) host now.kept e.text answer next) same comes.2) said
       (ap (λ (e : Exchange). e.reply) (sym same)) steps)
 
   module _ (here behind : List Exchange) (one : Exchange) (reply : List ℕ) (told : IsTold one reply) where
     nothing_told : (script : Script) (rest : List ℕ) → replies_in rest ≡ [] → {X : Type 1} → exchanges_of script rest ≡ here ++ one ∷ behind → X
     nothing_told script rest none parts = absurd (unreplied script here behind one reply (subst (λ (l : List (List ℕ)). exchanges script l ≡ here ++ one ∷ behind) none parts) told)
 
-  front_place : (bytes : ℕ) (now : At) (rest : List ℕ) → NextFront host now rest m → (here behind : List Exchange) (one : Exchange) (reply : List ℕ) → exchanges_of now.script rest ≡ here ++ one ∷ behind → IsTold one reply → Place bytes now now [] rest here one behind
-  front_place bytes now rest front here behind one reply parts told = by front.answer front.comes front.front where
+  front_place : (bytes : ℕ) (now : At) (rest : List ℕ) → IsSure host now.kept → NextFront host now rest m → (here behind : List Exchange) (one : Exchange) (reply : List ℕ) → exchanges_of now.script rest ≡ here ++ one ∷ behind → IsTold one reply → Place bytes now now [] rest here one behind
+  front_place bytes now rest sure front here behind one reply parts told = by front.answer front.comes front.front where
     quiet : replies_in rest ≡ [] → Place bytes now now [] rest here one behind
     quiet none = nothing_told here behind one reply told now.script rest none parts
 
@@ -151,24 +155,24 @@ module _ (host : Host) (start : Counts) (m : Moment) (stretch : Stretch) where
       | inr whole ↦
           let reply_is = next_reply host now.counts front.later now.kept front.next now.script front.more (Said this) comes tt in
           let alone : replies_in rest ≡ text_of (Said this) ∷ [] = ap replies_in (is ∙ whole) ∙ ap (λ (s : SaidBytes). s.replies) reply_is.alone in
-          next_place bytes now now [] rest (no_line bytes now) front.later front.next front.more (Said this) tt (some_told rest (text_of (Said this)) [] alone) now.script refl comes [] alone
+          next_place bytes now now [] rest (no_line bytes now) front.later front.next front.more (Said this) sure tt (some_told rest (text_of (Said this)) [] alone) now.script refl comes [] alone
           (λ before after other text none is_told all size steps. absurd (unreplied front.more before after other text none is_told))
           here behind one reply (subst (λ (l : List (List ℕ)). exchanges now.script l ≡ here ++ one ∷ behind) alone parts) told
     ]
 
-  pub lines_place : (bytes : ℕ) (now last : At) (so_far rest : List ℕ) → LinesTold host stretch bytes now so_far last → IsNextFront host last rest m → (here behind : List Exchange) (one : Exchange) (reply : List ℕ) → exchanges_of now.script (so_far ++ rest) ≡ here ++ one ∷ behind → IsTold one reply
+  pub lines_place : (bytes : ℕ) (now last : At) (so_far rest : List ℕ) → IsSureAt host now → LinesTold host stretch bytes now so_far last → IsNextFront host last rest m → (here behind : List Exchange) (one : Exchange) (reply : List ℕ) → exchanges_of now.script (so_far ++ rest) ≡ here ++ one ∷ behind → IsTold one reply
       → Place bytes now last so_far rest here one behind
-  lines_place bytes now last so_far rest (no_line at there) (inl none) here behind one reply parts told = nothing_told here behind one reply told now.script rest (ap replies_in none ∙ nothing_answers) parts
-  lines_place bytes now last so_far rest (no_line at there) (inr front) here behind one reply parts told = front_place bytes now rest front here behind one reply parts told
-  lines_place bytes now last so_far rest (one_more at there mid end piece left some line_told shown lines) front here behind one reply parts told =
+  lines_place bytes now last so_far rest sure (no_line at there) (inl none) here behind one reply parts told = nothing_told here behind one reply told now.script rest (ap replies_in none ∙ nothing_answers) parts
+  lines_place bytes now last so_far rest sure (no_line at there) (inr front) here behind one reply parts told = front_place bytes now rest (sure_of host now sure) front here behind one reply parts told
+  lines_place bytes now last so_far rest sure (one_more at there mid end piece left some line_told shown lines) front here behind one reply parts told =
       let apart = append_assoc piece left rest in
       let whole : IsReply (text_of line_told.answer) = next_reply host now.counts mid.counts now.kept mid.kept now.script mid.script line_told.answer line_told.comes line_told.said in
       let replies : replies_in ((piece ++ left) ++ rest) ≡ text_of line_told.answer ∷ replies_in (left ++ rest) =
       ap replies_in (apart ∙ ap (λ (l : List ℕ). l ++ (left ++ rest)) line_told.as_text) ∙ ap (λ (s : SaidBytes). s.replies) (whole.behind (left ++ rest)) in
       let texts : length piece ≡ length (text_of line_told.answer) = ap length line_told.as_text in
-      next_place bytes now last (piece ++ left) rest (one_more bytes now mid last piece left some line_told shown lines) mid.counts mid.kept mid.script line_told.answer line_told.said (some_told ((piece ++ left) ++ rest) (text_of line_told.answer) (replies_in (left ++ rest)) replies)
+      next_place bytes now last (piece ++ left) rest (one_more bytes now mid last piece left some line_told shown lines) mid.counts mid.kept mid.script line_told.answer (sure_of host now sure) line_told.said (some_told ((piece ++ left) ++ rest) (text_of line_told.answer) (replies_in (left ++ rest)) replies)
       now.script refl line_told.comes (replies_in (left ++ rest)) replies
       (λ after later other text there_is is_told all size steps.
-      let place = lines_place (bytes + length piece) mid last left rest lines front after later other text there_is is_told in
+      let place = lines_place (bytes + length piece) mid last left rest (sure_on host now mid piece line_told sure) lines front after later other text there_is is_told in
       further bytes now mid last piece left rest some line_told shown after all other later place (omega (arith, texts, size)) (steps place.at.kept place.upto))
       here behind one reply (subst (λ (l : List (List ℕ)). exchanges now.script l ≡ here ++ one ∷ behind) replies parts) told

@@ -3,13 +3,13 @@ use Rattle.std.proofs.Common.{◌≡◌, ◌⊎◌, inl, inr, ⊎_elim, ℕ, Lis
 use Rattle.std.proofs.lemmas.List.Elements.{Contains-append_cases}
 use Rattle.mdv_base.specs.declared.name.Key.{Key}
 use Rattle.mdv_base.specs.declared.name.VolId.{VolId}
+use Rattle.mdv_name.specs.declared.geometry.Geometry.{Geometry}
 use Rattle.mdv_store_law.specs.Log as log
 use Rattle.mdv_table.specs.declared.change.Change.{Change}
 use Rattle.mdv_volumes.specs.Events.{Answers, Begins, Flushes, Issues, VolumeEvent, Woke}
 use Rattle.mdv_volumes.specs.Events as lives
 use Rattle.mdv_volumes.specs.Happening.{IsCourse, MayHappen, deed_of, told_by}
 use Rattle.mdv_volumes.specs.History.{Acknowledges, Boots, Changed, Crashes, Created, Creation, Deed, Event, History, OfDatabase, OfVolume, Reads, Saw, Shows, Stops, Wrote, flushed_by, history_after, history_after_all, is_within, untold_after}
-use Rattle.mdv_volumes.specs.Tables.{Sites}
 use Rattle.mdv_volumes.proofs.Lists.{course_rest, first_or_behind, in_filter, in_without}
 use Rattle.mdv_theorem.proofs.Lines.{never_in}
 
@@ -31,9 +31,9 @@ at_among e es first own later is at =
     is ∙ ap (λ (l : List Event). first ++ (l ++ later)) at.is ∙ ap (λ (l : List Event). first ++ l) (append_assoc at.first (e ∷ at.later) later) ∙ sym (append_assoc first at.first (e ∷ (at.later ++ later)))
 
 -- it may happen there, and those behind it where they do
-pub may_at : (sites : Sites) (h : History) (e : Event) (es first later : List Event) → es ≡ first ++ e ∷ later → IsCourse sites h es → MayHappen sites (history_after_all h first) e × IsCourse sites (history_after (history_after_all h first) e) later
-may_at sites h e es first later is course =
-    let rest = course_rest history_after (MayHappen sites) h first (e ∷ later) (subst (IsCourse sites h) is course) in (rest.0, rest.1)
+pub may_at : (g : Geometry) (h : History) (e : Event) (es first later : List Event) → es ≡ first ++ e ∷ later → IsCourse g h es → MayHappen g (history_after_all h first) e × IsCourse g (history_after (history_after_all h first) e) later
+may_at g h e es first later is course =
+    let rest = course_rest history_after (MayHappen g) h first (e ∷ later) (subst (IsCourse g h) is course) in (rest.0, rest.1)
 
 -- blocks that were written, or read
 abbrev pub IsOfBlocks : Deed → Type 0

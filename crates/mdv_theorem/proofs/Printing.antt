@@ -14,8 +14,6 @@ use Rattle.mdv_engine_law.specs.Replies.{refusal_line, text_of}
 use Rattle.mdv_engine_law.specs.declared.answer.Answer.{Answer}
 use Rattle.mdv_engine_law.specs.declared.answer.Answer.TheVariants.{Over}
 use Rattle.mdv_engine_law.specs.declared.host.Host.{Host}
-use Rattle.mdv_home.specs.Home.{IsHome}
-use Rattle.mdv_home.specs.declared.geometry.Home.{Home}
 use Rattle.mdv_listing.specs.Listing.{listing_of, name_line}
 use Rattle.mdv_listing.proofs.Told.{all_told as lists_all, named_told as lists_names}
 use Rattle.mdv_name.specs.declared.geometry.Geometry.{Geometry}
@@ -25,7 +23,6 @@ use Rattle.mdv_run_law.specs.Run.{IsSaid}
 use Rattle.mdv_run_law.proofs.Placing.{opened_twice}
 use Rattle.mdv_shelf.specs.Failing.{Outcomes}
 use Rattle.mdv_status.specs.Values.{printed_reply}
-use Rattle.mdv_store_law.specs.Site.{Newest}
 use Rattle.mdv_table.specs.Slices.{IsSound}
 use Rattle.mdv_table.specs.Table.{IsPlanOf}
 use Rattle.mdv_table.specs.Volumes.{HasVolume, IsAscending, has_volume}
@@ -34,8 +31,8 @@ use Rattle.mdv_table.proofs.Deciding.{has_volume-true}
 use Rattle.mdv_volumes.proofs.Lists.{contains_behind, contains_first, first_or_behind}
 use Rattle.mdv_words.specs.declared.command.Command.TheVariants.{Print}
 use Rattle.mdv_theorem.specs.Exchanges.{Asks, Exchange, IsTold, exchanges_by}
-use Rattle.mdv_theorem.specs.Observed.{Lists, ListsAll, PrintsOfAll, PrintsOfNames, numbers_of}
-use Rattle.mdv_theorem.specs.Running.{HasAnswered, Running}
+use Rattle.mdv_theorem.specs.Observed.{HaveAnswered, Lists, ListsAll, PrintsOfAll, PrintsOfNames, numbers_of}
+use Rattle.mdv_theorem.specs.Running.{Running}
 use Rattle.mdv_theorem.specs.Words.{IsThere, MayLie, listed_line}
 use Rattle.mdv_theorem.proofs.Aside.{Commanded, came as came_so, commanded, unread}
 use Rattle.mdv_theorem.proofs.Databases.{shown_open}
@@ -43,9 +40,11 @@ use Rattle.mdv_theorem.proofs.Lines.{never_in}
 use Rattle.mdv_theorem.proofs.Listed.{AreListed, are_listed, names_lines, number_has, numbers_in, numbers_rise}
 use Rattle.mdv_theorem.proofs.Lying.{laid}
 use Rattle.mdv_theorem.proofs.Parting.{cut_has}
-use Rattle.mdv_theorem.proofs.Staying.{booted_stands, it_stays, its_home, its_sound}
-use Rattle.mdv_theorem.proofs.Steps.{Failed, Reached, reached, told_once}
-use Rattle.mdv_theorem.proofs.Tables.{keeps_open, open_keeps, stands_steps}
+use Rattle.mdv_theorem.proofs.Enduring.{it_stays}
+use Rattle.mdv_theorem.proofs.Staying.{line_sure}
+use Rattle.mdv_theorem.proofs.Steps.{Reached, reached, told_once}
+use Rattle.mdv_store.specs.Opened.{Opened}
+use Rattle.mdv_theorem.proofs.Sure.{sure_plan}
 
 -- volumes of a table by their numbers, each of which it has
 record AreOf (all : List Volume) (numbers : List VolId) : Type 0 where
@@ -75,27 +74,27 @@ no_pool : (numbers : List VolId) → list_any names_pool (map named.Volume numbe
 no_pool [] = refl
 no_pool (n ∷ numbers) = no_pool numbers
 
-print_free : (opened : Option Newest) (newest : Newest) (numbers : List VolId) → opened ≡ Some newest → ((n : VolId) → Contains numbers n → (v : Volume) × HasVolume newest.table.plan.volumes n v) → first_refusal (held_of_print opened (map named.Volume numbers)) ≡ None
-print_free opened newest numbers is has =
-    ap (λ (o : Option Newest). first_refusal (held_of_print o (map named.Volume numbers))) is
-    ∙ (λ i. first_refusal (where_so (none_missing newest.table.plan.volumes numbers has i) NoSuchVolume ++ where_so (no_pool numbers i) NoSuchPool))
+print_free : (opened : Option Opened) (o : Opened) (numbers : List VolId) → opened ≡ Some o → ((n : VolId) → Contains numbers n → (v : Volume) × HasVolume o.table.plan.volumes n v) → first_refusal (held_of_print opened (map named.Volume numbers)) ≡ None
+print_free opened o numbers is has =
+    ap (λ (p : Option Opened). first_refusal (held_of_print p (map named.Volume numbers))) is
+    ∙ (λ i. first_refusal (where_so (none_missing o.table.plan.volumes numbers has i) NoSuchVolume ++ where_so (no_pool numbers i) NoSuchPool))
 
 -- so the open table is told, or memory was wanting
-module _ (calls : Outcomes) (host : Host) (kept next : Kept) (newest : Newest) (opened : kept.memory.opened ≡ Some newest) (names : List Named) (free : refusal_of (case_of host kept) (Print names) ≡ None) (answer : Answer) (said : IsSaid answer) (reply : List ℕ) (told : text_of answer ≡ reply) where
+module _ (calls : Outcomes) (host : Host) (kept next : Kept) (o : Opened) (opened : kept.memory.opened ≡ Some o) (names : List Named) (free : refusal_of (case_of host kept) (Print names) ≡ None) (answer : Answer) (said : IsSaid answer) (reply : List ℕ) (told : text_of answer ≡ reply) where
   abbrev IsGiven : Type 0
-  IsGiven = (reply ≡ refusal_line OutOfMemory) ⊎ (reply ≡ printed_reply (listing_of newest.table.plan names))
+  IsGiven = (reply ≡ refusal_line OutOfMemory) ⊎ (reply ≡ printed_reply (listing_of o.table.plan names))
 
   of_memory : answer ≡ refusing OutOfMemory → IsGiven
   of_memory is = inl (sym told ∙ ap text_of is)
 
-  of_table : Effect host kept (Print names) answer next → IsGiven
-  of_table (its, also, text, same) =
-      inr (sym told ∙ ap text_of text ∙ ap (λ (n : Newest). printed_reply (listing_of n.table.plan names)) (opened_twice kept.memory.opened newest its opened also))
+  of_listing : Effect calls host kept (Print names) answer next → IsGiven
+  of_listing (calm, its, also, text, same) =
+      inr (sym told ∙ ap text_of text ∙ ap (λ (n : Opened). printed_reply (listing_of n.table.plan names)) (opened_twice kept.memory.opened o its opened also))
 
   came_given : CameTo calls host kept (Print names) answer next → IsGiven
   came_given (refused quiet r why turned) = absurd (cc (free, why))
   came_given (wanting quiet is left) = of_memory is
-  came_given (done quiet allowed effect) = of_table effect
+  came_given (done allowed effect) = of_listing effect
   came_given (faulted allowed is fault) = absurd fault
   came_given (over end allowed is gives) = (let never : IsSaid (Over end) = subst IsSaid is said in absurd never)
 
@@ -104,62 +103,57 @@ module _ (calls : Outcomes) (host : Host) (kept next : Kept) (newest : Newest) (
   given (unread is) = of_memory is
 
 -- where the run has come to a line
-module _ (drives : Geometry) (home : Home) (before : List Ran) (script : Script) (sound : IsSound drives) (is_home : IsHome drives home) (run : Running drives home before script) (calm : HasAnswered run home.drive) (here : List Exchange) (one : Exchange) (at : Reached run here one)
-    (newest : Newest) (opened : at.kept.memory.opened ≡ Some newest) where
+module _ (drives : Geometry) (name : List ℕ) (before : List Ran) (script : Script) (sound : IsSound drives) (of_table : Contains drives.hosts name) (run : Running drives name before script) (here : List Exchange) (calm : HaveAnswered run (exchanges_by name before ++ here)) (one : Exchange) (at : Reached run here one)
+    (o : Opened) (opened : at.kept.memory.opened ≡ Some o) where
   abbrev host : Host
-  host = host_of drives home run.fresh
+  host = host_of drives name run.fresh
 
   abbrev lines : List Exchange
-  lines = exchanges_by home before ++ here
-
-  abbrev own : IsSound host.drives
-  own = its_sound drives home before script sound is_home run
+  lines = exchanges_by name before ++ here
 
   -- the table is one of the drives
-  plan : IsPlanOf host.drives newest.table.plan
-  plan =
-      let stands = stands_steps host own (its_home drives home before script sound is_home run) (Failed run) at.first at.kept here (booted_stands drives home before script sound is_home run here one at) at.steps in
-      (open_keeps host (λ table. Unit {0}) at.kept newest (keeps_open host (λ table. Unit {0}) at.kept newest stands opened tt) opened).1
+  plan : IsPlanOf host.drives o.table.plan
+  plan = sure_plan host at.kept o (line_sure drives name before script sound of_table run here one at) opened
 
   -- it has a volume that lines show to be there
-  has_shown : (volume : VolId) → IsThere volume lines → (v : Volume) × HasVolume newest.table.plan.volumes volume v
+  has_shown : (volume : VolId) → IsThere volume lines → (v : Volume) × HasVolume o.table.plan.volumes volume v
   has_shown volume there =
       let among = subst (λ (l : List Exchange). Contains l there.shown) (sym there.parts) (cut_has there.before there.behind there.shown) in
-      let its = it_stays drives home before script sound is_home run here one at calm there.shown volume among there.shows in
-      subst (λ (n : Newest). (v : Volume) × HasVolume n.table.plan.volumes volume v) (opened_twice at.kept.memory.opened newest its.newest opened its.opened) (its.so.1.of, its.so.1.has)
+      let its = it_stays drives name before script sound of_table run here one at calm there.shown volume among there.shows in
+      subst (λ (n : Opened). (v : Volume) × HasVolume n.table.plan.volumes volume v) (opened_twice at.kept.memory.opened o its.o opened its.opened) (its.so.1.of, its.so.1.has)
 
   -- and its volumes are told with slices on which they may lie
-  told_of : (vs : List Volume) → ((x : Volume) → Contains vs x → Contains newest.table.plan.volumes x) → AreListed host.drives (λ volume slice. MayLie volume slice lines) vs
+  told_of : (vs : List Volume) → ((x : Volume) → Contains vs x → Contains o.table.plan.volumes x) → AreListed host.drives (λ volume slice. MayLie volume slice lines) vs
   told_of vs among = are_listed host.drives (λ volume slice. MayLie volume slice lines) vs (λ x has.
-      (let on = laid drives home before script sound is_home run x.number here one at newest opened x (among x has, refl) in (on.slice, on.may, on.is)))
+      (let on = laid drives name before script sound of_table run x.number here one at o opened x (among x has, refl) in (on.slice, on.may, on.is)))
 
-  up : IsAscending newest.table.plan.volumes
+  up : IsAscending o.table.plan.volumes
   up = plan.numbers.ascending
 
-  printed : (names : List Named) → refusal_of (case_of host at.kept) (Print names) ≡ None → Asks one (Print names) → (reply : List ℕ) → IsTold one reply → (reply ≡ refusal_line OutOfMemory) ⊎ (reply ≡ printed_reply (listing_of newest.table.plan names))
+  printed : (names : List Named) → refusal_of (case_of host at.kept) (Print names) ≡ None → Asks one (Print names) → (reply : List ℕ) → IsTold one reply → (reply ≡ refusal_line OutOfMemory) ⊎ (reply ≡ printed_reply (listing_of o.table.plan names))
   printed names free asks reply told =
-      given at.calls host at.kept at.next newest opened names free at.answer at.said reply (told_once one (text_of at.answer) reply at.told told) (commanded at.calls host at.kept at.next one.text (Print names) at.answer asks at.comes)
+      given at.calls host at.kept at.next o opened names free at.answer at.said reply (told_once one (text_of at.answer) reply at.told told) (commanded at.calls host at.kept at.next one.text (Print names) at.answer asks at.comes)
 
   pub named_told : (first : VolId) (volumes : List VolId) → ((volume : VolId) → Contains (first ∷ volumes) volume → IsThere volume lines) → Asks one (Print (map named.Volume (first ∷ volumes))) → (reply : List ℕ) → IsTold one reply
       → (reply ≡ refusal_line OutOfMemory) ⊎ ((is : Lists lines reply) × (numbers_of is.listed ≡ first ∷ volumes))
   named_told first volumes there asks reply told =
-      let p = newest.table.plan in
+      let p = o.table.plan in
       let has : (n : VolId) → Contains (first ∷ volumes) n → (v : Volume) × HasVolume p.volumes n v = λ n among. has_shown n (there n among) in
       let of = are_of p.volumes (first ∷ volumes) has in
       let lists = told_of of.volumes of.there in
       let text : listing_of p (map named.Volume (first ∷ volumes)) ≡ flat_map listed_line lists.listed =
       lists_names p (named.Volume first) (map named.Volume volumes) ∙ ap (λ (l : List VolId). flat_map (name_line p) (map named.Volume l)) (sym of.are) ∙ names_lines p of.volumes up of.there ∙ lists.text in
-      elim (printed (map named.Volume (first ∷ volumes)) (print_free at.kept.memory.opened newest (first ∷ volumes) opened has) asks reply told) [
+      elim (printed (map named.Volume (first ∷ volumes)) (print_free at.kept.memory.opened o (first ∷ volumes) opened has) asks reply told) [
         | inl want ↦ inl want
         | inr is ↦ inr (record { listed = lists.listed; told = is ∙ ap printed_reply text; lie = lists.may }, lists.numbers ∙ of.are)
       ]
 
   pub all_told : Asks one (Print []) → (reply : List ℕ) → IsTold one reply → (reply ≡ refusal_line OutOfMemory) ⊎ ListsAll lines reply
   all_told asks reply told =
-      let p = newest.table.plan in
+      let p = o.table.plan in
       let lists = told_of p.volumes (λ x has. has) in
       let text : listing_of p [] ≡ flat_map listed_line lists.listed = lists_all p plan.numbers ∙ lists.text in
-      elim (printed [] (print_free at.kept.memory.opened newest [] opened (λ n none. absurd (never_in n none))) asks reply told) [
+      elim (printed [] (print_free at.kept.memory.opened o [] opened (λ n none. absurd (never_in n none))) asks reply told) [
         | inl want ↦ inl want
         | inr is ↦ inr (record {
           are = record { listed = lists.listed; told = is ∙ ap printed_reply text; lie = lists.may };
@@ -170,20 +164,22 @@ module _ (drives : Geometry) (home : Home) (before : List Ran) (script : Script)
       ]
 
 pub prints_of_names : PrintsOfNames
-prints_of_names drives home before script is_home run calm one earlier first volumes answered there asks reply told =
+prints_of_names drives name before script of_table run one earlier first volumes answered enough there asks reply told =
     let sound = run.life.fair in
-    let at = reached run answered.here answered.later one reply answered.is told in
-    let shown : (volume : VolId) → Contains (first ∷ volumes) volume → IsThere volume (exchanges_by home before ++ answered.here) = λ volume has. subst (IsThere volume) answered.behind (there volume has) in
+    let calm = subst (HaveAnswered run) answered.behind enough in
+    let at = reached run of_table answered.here answered.later one reply answered.is told in
+    let shown : (volume : VolId) → Contains (first ∷ volumes) volume → IsThere volume (exchanges_by name before ++ answered.here) = λ volume has. subst (IsThere volume) answered.behind (there volume has) in
     let by = shown first (contains_first first volumes) in
     let among = subst (λ (l : List Exchange). Contains l by.shown) (sym by.parts) (cut_has by.before by.behind by.shown) in
-    let its = it_stays drives home before script sound is_home run answered.here one at calm by.shown first among by.shows in
+    let its = it_stays drives name before script sound of_table run answered.here one at calm by.shown first among by.shows in
     subst (λ (l : List Exchange). (reply ≡ refusal_line OutOfMemory) ⊎ ((is : Lists l reply) × (numbers_of is.listed ≡ first ∷ volumes))) (sym answered.behind)
-    (named_told drives home before script sound is_home run calm answered.here one at its.newest its.opened first volumes shown asks reply told)
+    (named_told drives name before script sound of_table run answered.here calm one at its.o its.opened first volumes shown asks reply told)
 
 pub prints_of_all : PrintsOfAll
-prints_of_all drives home before script is_home run calm one earlier answered has asks reply told =
+prints_of_all drives name before script of_table run one earlier answered enough has asks reply told =
     let sound = run.life.fair in
-    let at = reached run answered.here answered.later one reply answered.is told in
+    let calm = subst (HaveAnswered run) answered.behind enough in
+    let at = reached run of_table answered.here answered.later one reply answered.is told in
     let among = subst (λ (l : List Exchange). Contains l has.shown) (sym has.parts ∙ answered.behind) (cut_has has.before has.behind has.shown) in
-    let its = shown_open drives home before script sound is_home run calm answered.here one at has.shown among has.command has.needs has.asks has.granted in
-    subst (λ (l : List Exchange). (reply ≡ refusal_line OutOfMemory) ⊎ ListsAll l reply) (sym answered.behind) (all_told drives home before script sound is_home run calm answered.here one at its.0 its.1 asks reply told)
+    let its = shown_open drives name before script sound of_table run answered.here one at calm has.shown among has.command has.needs has.asks has.granted in
+    subst (λ (l : List Exchange). (reply ≡ refusal_line OutOfMemory) ⊎ ListsAll l reply) (sym answered.behind) (all_told drives name before script sound of_table run answered.here calm one at its.0 its.1 asks reply told)

@@ -1,13 +1,10 @@
 -- A volume that the newest table of a host had, whose write was answered: each table that a boot may find since has it, where it lay.
 use Rattle.std.proofs.Common.{ℕ, List, Option, Some, None, sym, subst}
+use Rattle.mdv_base.specs.declared.name.Key.{Key}
 use Rattle.mdv_base.specs.declared.name.VolId.{VolId}
-use Rattle.mdv_engine_law.specs.Home.{key_of, sites_of}
-use Rattle.mdv_engine_law.specs.declared.host.Host.{Host}
 use Rattle.mdv_map.specs.Maps.{Map}
 use Rattle.mdv_name.specs.declared.geometry.Geometry.{Geometry}
-use Rattle.mdv_run_law.proofs.Made.{its_site}
 use Rattle.mdv_store_law.specs.Log.{IsMade, Log}
-use Rattle.mdv_store_law.specs.Site.{Site}
 use Rattle.mdv_table.specs.declared.change.Change.{Change}
 use Rattle.mdv_table.specs.declared.change.Change.TheVariants.{MakeStripe}
 use Rattle.mdv_table.specs.declared.table.Table.{Table}
@@ -25,16 +22,12 @@ pub map_stays : (g : Geometry) (volume : VolId) (v : Map) (asked : Option Change
 map_stays g volume v None old next made map = subst (λ (table : Table). IsMapOf g table volume v) (sym made) map
 map_stays g volume v (Some (MakeStripe other slice)) old next made map = tables_lie.stays g old next other slice volume v made.0 map
 
-pub range_lasts : (host : Host) (h : History) (es : List Event) (volume : VolId) (at count : ℕ) → HasLogs (sites_of host) h → (range : HasRange (sites_of host) h.databases (key_of host) volume at count) → IsCourse (sites_of host) h es
-    → AreLasting host.drives (λ table. IsMapOf host.drives table volume range.map) (log_of (history_after_all h es).databases (key_of host))
-range_lasts host h es volume at count logs range course =
-    let key = key_of host in
+pub range_lasts : (g : Geometry) (key : Key) (h : History) (es : List Event) (volume : VolId) (at count : ℕ) → HasLogs g h → (range : HasRange g h.databases key volume at count) → IsCourse g h es
+    → AreLasting g (λ table. IsMapOf g table volume range.map) (log_of (history_after_all h es).databases key)
+range_lasts g key h es volume at count logs range course =
     let there = range.there in
-    let site = there.site in
-    let g = site.drives in
     let v = range.map in
     let P : Table → Type 0 = λ table. IsMapOf g table volume v in
-    let start = lasting_at g P (log_of h.databases key) there.newest there.older (logs key site there.is_site) there.family there.written there.map in
-    let later = lasting_all g P (map_stays g volume v) (log_of h.databases key) (log_events_of key es) (databases_live.may key site (sites_of host) h es there.is_site course) start in
-    subst (λ (s : Site). AreLasting s.drives (λ table. IsMapOf s.drives table volume v) (log_of (history_after_all h es).databases key)) (its_site host key site there.is_site)
-    (subst (λ (lg : Log). AreLasting g (λ table. IsMapOf g table volume v) lg) (sym (databases_live.is key (sites_of host) h es course)) later)
+    let start = lasting_at g P (log_of h.databases key) there.newest there.older (logs key) there.family there.written there.map in
+    let later = lasting_all g P (map_stays g volume v) (log_of h.databases key) (log_events_of key es) (databases_live.may key g h es course) start in
+    subst (λ (lg : Log). AreLasting g P lg) (sym (databases_live.is key g h es course)) later

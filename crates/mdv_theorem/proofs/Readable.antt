@@ -17,11 +17,12 @@ use Rattle.mdv_engine_law.specs.declared.answer.Answer.TheVariants.{Over}
 use Rattle.mdv_engine_law.proofs.Beside.{run_is}
 use Rattle.mdv_name.specs.declared.geometry.Geometry.{Geometry}
 use Rattle.mdv_name.specs.declared.slice_lines.SliceAt.{SliceAt}
-use Rattle.mdv_run_law.specs.Below.{Base, Component, Host, Map, Newest, OutOfMemory, OutOfRange, Read, Slice, Stripe, VolId, Volume, VolumeKind, run_map}
+use Rattle.mdv_run_law.specs.Below.{Base, Component, Host, Map, OutOfMemory, OutOfRange, Read, Slice, Stripe, VolId, Volume, VolumeKind, run_map}
 use Rattle.mdv_run_law.specs.Run.{IsSaid}
 use Rattle.mdv_volumes.specs.Tables.{IsBaseMap, IsKindMap, IsMapOf}
 use Rattle.mdv_theorem.specs.Observed.{AreValuesOf}
 use Rattle.mdv_theorem.proofs.Aside.{Commanded, came, unread}
+use Rattle.mdv_store.specs.Opened.{Opened}
 
 -- it has so many blocks, and its drive isn't one of these
 abbrev pub IsReadable : (ℕ → Type 0) → ℕ → Map → Type 0
@@ -50,24 +51,24 @@ none_held false false one other = refl
 none_held true many one other = absurd (cc (one))
 none_held false true one other = absurd (cc (other))
 
-pub read_free : (opened : Option Newest) (newest : Newest) (volume : VolId) (of : Volume) (at count : ℕ) → opened ≡ Some newest → find (has_number volume) newest.table.plan.volumes ≡ Some of → at + count ≤ size_of of.kind → count ≤ 1024
+pub read_free : (opened : Option Opened) (o : Opened) (volume : VolId) (of : Volume) (at count : ℕ) → opened ≡ Some o → find (has_number volume) o.table.plan.volumes ≡ Some of → at + count ≤ size_of of.kind → count ≤ 1024
     → first_refusal (held_of_read opened volume at count) ≡ None
-read_free opened newest volume of at count is_open found within few =
-    ap (λ (o : Option Newest). first_refusal (held_of_read o volume at count)) is_open
+read_free opened o volume of at count is_open found within few =
+    ap (λ (p : Option Opened). first_refusal (held_of_read p volume at count)) is_open
     ∙ ap (λ (o : Option Volume). first_refusal (held_past o (at + count) ++ where_so (nat_lt 1024 count) TooMany)) found
     ∙ none_held (nat_lt (size_of of.kind) (at + count)) (nat_lt 1024 count) (not_past (size_of of.kind) (at + count) within) (not_past 1024 count few)
 
 -- where this is kept the volume is in the open table, its drive answered, and nothing refuses the read
-module _ (calls : Outcomes) (host : Host) (kept next : Kept) (newest : Newest) (opened : kept.memory.opened ≡ Some newest) (volume : VolId) (at count : ℕ) (free : refusal_of (case_of host kept) (Read volume at count) ≡ None)
-    (calm : (drive first blocks : ℕ) → IsMapOf host.drives newest.table volume (run_map drive first blocks) → (calls drive).some → ⊥) (answer : Answer) (said : IsSaid answer) (reply : List ℕ) (told : text_of answer ≡ reply) where
+module _ (calls : Outcomes) (host : Host) (kept next : Kept) (o : Opened) (opened : kept.memory.opened ≡ Some o) (volume : VolId) (at count : ℕ) (free : refusal_of (case_of host kept) (Read volume at count) ≡ None)
+    (calm : (drive first blocks : ℕ) → IsMapOf host.drives o.table volume (run_map drive first blocks) → (calls drive).some → ⊥) (answer : Answer) (said : IsSaid answer) (reply : List ℕ) (told : text_of answer ≡ reply) where
   abbrev IsGiven : Type 0
   IsGiven = (reply ≡ refusal_line OutOfMemory) ⊎ AreValuesOf at count reply
 
   of_memory : answer ≡ refusing OutOfMemory → IsGiven
   of_memory is = inl (sym told ∙ ap text_of is)
 
-  of_values : Effect host kept (Read volume at count) answer next → IsGiven
-  of_values (from, there, values, stays) = inr (record {
+  of_values : Effect calls host kept (Read volume at count) answer next → IsGiven
+  of_values (calm, from, there, values, stays) = inr (record {
     blocks = blocks_of kept.content from count;
     counted = length-map-range_with_len (kept.content from.drive) from.block count;
     told = sym told ∙ ap text_of values;
@@ -76,11 +77,11 @@ module _ (calls : Outcomes) (host : Host) (kept next : Kept) (newest : Newest) (
   came_given : CameTo calls host kept (Read volume at count) answer next → IsGiven
   came_given (refused quiet s why turned) = absurd (cc (free, why))
   came_given (wanting quiet is left) = of_memory is
-  came_given (done quiet allowed effect) = of_values effect
+  came_given (done allowed effect) = of_values effect
   came_given (faulted allowed is left) =
       let lies = left.2.lies in
-      let same : newest ≡ lies.0 = (let both : Some newest ≡ Some lies.0 = sym opened ∙ lies.1 in cc both) in
-      absurd (calm left.0.drive left.2.first left.2.blocks (subst (λ (n : Newest). IsMapOf host.drives n.table volume (run_map left.0.drive left.2.first left.2.blocks)) (sym same) lies.2) left.1.here)
+      let same : o ≡ lies.0 = (let both : Some o ≡ Some lies.0 = sym opened ∙ lies.1 in cc both) in
+      absurd (calm left.0.drive left.2.first left.2.blocks (subst (λ (n : Opened). IsMapOf host.drives n.table volume (run_map left.0.drive left.2.first left.2.blocks)) (sym same) lies.2) left.1.here)
   came_given (over end allowed is left) = (let never : IsSaid (Over end) = subst IsSaid is said in absurd never)
 
   pub given : Commanded calls host kept (Read volume at count) answer next → IsGiven

@@ -1,5 +1,5 @@
 -- A read of blocks of which a volume keeps its copies is told, with a value of each, or refused for want of memory.
-use Rattle.std.proofs.Common.{◌≡◌, ◌+◌, List, None, Contains, sym, ◌∙◌, subst}
+use Rattle.std.proofs.Common.{◌≡◌, ◌+◌, List, Contains, sym, ◌∙◌, subst}
 use Rattle.mdv_engine_law.specs.Replies.{text_of}
 use Rattle.mdv_engine_law.proofs.Volumes.{find_is}
 use Rattle.mdv_name.specs.declared.geometry.Geometry.{Geometry}
@@ -8,35 +8,37 @@ use Rattle.mdv_run_law.specs.Lives.{host_of}
 use Rattle.mdv_volumes.specs.Tables.{IsMapOf}
 use Rattle.mdv_volumes.proofs.Tables.{tables_lie}
 use Rattle.mdv_theorem.specs.Exchanges.{Exchange}
-use Rattle.mdv_theorem.specs.Observed.{ReadsAreTold}
+use Rattle.mdv_theorem.specs.Observed.{HaveAnswered, ReadsAreTold}
 use Rattle.mdv_theorem.specs.Words.{MayLie}
 use Rattle.mdv_theorem.proofs.Agreeing.{own_sound}
 use Rattle.mdv_theorem.proofs.Aside.{commanded}
 use Rattle.mdv_theorem.proofs.Lying.{lies_made}
 use Rattle.mdv_theorem.proofs.Parting.{cut_has}
 use Rattle.mdv_theorem.proofs.Readable.{given, kind_size, read_free, slice_readable}
-use Rattle.mdv_theorem.proofs.Staying.{it_stays}
+use Rattle.mdv_theorem.proofs.Enduring.{it_stays}
+use Rattle.mdv_theorem.proofs.Staying.{line_sure}
 use Rattle.mdv_theorem.proofs.Steps.{Failed, reached, told_once}
+use Rattle.mdv_theorem.proofs.Sure.{sure_plan}
 
 -- a volume of a table lies in one place
 pub one_map : (g : Geometry) (table : Table) → IsSound g → IsPlanOf g table.plan → (volume : VolId) (v w : Map) → IsMapOf g table volume v → IsMapOf g table volume w → v ≡ w
-one_map g table sound plan volume v w one other = (tables_lie.laid (λ key. None) g table sound (λ key site name at never. absurd (cc (never))) plan).one volume v w one other
+one_map g table sound plan volume v w one other = (tables_lie.laid g table sound plan).one volume v w one other
 
 pub reads_are_told : ReadsAreTold
-reads_are_told drives home before script is_home run calm one earlier volume at count answered begun asks few copies reply told =
+reads_are_told drives name before script of_table run one earlier volume at count answered calm begun asks few copies reply told =
     let sound = run.life.fair in
-    let to = reached run answered.here answered.later one reply answered.is told in
-    let its_host = host_of drives home run.fresh in
+    let to = reached run of_table answered.here answered.later one reply answered.is told in
+    let its_host = host_of drives name run.fresh in
     let among = subst (λ (l : List Exchange). Contains l begun.shown) (sym begun.parts ∙ answered.behind) (cut_has begun.before begun.behind begun.shown) in
-    let there = it_stays drives home before script sound is_home run answered.here one to calm begun.shown volume among begun.shows in
-    let plan = there.is.has.is.of_geometry in
+    let there = it_stays drives name before script sound of_table run answered.here one to (subst (HaveAnswered run) answered.behind calm) begun.shown volume among begun.shows in
+    let plan = sure_plan its_host to.kept there.o (line_sure drives name before script sound of_table run answered.here one to) there.opened in
     let of = there.so.1.of in
-    let lies = lies_made drives home before script sound is_home run volume answered.here one to there.newest there.opened plan there.so.0 there.so.1 in
+    let lies = lies_made drives name before script sound of_table run volume answered.here one to there.o there.opened plan there.so.0 there.so.1 in
     let may = subst (λ (l : List Exchange). MayLie volume lies.slice l) (sym answered.behind) lies.may in
     let good = slice_readable (Failed run) (at + count) lies.at there.so.0 lies.is (copies.within lies.slice lies.at may lies.has lies.plain) (copies.answered lies.slice lies.at may lies.has lies.plain) in
-    let found = find_is there.newest.table.plan.volumes volume of plan.numbers.ascending there.so.1.has in
+    let found = find_is there.o.table.plan.volumes volume of plan.numbers.ascending there.so.1.has in
     let size = kind_size (Failed run) (at + count) its_host.drives of.kind there.so.0 there.so.1.kind good in
-    let free = read_free to.kept.memory.opened there.newest volume of at count there.opened found size few in
-    given to.calls its_host to.kept to.next there.newest there.opened volume at count free
-    (λ drive first blocks lies_so. to.unfailed drive (good drive first blocks (one_map its_host.drives there.newest.table (own_sound drives home run.fresh sound) plan volume there.so.0 (run_map drive first blocks) there.so.1 lies_so)).1)
+    let free = read_free to.kept.memory.opened there.o volume of at count there.opened found size few in
+    given to.calls its_host to.kept to.next there.o there.opened volume at count free
+    (λ drive first blocks lies_so. to.unfailed drive (good drive first blocks (one_map its_host.drives there.o.table (own_sound drives name run.fresh sound) plan volume there.so.0 (run_map drive first blocks) there.so.1 lies_so)).1)
     to.answer to.said reply (told_once one (text_of to.answer) reply to.told told) (commanded to.calls its_host to.kept to.next one.text (Read volume at count) to.answer asks to.comes)

@@ -1,45 +1,37 @@
 -- Where a run that went on was before a read that it had answered: what the read told of a block is what is there, and a crash would leave just that, where no call had failed on its drive.
-use Rattle.std.proofs.Common.{◌≡◌, inl, inr, ℕ, ◌+◌, ◌≤◌, ◌<◌, false, List, ◌∷◌, ◌++◌, length, length-append, Some, Contains, sym, ◌∙◌, ap, subst, append_assoc, arith}
+use Rattle.std.proofs.Common.{◌≡◌, inl, inr, ℕ, ◌+◌, ◌≤◌, ◌<◌, false, List, ◌∷◌, ◌++◌, length, length-append, Some, Contains, sym, ◌∙◌, ap, subst, append_assoc, arith, refl}
 use Rattle.mdv_base.proofs.Causes.{rose_of_once, rose_within}
 use Rattle.mdv_base.specs.declared.drive.DriveNo.{DriveNo}
-use Rattle.mdv_engine_law.specs.Answers.{accepted}
-use Rattle.mdv_engine_law.specs.Home.{site_of}
-use Rattle.mdv_engine_law.specs.Line.{contents}
 use Rattle.mdv_engine_law.specs.declared.host.Host.{Host}
 use Rattle.mdv_engine_law.proofs.Plain.{nothing_answers}
-use Rattle.mdv_home.specs.Home.{IsHome}
-use Rattle.mdv_home.specs.declared.geometry.Home.{Home}
 use Rattle.mdv_name.specs.declared.geometry.Geometry.{Geometry}
 use Rattle.mdv_port.specs.Script.{Script}
 use Rattle.mdv_run_law.specs.Lives.{Ran, host_of}
-use Rattle.mdv_run_law.specs.Run.{At, behind_boot, drive_failures, started}
+use Rattle.mdv_run_law.specs.Run.{At, behind_boot, drive_failures}
 use Rattle.mdv_run_law.specs.Told.{IsToldBy, RunToldBy}
-use Rattle.mdv_run_law.proofs.Extents.{SeesHome}
 use Rattle.mdv_shelf.specs.Calls.{OnDrive}
 use Rattle.mdv_shelf.specs.Story.{Moment, Story, tale_of}
 use Rattle.mdv_shelf.specs.Tale.{last, told}
 use Rattle.mdv_status.specs.Telling.{replies_in}
-use Rattle.mdv_store_law.specs.Site.{area_of}
 use Rattle.mdv_table.specs.Slices.{IsSound}
 use Rattle.mdv_theorem.specs.Exchanges.{Exchange, IsTold, exchanges, exchanges_of}
 use Rattle.mdv_theorem.specs.Running.{HasAnswered, Running, exchanges_now}
 use Rattle.mdv_theorem.proofs.Begun.{boot_shown}
-use Rattle.mdv_theorem.proofs.Placed.{Any, Place, lines_place, told_before}
+use Rattle.mdv_theorem.proofs.Placed.{Place, lines_place, told_before}
 use Rattle.mdv_theorem.proofs.Settled.{IsSettledAt}
-use Rattle.mdv_theorem.proofs.Staying.{its_home, its_sound}
+use Rattle.mdv_theorem.proofs.Staying.{its_sound}
 use Rattle.mdv_theorem.proofs.Steps.{unreplied}
 use Rattle.mdv_theorem.proofs.Synced.{IsThere, lines_read, lines_rise, lines_settled, lines_shown, lines_story}
-use Rattle.mdv_theorem.proofs.Tables.{Stands, stands_boot, stands_steps}
+use Rattle.mdv_shown.specs.Site.{site_area}
+use Rattle.mdv_theorem.proofs.Owned.{run_start}
+use Rattle.mdv_theorem.proofs.Sure.{IsSureAt, sure_boot}
 
-module _ (drives : Geometry) (home : Home) (before : List Ran) (script : Script) (sound : IsSound drives) (is_home : IsHome drives home) (run : Running drives home before script) where
+module _ (drives : Geometry) (name : List ℕ) (before : List Ran) (script : Script) (sound : IsSound drives) (of_table : Contains drives.hosts name) (run : Running drives name before script) where
   abbrev host : Host
-  host = host_of drives home run.fresh
+  host = host_of drives name run.fresh
 
   abbrev own : IsSound host.drives
-  own = its_sound drives home before script sound is_home run
-
-  abbrev sees : SeesHome host
-  sees = its_home drives home before script sound is_home run
+  own = its_sound drives name before script sound of_table run
 
   module _ (here behind : List Exchange) (read : Exchange) (reply : List ℕ) (told_it : IsTold read reply) where
     -- the run was told of by a moment, and was before the line
@@ -47,12 +39,18 @@ module _ (drives : Geometry) (home : Home) (before : List Ran) (script : Script)
       pub by : RunToldBy host run.stretch run.start run.t.tale script bytes m
       pub place : Place host run.start m run.stretch 0 (behind_boot by.booted by.by by.kept script) by.lines.at by.lines.so_far by.lines.rest here read behind
 
+    -- behind its boot
+    booted_sure : (m : Moment) (bytes : List ℕ) (by : RunToldBy host run.stretch run.start run.t.tale script bytes m) → IsSureAt host (behind_boot by.booted by.by by.kept script)
+    booted_sure m bytes by =
+        let begun = run_start run of_table in
+        sure_boot host run.stretch run.start run.t.tale script bytes m by run.moment.begins.0 run.moment.begins.1 begun.0 begun.1 begun.2
+
     pub came : (m : Moment) (tells : IsToldBy host run.stretch run.start script run.t m) → exchanges_of script tells.bytes ≡ here ++ read ∷ behind → Came m tells.bytes
     came m tells parts = elim tells.tells [
       | inl none ↦ absurd (unreplied script here behind read reply (subst (λ (l : List (List ℕ)). exchanges script l ≡ here ++ read ∷ behind) (ap replies_in none.0 ∙ nothing_answers) parts) told_it)
       | inr by ↦ record {
         by = by;
-        place = lines_place host run.start m run.stretch 0 (behind_boot by.booted by.by by.kept script) by.lines.at by.lines.so_far by.lines.rest by.lines.lines by.lines.front here behind read reply (subst (λ (l : List ℕ). exchanges_of script l ≡ here ++ read ∷ behind) by.lines.parts parts) told_it;
+        place = lines_place host run.start m run.stretch 0 (behind_boot by.booted by.by by.kept script) by.lines.at by.lines.so_far by.lines.rest (booted_sure m tells.bytes by) by.lines.lines by.lines.front here behind read reply (subst (λ (l : List ℕ). exchanges_of script l ≡ here ++ read ∷ behind) by.lines.parts parts) told_it;
       }
     ]
 
@@ -80,9 +78,6 @@ module _ (drives : Geometry) (home : Home) (before : List Ran) (script : Script)
         let all : length (told run.m.tale) ≡ length (told run.t.tale) + length run.tells.bytes = ap length run.tells.is_told ∙ length-append (told run.t.tale) run.tells.bytes in
         ((run.moment.shows shown.0 shown.1 at.place.at shown.2).behind (omega (arith, less, size, within, all))).drives drive
 
-    pub stands : Stands host at.place.at.kept
-    stands = stands_steps host own sees Any at.by.kept at.place.at.kept here (stands_boot host own sees (drive_failures run.start at.by.booted) (started (contents run.t.tale)) at.by.kept accepted at.by.boots tt) at.place.upto
-
     module _ (s : Story) (begins : run.stretch.old ≡ Some s) where
       booted : (u : Story) × (at.by.by.story ≡ Some u)
       booted = let is = at.by.point.before s begins in (is.0, is.1)
@@ -93,16 +88,16 @@ module _ (drives : Geometry) (home : Home) (before : List Ran) (script : Script)
       pub reads_there : (drive b : ℕ) → last (tale_of there.0) drive b ≡ at.place.at.kept.content drive b
       reads_there = lines_read host run.stretch 0 first at.place.at at.place.front at.place.lines at.by.point.reads there.0 there.1
 
-      pub settled_there : (drive : DriveNo) → Contains host.own drive → HasAnswered run drive → (b : ℕ) (out : area_of (site_of host) drive.0 b ≡ false) → IsSettledAt host own drive.0 b out (tale_of there.0)
+      pub settled_there : (drive : DriveNo) → Contains host.site.drives drive → HasAnswered run drive → (b : ℕ) (out : site_area host.site drive.0 b ≡ false) → IsSettledAt host own refl drive.0 b out (tale_of there.0)
       settled_there drive its answered b out =
           let high = upto drive.0 in
           let rise = lines_rise host run.start m run.stretch drive.0 0 first at.place.at at.place.front at.place.lines in
           let low = at.by.rose.drives drive.0 in
           let calm : (drive_failures run.start at.by.booted drive.0).some → ⊥ = λ once.
           answered (rose_within (run.start.drives drive.0) (run.start.drives drive.0) (at.by.booted.drives drive.0) (run.m.faults (OnDrive drive.0)) (omega arith) (omega (arith, rise, high)) (rose_of_once (run.start.drives drive.0) (at.by.booted.drives drive.0) once)) in
-          let begun : IsThere host run.start m run.stretch own sees drive.0 b out first = record { story = booted.0; is = booted.1; settled = (at.by.leads booted.0 booted.1).synced drive its calm b } in
-          let is = lines_settled host run.start m run.stretch own sees drive.0 b out 0 first at.place.at at.place.front at.place.lines
-          (stands_boot host own sees (drive_failures run.start at.by.booted) (started (contents run.t.tale)) at.by.kept accepted at.by.boots tt) low
+          let sure = booted_sure here behind read reply told_it m bytes at.by in
+          let begun : IsThere host run.start m run.stretch own refl drive.0 b out first = record { sure = sure; settled = (at.by.leads sure.story sure.is).synced drive its calm b } in
+          let is = lines_settled host run.start m run.stretch own refl drive.0 b out 0 first at.place.at at.place.front at.place.lines low
           (λ rose. answered (rose_within (run.start.drives drive.0) (run.start.drives drive.0) (at.place.at.counts.drives drive.0) (run.m.faults (OnDrive drive.0)) (omega arith) high rose)) begun in
-          let same : is.story ≡ there.0 = (let both : Some is.story ≡ Some there.0 = sym is.is ∙ there.1 in cc (both)) in
-          subst (λ (u : Story). IsSettledAt host own drive.0 b out (tale_of u)) same is.settled
+          let same : is.sure.story ≡ there.0 = (let both : Some is.sure.story ≡ Some there.0 = sym is.sure.is ∙ there.1 in cc (both)) in
+          subst (λ (u : Story). IsSettledAt host own refl drive.0 b out (tale_of u)) same is.settled

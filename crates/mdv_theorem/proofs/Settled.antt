@@ -12,7 +12,6 @@ use Rattle.mdv_engine_law.specs.Answers.{accepted, refusing}
 use Rattle.mdv_engine_law.specs.Commands as came
 use Rattle.mdv_engine_law.specs.Commands.{CameTo}
 use Rattle.mdv_shelf.specs.Failing.{Outcomes}
-use Rattle.mdv_engine_law.specs.Home.{site_of}
 use Rattle.mdv_engine_law.specs.Line.{AreBlocksAt, Kept, asked_by}
 use Rattle.mdv_engine_law.specs.Refusals.{held_of_blocks, held_past, has_number, size_of}
 use Rattle.mdv_engine_law.specs.Standing.{LeavesDone, LineWrites, WritesOnly}
@@ -20,13 +19,11 @@ use Rattle.mdv_engine_law.specs.declared.answer.Answer.{Answer}
 use Rattle.mdv_engine_law.specs.declared.host.Host.{Host}
 use Rattle.mdv_map.specs.Maps.{DriveBlock, run_map}
 use Rattle.mdv_run_law.specs.Run.{IsAnswered, IsQuiet, IsSaid, TextWrites}
-use Rattle.mdv_run_law.proofs.Extents.{one_place}
-use Rattle.mdv_run_law.proofs.Placing.{never_shut, opened_twice}
-use Rattle.mdv_run_law.proofs.Keeping.{put_at}
+use Rattle.mdv_run_law.proofs.Extents.{one_place, SeesOwn}
+use Rattle.mdv_run_law.proofs.Placing.{opened_twice, put_at}
 use Rattle.mdv_shelf.specs.Area.{IsKept, KeptOutside, nowhere}
 use Rattle.mdv_shelf.specs.Tale.{MayLeave, Tale, covers, last}
 use Rattle.mdv_shelf.proofs.Blocks.{both_ways}
-use Rattle.mdv_store_law.specs.Site.{Newest, area_of}
 use Rattle.mdv_table.specs.Slices.{IsSound}
 use Rattle.mdv_table.specs.declared.volume.Volume.{Volume}
 use Rattle.mdv_volumes.specs.Tables.{IsMapOf}
@@ -35,8 +32,9 @@ use Rattle.mdv_words.specs.Line.{IsLine, Line}
 use Rattle.mdv_words.specs.declared.command.Command.{Command}
 use Rattle.mdv_words.specs.declared.command.Command.TheVariants.{Create, MakeStripe, Print, Read, Write}
 use Rattle.mdv_theorem.proofs.Aside.{Commanded, came as came_so, commanded, unread}
-use Rattle.mdv_theorem.proofs.Tables.{Stands, open_on, shut}
-use Rattle.mdv_engine_law.proofs.Within.{outside_opened, outside_replica}
+use Rattle.mdv_store.specs.Opened.{Opened}
+use Rattle.mdv_shown.specs.Site.{site_area}
+use Rattle.mdv_theorem.proofs.Sure.{IsSure, sure_plan, opened_outside}
 
 -- a write that is refused before anything is done is refused for another cause than a failed call
 where_quiet : (holds : Bool) (r : Refusal) → IsQuiet (refusing r) → All (λ s. IsQuiet (refusing s)) (where_so holds r)
@@ -47,20 +45,19 @@ past_quiet : (found : Option Volume) (end : ℕ) → All (λ s. IsQuiet (refusin
 past_quiet None end = All-cons (λ s. IsQuiet (refusing s)) _ [] tt (All-nil (λ s. IsQuiet (refusing s)))
 past_quiet (Some of) end = where_quiet (nat_lt (size_of of.kind) end) OutOfRange tt
 
-blocks_quiet : (opened : Option Newest) (volume : VolId) (end : ℕ) → All (λ s. IsQuiet (refusing s)) (held_of_blocks opened volume end)
+blocks_quiet : (opened : Option Opened) (volume : VolId) (end : ℕ) → All (λ s. IsQuiet (refusing s)) (held_of_blocks opened volume end)
 blocks_quiet None volume end = All-cons (λ s. IsQuiet (refusing s)) _ [] tt (All-nil (λ s. IsQuiet (refusing s)))
-blocks_quiet (Some newest) volume end = past_quiet (find (has_number volume) newest.table.plan.volumes) end
+blocks_quiet (Some o) volume end = past_quiet (find (has_number volume) o.table.plan.volumes) end
 
 module _ (host : Host) (sound : IsSound host.drives) where
   -- blocks of a volume of the open table lie on one drive
-  pub one_drive : (kept : Kept) (volume : VolId) (at other count many : ℕ) (a b : DriveBlock) → Stands host kept → AreBlocksAt host kept.memory volume at count a → AreBlocksAt host kept.memory volume other many b → a.drive ≡ b.drive
-  one_drive kept volume at other count many a b (shut none) one two = absurd (never_shut kept.memory.opened one.lies.0 none one.lies.1)
-  one_drive kept volume at other count many a b (open_on newest opened head is) one two =
-      let first = subst (λ (n : Newest). IsMapOf host.drives n.table volume (run_map a.drive one.first one.blocks)) (opened_twice kept.memory.opened newest one.lies.0 opened one.lies.1) one.lies.2 in
-      let second = subst (λ (n : Newest). IsMapOf host.drives n.table volume (run_map b.drive two.first two.blocks)) (opened_twice kept.memory.opened newest two.lies.0 opened two.lies.1) two.lies.2 in
-      (one_place host.drives sound newest.table is.has.is.of_geometry volume a.drive one.first one.blocks b.drive two.first two.blocks first second).on_drive
+  pub one_drive : (kept : Kept) (volume : VolId) (at other count many : ℕ) (a b : DriveBlock) → IsSure host kept → AreBlocksAt host kept.memory volume at count a → AreBlocksAt host kept.memory volume other many b → a.drive ≡ b.drive
+  one_drive kept volume at other count many a b sure one two =
+      let o = one.lies.0 in
+      let second = subst (λ (n : Opened). IsMapOf host.drives n.table volume (run_map b.drive two.first two.blocks)) (opened_twice kept.memory.opened o two.lies.0 one.lies.1 two.lies.1) two.lies.2 in
+      (one_place host.drives sound o.table (sure_plan host kept o sure one.lies.1) volume a.drive one.first one.blocks b.drive two.first two.blocks one.lies.2 second).on_drive
 
-module _ (host : Host) (sound : IsSound host.drives) (drive b : ℕ) (out : area_of (site_of host) drive b ≡ false) where
+module _ (host : Host) (sound : IsSound host.drives) (sees : SeesOwn host) (drive b : ℕ) (out : site_area host.site drive b ≡ false) where
   -- a crash leaves what a read gives
   abbrev pub IsSettledAt : Tale → Type 0
   IsSettledAt u = (x : List ℕ) → MayLeave u drive b x → x ≡ last u drive b
@@ -69,7 +66,7 @@ module _ (host : Host) (sound : IsSound host.drives) (drive b : ℕ) (out : area
   still_settled t u kept settled x left = settled x (kept.left x left) ∙ sym kept.last
 
   -- one line, by whose calls none failed on the drive
-  module _ (calls : Outcomes) (calm : (calls drive).some → ⊥) (text : List ℕ) (answer : Answer) (kept next : Kept) (stands : Stands host kept) (comes : IsAnswered calls host kept text answer next) (said : IsSaid answer) (t u : Tale)
+  module _ (calls : Outcomes) (calm : (calls drive).some → ⊥) (text : List ℕ) (answer : Answer) (kept next : Kept) (sure : IsSure host kept) (comes : IsAnswered calls host kept text answer next) (said : IsSaid answer) (t u : Tale)
       (unwritten : IsQuiet answer → KeptOutside nowhere t u) (leaves : answer ≡ accepted → (command : Command) → IsLine text (words.Exec command) → LeavesDone host kept.memory command u) (settled : IsSettledAt t) where
     quiet : IsQuiet answer → IsSettledAt u
     quiet is = still_settled t u (unwritten is drive b refl) settled
@@ -82,15 +79,15 @@ module _ (host : Host) (sound : IsSound host.drives) (drive b : ℕ) (out : area
       done : answer ≡ accepted → IsSettledAt u
       done ok =
           let left = leaves ok (Write volume at block) spelled in
-          let same = sym (one_drive host sound kept volume at at 1 1 place left.0 stands there left.1) ∙ on in
+          let same = sym (one_drive host sound kept volume at at 1 1 place left.0 sure there left.1) ∙ on in
           subst (λ (d : ℕ). (x : List ℕ) → MayLeave u d b x → x ≡ last u d b) same (left.2.synced b)
 
       wrote_came : CameTo calls host kept (Write volume at block) answer next → IsSettledAt u
       wrote_came (came.refused calmly r why left) = refuses r left.0 (first_holds (λ s. IsQuiet (refusing s)) order (held_of_blocks kept.memory.opened volume (at + 1)) r (blocks_quiet kept.memory.opened volume (at + 1)) why)
       wrote_came (came.wanting calmly told wants) = absurd wants
-      wrote_came (came.done calmly free effect) = done effect.2
+      wrote_came (came.done free effect) = done effect.3
       wrote_came (came.faulted free told (where_it, failed, its, memory, put)) =
-          let same = sym (one_drive host sound kept volume at at 1 1 place where_it stands there its) ∙ on in
+          let same = sym (one_drive host sound kept volume at at 1 1 place where_it sure there its) ∙ on in
           absurd (calm (subst (λ (d : ℕ). (calls d).some) same failed.here))
       wrote_came (came.over end free over gives) = absurd (let never : ⊥ = subst IsSaid over said in never)
 
@@ -101,8 +98,8 @@ module _ (host : Host) (sound : IsSound host.drives) (drive b : ℕ) (out : area
         by (unread is) = refuses OutOfMemory is tt
 
     command_settled : (command : Command) → IsLine text (words.Exec command) → WritesOnly host (asked_by host command) kept.memory t u → IsSettledAt u
-    command_settled (Create slice force blocks) spelled writes = still_settled t u (writes drive b (outside_replica (site_of host) blocks drive b out)) settled
-    command_settled (MakeStripe volume slice) spelled writes = still_settled t u (writes drive b (outside_opened (site_of host) kept.memory.opened drive b out)) settled
+    command_settled (Create slices force count blocks) spelled writes = still_settled t u (writes.0 drive b out) settled
+    command_settled (MakeStripe volume slice) spelled writes = still_settled t u (writes drive b (opened_outside host sees kept.memory sure.history sure.tale sure.known drive b out)) settled
     command_settled (Read volume at count) spelled writes = still_settled t u (writes drive b refl) settled
     command_settled (Print names) spelled writes = still_settled t u (writes drive b refl) settled
     command_settled (Write volume at block) spelled (inl none) = still_settled t u (none drive b refl) settled

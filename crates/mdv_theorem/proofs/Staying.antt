@@ -1,32 +1,28 @@
 -- A volume that was shown to be there stays: it is in the table that is open behind any further lines of the host.
-use Rattle.std.proofs.Common.{◌≡◌, inl, inr, List, [], ◌∷◌, ◌++◌, Some, Contains, sym, ◌∙◌, ap, subst}
-use Rattle.std.specs.List.{find}
-use Rattle.std.proofs.lemmas.List.Elements.{Contains-append_cases}
-use Rattle.mdv_base.specs.Refusal.{number_of}
+use Rattle.std.proofs.Common.{◌≡◌, Bool, List, [], ◌∷◌, ◌++◌, Some, Contains, subst, ℕ, refl}
 use Rattle.mdv_engine_law.specs.Answers.{accepted}
 use Rattle.mdv_engine_law.specs.Line.{Kept, contents}
-use Rattle.mdv_engine_law.specs.Refusals.{has_number}
-use Rattle.mdv_engine_law.specs.Replies.{refusal_line, text_of}
-use Rattle.mdv_engine_law.proofs.Volumes.{find_is}
-use Rattle.mdv_home.specs.Home.{IsHome}
-use Rattle.mdv_home.specs.declared.geometry.Home.{Home}
+use Rattle.mdv_engine_law.specs.Replies.{ok_line}
 use Rattle.mdv_name.specs.declared.geometry.Geometry.{Geometry}
 use Rattle.mdv_port.specs.Script.{Script}
-use Rattle.mdv_run_law.specs.Below.{Head, Host, IsNewestOf, IsSound, Map, Newest, Table, VolId, on_site, site_of}
+use Rattle.mdv_run_law.specs.Below.{Host, IsSound, Map, Table, VolId}
 use Rattle.mdv_run_law.specs.Lives.{Ran, host_of}
 use Rattle.mdv_run_law.specs.Run.{started}
-use Rattle.mdv_run_law.proofs.Extents.{SeesHome}
 use Rattle.mdv_volumes.specs.Tables.{IsMapOf}
-use Rattle.mdv_theorem.specs.Exchanges.{Exchange, ShowsThere, exchanges_by}
-use Rattle.mdv_theorem.specs.Observed.{VolumesStay}
-use Rattle.mdv_theorem.specs.Running.{HasAnswered, Running}
-use Rattle.mdv_theorem.proofs.Agreeing.{own_sound, sees_home}
-use Rattle.mdv_theorem.proofs.Aside.{IsAside, commanded, told_aside}
-use Rattle.mdv_theorem.proofs.Found.{shown_found}
-use Rattle.mdv_theorem.proofs.Living.{lived_life}
-use Rattle.mdv_theorem.proofs.Parting.{cut, cut_has}
-use Rattle.mdv_theorem.proofs.Steps.{Failed, Reached, Stepped, Steps, reached, stepped, steps_cut, told_once}
-use Rattle.mdv_theorem.proofs.Tables.{HasThere, IsCarried, Keeps, Offers, Stands, boot_opens, fell, keeps_boot, keeps_steps, keeps_there, map_carried, off, open_on, opened_steps, shown_there, stands_boot, stands_steps, up}
+use Rattle.mdv_theorem.specs.Exchanges.{Asks, Exchange, IsTold, ShowsThere}
+use Rattle.mdv_theorem.specs.Running.{Running}
+use Rattle.mdv_engine_law.specs.Commands.{IsAllowed, case_of}
+use Rattle.mdv_engine_law.proofs.Allowed.{allowed_clean, allowed_none}
+use Rattle.mdv_run_law.proofs.Placing.{never_shut}
+use Rattle.mdv_base.specs.declared.drive.SliceName.{SliceName}
+use Rattle.mdv_words.specs.declared.command.Command.TheVariants.{Create}
+use Rattle.mdv_theorem.proofs.Adopted.{IsBlind}
+use Rattle.mdv_theorem.proofs.Agreeing.{own_sound}
+use Rattle.mdv_theorem.proofs.Parting.{cut}
+use Rattle.mdv_theorem.proofs.Steps.{Failed, Reached, Stepped, Steps, stepped, steps_cut, sure_first, sure_last}
+use Rattle.mdv_theorem.proofs.Tables.{HasThere, IsCarried, Keeps, NeverBlind, Offers, granted_done, keeps_line, never_clean, off, boot_opens, keeps_steps, map_carried, opened_steps, shown_there, up, open_keeps}
+use Rattle.mdv_store.specs.Opened.{Opened}
+use Rattle.mdv_theorem.proofs.Sure.{IsSure}
 
 -- the table has the volume
 abbrev pub HasIt : Geometry → VolId → Table → Type 0
@@ -35,99 +31,90 @@ HasIt g volume table = (v : Map) × IsMapOf g table volume v
 pub has_carried : (g : Geometry) (volume : VolId) → IsCarried g (HasIt g volume)
 has_carried g volume old new other slice after has = (has.0, map_carried g volume has.0 old new other slice after has.1)
 
--- the open database, which the drive has, and whose table is one of these
+-- the open database, whose table is one of these
 pub record IsOpenWith (host : Host) (P : Table → Type 0) (kept : Kept) : Type 0 where
-  pub newest : Newest
-  pub opened : kept.memory.opened ≡ Some newest
-  pub head : Head
-  pub is : IsNewestOf (site_of host) (on_site (site_of host) kept.content) head newest
-  pub so : P newest.table
+  pub o : Opened
+  pub opened : kept.memory.opened ≡ Some o
+  pub so : P o.table
 
-pub open_with : (host : Host) (P : Table → Type 0) (kept : Kept) (n : Newest) → kept.memory.opened ≡ Some n → Keeps host P kept → IsOpenWith host P kept
-open_with host P kept n opened (up newest is_open head is so) = record { newest = newest; opened = is_open; head = head; is = is; so = so }
-open_with host P kept n opened (off none dirty offers) = absurd (cc (none, opened))
-open_with host P kept n opened (fell none dirty newest head is so) = absurd (cc (none, opened))
-
-module _ (drives : Geometry) (home : Home) (before : List Ran) (script : Script) (sound : IsSound drives) (is_home : IsHome drives home) (run : Running drives home before script) where
+module _ (drives : Geometry) (name : List ℕ) (before : List Ran) (script : Script) (sound : IsSound drives) (of_table : Contains drives.hosts name) (run : Running drives name before script) where
   abbrev host : Host
-  host = host_of drives home run.fresh
+  host = host_of drives name run.fresh
 
   abbrev pub its_sound : IsSound host.drives
-  its_sound = own_sound drives home run.fresh sound
-
-  abbrev pub its_home : SeesHome host
-  its_home = sees_home drives home run.fresh is_home
+  its_sound = own_sound drives name run.fresh sound
 
   -- the line is reached, and each drive of these answered
   module _ (here : List Exchange) (one : Exchange) (at : Reached run here one) where
-    pub booted_stands : Stands host at.first
-    booted_stands = stands_boot host its_sound its_home at.booted (started (contents run.t.tale)) at.first accepted at.boots tt
+    pub first_sure : IsSure host at.first
+    first_sure = sure_first host (Failed run) at.first at.kept here at.steps
 
-    -- a line before it: what is kept behind it stands
+    pub line_sure : IsSure host at.kept
+    line_sure = sure_last host (Failed run) at.first at.kept here at.steps
+
+    -- a line before it
     pub record Passed (front rest : List Exchange) (shown : Exchange) : Type 1 where
       pub is : here ≡ front ++ shown ∷ rest
       pub to : Kept
       pub upto : Steps host (Failed run) at.first front to
       pub step : Stepped host (Failed run) to shown rest at.kept
-      pub stands : Stands host step.kept
 
     pub passed : (front rest : List Exchange) (shown : Exchange) → here ≡ front ++ shown ∷ rest → Passed front rest shown
     passed front rest shown is =
         let parts = steps_cut host (Failed run) front (shown ∷ rest) at.first at.kept (subst (λ (l : List Exchange). Steps host (Failed run) at.first l at.kept) is at.steps) in
-        let step = stepped host (Failed run) parts.0 at.kept shown rest parts.2 in
-        record {
-          is = is;
-          to = parts.0;
-          upto = parts.1;
-          step = step;
-          stands = stands_steps host its_sound its_home (Failed run) parts.0 step.kept [] (stands_steps host its_sound its_home (Failed run) at.first parts.0 front booted_stands parts.1) step.before;
-        }
+        record { is = is; to = parts.0; upto = parts.1; step = stepped host (Failed run) parts.0 at.kept shown rest parts.2 }
 
-    module _ (P : Table → Type 0) (carried : IsCarried host.drives P) (calm : HasAnswered run home.drive) where
+    -- what is known behind that line
+    pub passed_sure : (front rest : List Exchange) (shown : Exchange) (way : Passed front rest shown) → IsSure host way.step.mid
+    passed_sure front rest shown way = sure_first host (Failed run) way.step.mid at.kept rest way.step.after
+
+    module _ (P : Table → Type 0) (carried : IsCarried host.drives P) (never : NeverBlind host (Failed run) P) where
       -- from where the database is open, with a table of these, on to the line
-      later_open : (mid : Kept) (rest : List Exchange) (n : Newest) → mid.memory.opened ≡ Some n → Stands host mid → Keeps host P mid → Steps host (Failed run) mid rest at.kept → IsOpenWith host P at.kept
-      later_open mid rest n opened stands keeps steps =
-          let still = opened_steps host its_sound its_home (Failed run) calm mid at.kept rest n stands opened steps in
-          open_with host P at.kept still.0 still.1 (keeps_steps host its_sound its_home P carried (Failed run) mid at.kept rest keeps steps)
+      pub later_open : (mid : Kept) (rest : List Exchange) (o : Opened) → mid.memory.opened ≡ Some o → P o.table → Steps host (Failed run) mid rest at.kept → IsOpenWith host P at.kept
+      later_open mid rest o opened has steps = (let still = opened_steps host its_sound refl P carried (Failed run) never mid at.kept rest o opened has steps in record { o = still.0; opened = still.1; so = still.2 })
 
       -- each table that the boot may find is one of these
-      pub found_open : Offers host P (contents run.t.tale) → IsOpenWith host P at.kept
-      found_open offers =
-          let opens = boot_opens host its_sound its_home P at.booted (started (contents run.t.tale)) at.first accepted offers at.boots tt (at.unbooted home.drive.0 calm) in
-          later_open at.first here opens.0 opens.1 booted_stands (keeps_boot host its_sound its_home P at.booted (started (contents run.t.tale)) at.first accepted offers at.boots tt) at.steps
-
-      -- a line before it showed the volume, and the table then is one of these
-      pub shown_open : (volume : VolId) (front rest : List Exchange) (shown : Exchange) (way : Passed front rest shown) (there : HasThere host volume way.step.mid) → P there.newest.table → IsOpenWith host P at.kept
-      shown_open volume front rest shown way there so =
-          later_open way.step.mid rest there.newest there.opened (open_on there.newest there.opened there.head there.is) (keeps_there host P volume way.step.mid there so) way.step.after
+      pub found_open : Offers host P (contents run.t.tale) → (IsBlind host at.booted (contents run.t.tale) → ⊥) → IsOpenWith host P at.kept
+      found_open offers never_first =
+          let opens = boot_opens host its_sound refl P at.booted (started (contents run.t.tale)) at.first accepted offers at.boots tt never_first in
+          later_open at.first here opens.0 opens.1 opens.2 at.steps
 
     pub shown_then : (volume : VolId) (front rest : List Exchange) (shown : Exchange) (way : Passed front rest shown) → ShowsThere volume shown → HasThere host volume way.step.mid
-    shown_then volume front rest shown way shows = shown_there host way.step.calls way.step.kept way.step.mid shown way.step.answer way.step.comes way.step.said way.step.told its_sound its_home volume way.stands shows
+    shown_then volume front rest shown way shows =
+        shown_there host way.step.calls way.step.kept way.step.mid shown way.step.answer way.step.comes way.step.said way.step.told volume (passed_sure front rest shown way) shows
 
-    -- a volume that was shown is in the open table
-    pub it_stays : HasAnswered run home.drive → (shown : Exchange) (volume : VolId) → Contains (exchanges_by home before ++ here) shown → ShowsThere volume shown → IsOpenWith host (HasIt host.drives volume) at.kept
-    it_stays calm shown volume has shows = elim (Contains-append_cases (exchanges_by home before) here shown has) [
-      | inl old ↦
-          let found = shown_found drives home run.made before run.t.tale sound is_home (lived_life drives run.made before run.t.tale run.life) shown volume shows.command old shows.asks shows.on shows.granted in
-          found_open (HasIt host.drives volume) (has_carried host.drives volume) calm (record { found = found.0; each = λ head slot mark table replica newest is. found.1 table (record { head = head; slot = slot; mark = mark; its_replica = replica; newest = newest; has = is }) })
-      | inr new ↦
-          let c = cut here shown new in
-          let way = passed c.front c.rest shown c.is in
-          let there = shown_then volume c.front c.rest shown way shows in
-          shown_open (HasIt host.drives volume) (has_carried host.drives volume) calm volume c.front c.rest shown way there (_, there.lies)
-    ]
+    -- behind a line that shows the volume, of those from a place on where what is open is one of these, it is in the open table
+    module _ (L : Table → Type 0) (carried : IsCarried host.drives L) (volume : VolId) where
+      abbrev pub HasBoth : Table → Type 0
+      HasBoth table = HasIt host.drives volume table × L table
 
--- the volume that a number finds in an open table
-pub number_finds : (at : Host) (volume : VolId) (kept : Kept) (is : IsOpenWith at (HasIt at.drives volume) kept) → find (has_number volume) is.newest.table.plan.volumes ≡ Some is.so.1.of
-number_finds at volume kept is = find_is is.newest.table.plan.volumes volume is.so.1.of is.is.has.is.of_geometry.numbers.ascending is.so.1.has
+      pub both_carried : IsCarried host.drives HasBoth
+      both_carried old new other slice after has = (has_carried host.drives volume old new other slice after has.0, carried old new other slice after has.1)
 
-pub volumes_stay : VolumesStay
-volumes_stay drives home before script is_home run calm one earlier volume command answered is_there asks on refusal told =
-    let sound = run.life.fair in
-    let at = reached run answered.here answered.later one (refusal_line refusal) answered.is told in
-    let among = subst (λ (l : List Exchange). Contains l is_there.shown) (sym is_there.parts ∙ answered.behind) (cut_has is_there.before is_there.behind is_there.shown) in
-    let there = it_stays drives home before script sound is_home run answered.here one at calm is_there.shown volume among is_there.shows in
-    let its_host = host_of drives home run.fresh in
-    let aside : IsAside refusal = told_aside at.calls its_host at.kept at.next there.newest there.opened volume there.so.1.of (number_finds its_host volume at.kept there) there.so.1.has command on at.answer at.said refusal
-    (told_once one (text_of at.answer) (refusal_line refusal) at.told told) (commanded at.calls its_host at.kept at.next one.text command at.answer asks at.comes) in
-    (λ no_database. aside.0 (ap number_of no_database), λ no_volume. aside.1 (ap number_of no_volume))
+      pub later_with : NeverBlind host (Failed run) HasBoth → (from : Kept) (es : List Exchange) → Keeps host L from → Steps host (Failed run) from es at.kept → (shown : Exchange) → Contains es shown → ShowsThere volume shown → IsOpenWith host (HasIt host.drives volume) at.kept
+      later_with never from es keeps steps shown has shows =
+          let c = cut es shown has in
+          let parts = steps_cut host (Failed run) c.front (shown ∷ c.rest) from at.kept (subst (λ (l : List Exchange). Steps host (Failed run) from l at.kept) c.is steps) in
+          let step = stepped host (Failed run) parts.0 at.kept shown c.rest parts.2 in
+          let to = keeps_steps host its_sound refl L carried (Failed run) from parts.0 c.front keeps parts.1 in
+          let before_it = keeps_steps host its_sound refl L carried (Failed run) parts.0 step.kept [] to step.before in
+          let sure = sure_first host (Failed run) step.mid at.kept c.rest step.after in
+          let behind = keeps_line host its_sound refl L carried step.calls shown.text step.answer step.kept step.mid (sure_last host (Failed run) parts.0 step.kept [] step.before) sure before_it step.comes step.said in
+          let there = shown_there host step.calls step.kept step.mid shown step.answer step.comes step.said step.told volume sure shows in
+          let is = later_open HasBoth both_carried never step.mid c.rest there.o there.opened ((_, there.lies), open_keeps host L step.mid there.o behind there.opened) step.after in
+          record { o = is.o; opened = is.opened; so = is.so.0 }
+
+    -- where what is open is one of these, or a boot would adopt one, no line makes a database
+    pub never_made : (Q : Table → Type 0) → IsCarried host.drives Q → (from : Kept) (es : List Exchange) → Keeps host Q from → Steps host (Failed run) from es at.kept → (made : Exchange) → Contains es made
+        → (slices : List SliceName) (force : Bool) (count blocks : ℕ) → Asks made (Create slices force count blocks) → IsTold made ok_line → ⊥
+    never_made Q carried from es keeps steps made has slices force count blocks asks told =
+        let c = cut es made has in
+        let parts = steps_cut host (Failed run) c.front (made ∷ c.rest) from at.kept (subst (λ (l : List Exchange). Steps host (Failed run) from l at.kept) c.is steps) in
+        let step = stepped host (Failed run) parts.0 at.kept made c.rest parts.2 in
+        let to = keeps_steps host its_sound refl Q carried (Failed run) from parts.0 c.front keeps parts.1 in
+        let done = granted_done host step.calls step.kept step.mid made step.answer step.comes step.said step.told (Create slices force count blocks) asks told in
+        by step.kept (keeps_steps host its_sound refl Q carried (Failed run) parts.0 step.kept [] to step.before) done.0
+      where
+        by : (kept : Kept) → Keeps host Q kept → IsAllowed (case_of host kept) (Create slices force count blocks) → ⊥
+        by kept (up o opened is) free = never_shut kept.memory.opened o (allowed_none (case_of host kept) slices force count blocks free) opened
+        by kept (off none down offers) free = never_clean kept.memory.clean down (allowed_clean (case_of host kept) slices force count blocks free)

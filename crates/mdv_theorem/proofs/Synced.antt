@@ -1,23 +1,21 @@
 -- Over the lines of a run by which no call failed on its drive a block stays such that a crash leaves what a read gives.
-use Rattle.std.proofs.Common.{◌≡◌, ℕ, ◌+◌, ◌≤◌, false, List, [], length, length-append, Some, refl, arith}
+use Rattle.std.proofs.Common.{◌≡◌, ℕ, ◌+◌, ◌≤◌, false, List, length, length-append, Some, refl, arith}
 use Rattle.mdv_base.specs.Causes.{Rose}
 use Rattle.mdv_base.proofs.Causes.{rose_of_once, rose_within}
 use Rattle.mdv_engine_law.specs.Answers.{accepted}
-use Rattle.mdv_engine_law.specs.Home.{site_of}
 use Rattle.mdv_engine_law.specs.Line.{IsSame, contents}
 use Rattle.mdv_engine_law.specs.declared.answer.Answer.{Answer}
 use Rattle.mdv_engine_law.specs.declared.host.Host.{Host}
 use Rattle.mdv_port.specs.Script.{Script, at_end, line, spent, too_long}
 use Rattle.mdv_run_law.specs.Run.{At, Counts, FromTo, IsQuiet, IsSaid, IsShown, LineTold, LinesTold, NextLeaves, NextLine, NextWrites, Stretch, drive_failures, no_line, one_more}
-use Rattle.mdv_run_law.proofs.Extents.{SeesHome}
 use Rattle.mdv_shelf.specs.Area.{KeptOutside, nowhere}
 use Rattle.mdv_shelf.specs.Story.{Moment, Story, marked, tale_of}
-use Rattle.mdv_store_law.specs.Site.{area_of}
 use Rattle.mdv_table.specs.Slices.{IsSound}
-use Rattle.mdv_theorem.proofs.Placed.{Any}
 use Rattle.mdv_theorem.proofs.Settled.{IsSettledAt, still_settled, text_settled}
-use Rattle.mdv_theorem.proofs.Steps.{next_rises, no_step, skipped}
-use Rattle.mdv_theorem.proofs.Tables.{Stands, stands_line, stands_steps}
+use Rattle.mdv_theorem.proofs.Steps.{next_rises}
+use Rattle.mdv_run_law.proofs.Extents.{SeesOwn}
+use Rattle.mdv_shown.specs.Site.{site_area}
+use Rattle.mdv_theorem.proofs.Sure.{IsSure, IsSureAt, sure_of, sure_on}
 
 -- the drives' blocks read there as they are kept
 abbrev pub IsRead : At → Type 0
@@ -49,41 +47,31 @@ module _ (host : Host) (start : Counts) (m : Moment) (stretch : Stretch) (drive 
       let more = lines_rise (bytes + length piece) mid at left lines in
       omega (arith, first, more)
 
-module _ (host : Host) (start : Counts) (m : Moment) (stretch : Stretch) (sound : IsSound host.drives) (sees : SeesHome host) where
-  -- the database that is open is on the drive behind a line
-  next_stands : (now mid : At) (answer : Answer) (script more : Script) → NextLine host now.counts now.kept script answer mid.counts mid.kept more → IsSaid answer → Stands host now.kept → Stands host mid.kept
-  next_stands now mid answer at_end more comes said stands = absurd comes
-  next_stands now mid answer (spent n b) more comes said stands = absurd comes
-  next_stands now mid answer (too_long rest) more comes said stands = stands_steps host sound sees Any now.kept mid.kept [] stands (skipped now.kept mid.kept mid.kept [] comes.3.1 (no_step mid.kept))
-  next_stands now mid answer (line text rest) more comes said stands = stands_line host sound sees (drive_failures now.counts mid.counts) text answer now.kept mid.kept stands comes.2 said
+module _ (host : Host) (start : Counts) (m : Moment) (stretch : Stretch) (sound : IsSound host.drives) (sees : SeesOwn host) (drive b : ℕ) (out : site_area host.site drive b ≡ false) where
+  -- the story has come there, and a crash would leave in the block what a read gives
+  pub record IsThere (at : At) : Type 0 where
+    pub sure : IsSureAt host at
+    pub settled : IsSettledAt host sound sees drive b out (tale_of sure.story)
 
-  module _ (drive b : ℕ) (out : area_of (site_of host) drive b ≡ false) where
-    -- the story has come there, and a crash would leave in the block what a read gives
-    pub record IsThere (at : At) : Type 0 where
-      pub story : Story
-      pub is : at.story ≡ Some story
-      pub settled : IsSettledAt host sound drive b out (tale_of story)
+  next_settled : (now mid : At) (answer : Answer) (script more : Script) → NextLine host now.counts now.kept script answer mid.counts mid.kept more → IsSaid answer → ((drive_failures now.counts mid.counts drive).some → ⊥) → IsSure host now.kept
+      → (s u : Story) → now.story ≡ Some s → mid.story ≡ Some u → FromTo (NextWrites host now.kept.memory script) now.story mid.story → (IsQuiet answer → FromTo (KeptOutside nowhere) now.story mid.story)
+      → (answer ≡ accepted → FromTo (λ t u. NextLeaves (drive_failures now.counts mid.counts) host now.kept.memory script u) now.story mid.story) → IsSettledAt host sound sees drive b out (tale_of s) → IsSettledAt host sound sees drive b out (tale_of u)
+  next_settled now mid answer at_end more comes said calm sure s u old new writes unwritten leaves settled = absurd comes
+  next_settled now mid answer (spent n c) more comes said calm sure s u old new writes unwritten leaves settled = absurd comes
+  next_settled now mid answer (too_long rest) more comes said calm sure s u old new writes unwritten leaves settled = still_settled host sound sees drive b out (tale_of s) (tale_of u) (writes s u old new drive b refl) settled
+  next_settled now mid answer (line text rest) more comes said calm sure s u old new writes unwritten leaves settled =
+      text_settled host sound sees drive b out (drive_failures now.counts mid.counts) calm text answer now.kept mid.kept sure comes.2 said (tale_of s) (tale_of u) (λ quiet. unwritten quiet s u old new) (λ ok. (leaves ok s u old new).done) settled (writes s u old new)
 
-    next_settled : (now mid : At) (answer : Answer) (script more : Script) → NextLine host now.counts now.kept script answer mid.counts mid.kept more → IsSaid answer → ((drive_failures now.counts mid.counts drive).some → ⊥) → Stands host now.kept
-        → (s u : Story) → now.story ≡ Some s → mid.story ≡ Some u → FromTo (NextWrites host now.kept.memory script) now.story mid.story → (IsQuiet answer → FromTo (KeptOutside nowhere) now.story mid.story)
-        → (answer ≡ accepted → FromTo (λ t u. NextLeaves (drive_failures now.counts mid.counts) host now.kept.memory script u) now.story mid.story) → IsSettledAt host sound drive b out (tale_of s) → IsSettledAt host sound drive b out (tale_of u)
-    next_settled now mid answer at_end more comes said calm stands s u old new writes unwritten leaves settled = absurd comes
-    next_settled now mid answer (spent n c) more comes said calm stands s u old new writes unwritten leaves settled = absurd comes
-    next_settled now mid answer (too_long rest) more comes said calm stands s u old new writes unwritten leaves settled = still_settled host sound drive b out (tale_of s) (tale_of u) (writes s u old new drive b refl) settled
-    next_settled now mid answer (line text rest) more comes said calm stands s u old new writes unwritten leaves settled =
-        text_settled host sound drive b out (drive_failures now.counts mid.counts) calm text answer now.kept mid.kept stands comes.2 said (tale_of s) (tale_of u) (λ quiet. unwritten quiet s u old new) (λ ok. (leaves ok s u old new).done) settled (writes s u old new)
-
-    -- lines by which no call failed on its drive
-    pub lines_settled : (bytes : ℕ) (now at : At) (front : List ℕ) → LinesTold host stretch bytes now front at → Stands host now.kept → start.drives drive ≤ now.counts.drives drive → (Rose (start.drives drive) (at.counts.drives drive) → ⊥) → IsThere now → IsThere at
-    lines_settled bytes now at front (no_line n same) stands low calm there = there
-    lines_settled bytes now at front (one_more n same mid end piece left some told shown lines) stands low calm there =
-        let rises = line_rises host start m stretch drive now mid piece told in
-        let on = lines_rise host start m stretch drive (bytes + length piece) mid at left lines in
-        let goes = told.passage.in_time.drives drive there.story there.is in
-        let unfailed : (drive_failures now.counts mid.counts drive).some → ⊥ = λ once. calm (rose_within (start.drives drive) (now.counts.drives drive) (mid.counts.drives drive) (at.counts.drives drive) low on (rose_of_once (now.counts.drives drive) (mid.counts.drives drive) once)) in
-        let settled = next_settled now mid told.answer now.script mid.script told.comes told.said unfailed stands there.story (marked there.story goes.0) there.is goes.1 told.writes told.unwritten told.leaves there.settled in
-        lines_settled (bytes + length piece) mid at left lines (next_stands now mid told.answer now.script mid.script told.comes told.said stands) (omega (arith, low, rises)) calm
-        (record { story = marked there.story goes.0; is = goes.1; settled = settled })
+  -- lines by which no call failed on its drive
+  pub lines_settled : (bytes : ℕ) (now at : At) (front : List ℕ) → LinesTold host stretch bytes now front at → start.drives drive ≤ now.counts.drives drive → (Rose (start.drives drive) (at.counts.drives drive) → ⊥) → IsThere now → IsThere at
+  lines_settled bytes now at front (no_line n same) low calm there = there
+  lines_settled bytes now at front (one_more n same mid end piece left some told shown lines) low calm there =
+      let rises = line_rises host start m stretch drive now mid piece told in
+      let on = lines_rise host start m stretch drive (bytes + length piece) mid at left lines in
+      let behind = sure_on host now mid piece told there.sure in
+      let unfailed : (drive_failures now.counts mid.counts drive).some → ⊥ = λ once. calm (rose_within (start.drives drive) (now.counts.drives drive) (mid.counts.drives drive) (at.counts.drives drive) low on (rose_of_once (now.counts.drives drive) (mid.counts.drives drive) once)) in
+      let settled = next_settled now mid told.answer now.script mid.script told.comes told.said unfailed (sure_of host now there.sure) there.sure.story behind.story there.sure.is behind.is told.writes told.unwritten told.leaves there.settled in
+      lines_settled (bytes + length piece) mid at left lines (omega (arith, low, rises)) calm (record { sure = behind; settled = settled })
 
 -- the story goes on over lines
 pub lines_story : (host : Host) (stretch : Stretch) (bytes : ℕ) (now at : At) (front : List ℕ) → LinesTold host stretch bytes now front at → (s : Story) → now.story ≡ Some s → (u : Story) × (at.story ≡ Some u)

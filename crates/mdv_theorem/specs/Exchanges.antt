@@ -7,7 +7,6 @@ use Rattle.mdv_base.specs.declared.name.VolId.{VolId}
 use Rattle.mdv_base.specs.declared.refusal.Refusal.{Refusal}
 use Rattle.mdv_base.specs.declared.refusal.Refusal.TheVariants.{IoFault}
 use Rattle.mdv_engine_law.specs.Replies.{ok_line, refusal_line}
-use Rattle.mdv_home.specs.declared.geometry.Home.{Home}
 use Rattle.mdv_port.specs.Script.{Script, at_end, line, spent, too_long}
 use Rattle.mdv_run_law.specs.Lives.{Ran}
 use Rattle.mdv_status.specs.Telling.{replies_in}
@@ -35,9 +34,9 @@ abbrev pub exchanges_of : Script → List ℕ → List Exchange
 exchanges_of script bytes = exchanges script (replies_in bytes)
 
 -- those of a host's runs, the oldest first; the runs are told with the newest first
-abbrev pub exchanges_by : Home → List Ran → List Exchange
-exchanges_by home [] = []
-exchanges_by home (ran ∷ before) = exchanges_by home before ++ (if bytes_eq ran.home.host home.host then exchanges_of ran.script ran.bytes else [])
+abbrev pub exchanges_by : List ℕ → List Ran → List Exchange
+exchanges_by name [] = []
+exchanges_by name (ran ∷ before) = exchanges_by name before ++ (if bytes_eq ran.host name then exchanges_of ran.script ran.bytes else [])
 
 -- the line is that command
 abbrev pub Asks : Exchange → Command → Type 0
@@ -49,7 +48,7 @@ IsTold one reply = one.reply ≡ Some reply
 
 -- the command makes the volume, reads it or writes it
 abbrev pub IsOn : VolId → Command → Type 0
-IsOn volume (Create slice force blocks) = ⊥
+IsOn volume (Create slices force count blocks) = ⊥
 IsOn volume (MakeStripe other slice) = other ≡ volume
 IsOn volume (Read other at count) = other ≡ volume
 IsOn volume (Write other at block) = other ≡ volume
@@ -57,7 +56,7 @@ IsOn volume (Print names) = ⊥
 
 -- the command makes the volume, reads it or writes it, or prints it and nothing else
 abbrev pub IsAbout : VolId → Command → Type 0
-IsAbout volume (Create slice force blocks) = ⊥
+IsAbout volume (Create slices force count blocks) = ⊥
 IsAbout volume (MakeStripe other slice) = other ≡ volume
 IsAbout volume (Read other at count) = other ≡ volume
 IsAbout volume (Write other at block) = other ≡ volume

@@ -1,58 +1,67 @@
 -- The theorem in a user's words: of scripts, replies and drives that answer, with no word of replicas, numbers or histories.
-use Rattle.std.specs.Prelude.{◌≡◌, ◌⊎◌, ◌↔◌, ◌+◌, ◌≤◌, ◌<◌, ℕ, Bool, None, List, [], ◌∷◌, ◌++◌, length, map, flat_map, Option, Contains, AllPairs, false}
-use Rattle.mdv_base.specs.Causes.{Rose}
+use Rattle.std.specs.Prelude.{◌≡◌, ◌≢◌, ◌⊎◌, ◌↔◌, ◌+◌, ◌*◌, ◌≤◌, ◌<◌, ℕ, Bool, None, List, [], ◌∷◌, ◌++◌, length, map, flat_map, Option, Contains, AllPairs, false, true, count_by, Some}
 use Rattle.mdv_base.specs.declared.drive.SliceName.{SliceName}
+use Rattle.mdv_base.specs.declared.mark.Identity.{Identity}
 use Rattle.mdv_base.specs.declared.name.Named.TheVariants as named
 use Rattle.mdv_base.specs.declared.name.VolId.{VolId}
 use Rattle.mdv_base.specs.declared.refusal.Refusal.{Refusal}
 use Rattle.mdv_base.specs.declared.refusal.Refusal.TheVariants.{NoDatabase, NoSuchVolume, OutOfMemory}
 use Rattle.mdv_engine_law.specs.Replies.{IsRefusal, ok_line, refusal_line}
 use Rattle.mdv_engine_law.specs.declared.host.Host.{Host}
-use Rattle.mdv_home.specs.Home.{IsHome}
 use Rattle.mdv_home.specs.View.{own_view}
-use Rattle.mdv_home.specs.declared.geometry.Home.{Home}
 use Rattle.mdv_name.specs.SliceIndex.{HasSlice}
 use Rattle.mdv_name.specs.declared.geometry.Geometry.{Geometry}
 use Rattle.mdv_name.specs.declared.slice_lines.SliceAt.{SliceAt}
 use Rattle.mdv_port.specs.Script.{Script}
-use Rattle.mdv_run_law.specs.Lives.{Ran}
-use Rattle.mdv_run_law.specs.Run.{Counts, IsWholeRun, Stretch, replies_failed, source_failed}
+use Rattle.mdv_run_law.specs.Lives.{IsNewWord, Ran, host_of}
+use Rattle.mdv_run_law.specs.Run.{Counts, IsOfTable, IsWholeRun, Stretch, replies_failed, site_failed, source_failed}
 use Rattle.mdv_run_law.specs.declared.status.RunStatus.{RunStatus}
 use Rattle.mdv_run_law.specs.declared.status.RunStatus.TheVariants.{Done, NoMemory, NoQuorum, NumbersSpent, Panic, ReadFault, ScriptTooLong, SomeRefused, TwoDatabases, Usage, WriteFault}
+use Rattle.mdv_run_law.specs.Standing.{RunMoment}
+use Rattle.mdv_shelf.specs.Everywhere.{Image}
+use Rattle.mdv_shelf.specs.Story.{AtEach, OfTales, Story, tale_of}
 use Rattle.mdv_shelf.specs.Tale.{Tale}
 use Rattle.mdv_status.specs.Telling.{replies_in}
 use Rattle.mdv_status.specs.Values.{printed_reply, values_reply}
 use Rattle.mdv_words.specs.declared.command.Command.{Command}
 use Rattle.mdv_words.specs.declared.command.Command.TheVariants.{Create, Print, Read}
 use Rattle.mdv_theorem.specs.Exchanges.{Asks, Exchange, IsAbout, IsAcknowledged, IsTold, TellsBlock, exchanges_by, exchanges_of}
-use Rattle.mdv_theorem.specs.Running.{HasAnswered, Running, Runs, WentOn, exchanges_now, ran_on}
-use Rattle.mdv_theorem.specs.Words.{HasBegun, HasDatabase, HeldAtFirst, IsOrWasWritten, IsThere, Listed, MayLie, listed_line}
+use Rattle.mdv_theorem.specs.Running.{AllAnswered, HasAnswered, Lived, Running, Runs, WentOn, exchanges_now, ran_on}
+use Rattle.mdv_theorem.specs.Words.{HasBegun, HasDatabase, HeldAtFirst, IsMadeOn, IsOrWasWritten, IsThere, Listed, MayLie, listed_line}
 
--- how a run may end whose script could be read and whose replies could be told: with Panic only where the database's drive failed
+-- How a run may end whose script could be read and whose replies could be told: with NoQuorum where fewer places were readable than are needed; with Panic only where fewer than half are active and a
+-- call failed on a drive on which replicas may lie.
 abbrev pub MayEnd : Type 0 → RunStatus → Type 0
 MayEnd failed Done = Unit {0}
 MayEnd failed SomeRefused = Unit {0}
 MayEnd failed Usage = ⊥
-MayEnd failed (NoQuorum readable needed) = ⊥
-MayEnd failed (Panic active listed) = failed
+MayEnd failed (NoQuorum readable needed) = readable < needed
+MayEnd failed (Panic active listed) = failed × (2 * active < listed)
 MayEnd failed ReadFault = ⊥
 MayEnd failed WriteFault = ⊥
 MayEnd failed NoMemory = Unit {0}
-MayEnd failed (TwoDatabases a b) = ⊥
+MayEnd failed (TwoDatabases a b) = a ≢ b
 MayEnd failed (ScriptTooLong lines bytes) = Unit {0}
 MayEnd failed NumbersSpent = Unit {0}
 
 abbrev pub RunsEnd : Type 0
 RunsEnd =
-    (host : Host) (stretch : Stretch) (start end : Counts) (t : Tale) (tale : Option Tale) (script : Script) (status : RunStatus) → IsWholeRun host stretch start end t script tale status
-    → (source_failed start end → ⊥) → (replies_failed start end → ⊥) → MayEnd (Rose (start.drives host.home.drive.0) (end.drives host.home.drive.0)) status
+    (host : Host) (stretch : Stretch) (start end : Counts) (t : Tale) (tale : Option Tale) (script : Script) (status : RunStatus) → IsOfTable host → IsWholeRun host stretch start end t script tale status
+    → (source_failed start end → ⊥) → (replies_failed start end → ⊥) → MayEnd (site_failed host start end) status
+
+-- No run that begins on what earlier ones led to ends because two databases are there, if at each of its moments what its contract says of the drives holds (`stands`).
+abbrev pub RunsFindOne : Type 0
+RunsFindOne =
+    (drives : Geometry) (name : List ℕ) (made : Image) (before : List Ran) (fresh : ℕ) (script : Script) (stretch : Stretch) (start end : Counts) (s : Story) → Contains drives.hosts name → IsNewWord name fresh before
+    → stretch.old ≡ Some s → Lived drives made before (tale_of s) → AtEach (OfTales (RunMoment (host_of drives name fresh) script)) stretch.old stretch.before stretch.new stretch.after
+    → (tale : Option Tale) (status : RunStatus) → IsWholeRun (host_of drives name fresh) stretch start end (tale_of s) script tale status → (a b : Identity) → status ≡ TwoDatabases a b → ⊥
 
 -- A line of a run under way that was answered, behind other lines of it and those of earlier runs.
-pub record Answered {drives : Geometry} {home : Home} {before : List Ran} {script : Script} (run : Running drives home before script) (one : Exchange) (earlier : List Exchange) : Type 0 where
+pub record Answered {drives : Geometry} {name : List ℕ} {before : List Ran} {script : Script} (run : Running drives name before script) (one : Exchange) (earlier : List Exchange) : Type 0 where
   pub here : List Exchange
   pub later : List Exchange
   pub is : exchanges_now run ≡ here ++ one ∷ later
-  pub behind : earlier ≡ exchanges_by home before ++ here
+  pub behind : earlier ≡ exchanges_by name before ++ here
 
 -- A run that came to the end of its script has answered each line, and tells by its status whether one was refused.
 abbrev pub RunsAnswer : Type 0
@@ -61,31 +70,41 @@ RunsAnswer =
     → (status ≡ Done) ⊎ (status ≡ SomeRefused)
     → ((one : Exchange) → Contains (exchanges_of script whole.more) one → one.reply ≡ None → ⊥) × ((status ≡ SomeRefused) ↔ ((reply : List ℕ) × Contains (replies_in whole.more) reply × IsRefusal reply))
 
--- Where lines show that there is a database, none behind them is told that there is none, nor a creation that one was made, as long as its drive answers.
+-- more than half of these slices lie on drives that answered in the run
+pub record MostAnswered {drives : Geometry} {name : List ℕ} {before : List Ran} {script : Script} (run : Running drives name before script) (slices : List SliceName) : Type 0 where
+  pub chosen : SliceName → Bool
+  pub most : length slices < 2 * count_by chosen slices
+  pub each : (slice : SliceName) (at : SliceAt) → chosen slice ≡ true → HasSlice (own_view drives name).slices slice at → HasAnswered run at.drive
+
+-- Enough drives answered in the run for the host's database: each on which its replicas may lie; or, where these lines made it, those of more than half of the slices on which they did.
+abbrev pub HaveAnswered : {drives : Geometry} {name : List ℕ} {before : List Ran} {script : Script} → Running drives name before script → List Exchange → Type 0
+HaveAnswered run lines = AllAnswered run ⊎ ((slices : List SliceName) × IsMadeOn slices lines × MostAnswered run slices)
+
+-- Where lines show that there is a database, none behind them is told that there is none, nor a creation that one was made, as long as enough drives answer for it.
 abbrev pub DatabasesStay : Type 0
 DatabasesStay =
-    (drives : Geometry) (home : Home) (before : List Ran) (script : Script) → IsHome drives home → (run : Running drives home before script) → HasAnswered run home.drive
-    → (one : Exchange) (earlier : List Exchange) (command : Command) → Answered run one earlier → HasDatabase earlier → Asks one command
-    → (IsTold one (refusal_line NoDatabase) → ⊥) × ((slice : SliceName) (force : Bool) (blocks : ℕ) → command ≡ Create slice force blocks → IsTold one ok_line → ⊥)
+    (drives : Geometry) (name : List ℕ) (before : List Ran) (script : Script) → Contains drives.hosts name → (run : Running drives name before script)
+    → (one : Exchange) (earlier : List Exchange) (command : Command) → Answered run one earlier → HaveAnswered run earlier → HasDatabase earlier → Asks one command
+    → (IsTold one (refusal_line NoDatabase) → ⊥) × ((slices : List SliceName) (force : Bool) (count blocks : ℕ) → command ≡ Create slices force count blocks → IsTold one ok_line → ⊥)
 
--- where lines show a volume to be there, none behind them on it, or that prints it alone, is told that it isn't, or that there is no database, as long as the database's drive answers
+-- where lines show a volume to be there, none behind them on it, or that prints it alone, is told that it isn't, or that there is no database, as long as enough drives answer for the database
 abbrev pub VolumesStay : Type 0
 VolumesStay =
-    (drives : Geometry) (home : Home) (before : List Ran) (script : Script) → IsHome drives home → (run : Running drives home before script) → HasAnswered run home.drive
+    (drives : Geometry) (name : List ℕ) (before : List Ran) (script : Script) → Contains drives.hosts name → (run : Running drives name before script)
     → (one : Exchange) (earlier : List Exchange) (volume : VolId) (command : Command)
-    → Answered run one earlier → IsThere volume earlier → Asks one command → IsAbout volume command
+    → Answered run one earlier → HaveAnswered run earlier → IsThere volume earlier → Asks one command → IsAbout volume command
     → (refusal : Refusal) → IsTold one (refusal_line refusal) → (refusal ≡ NoDatabase → ⊥) × (refusal ≡ NoSuchVolume → ⊥)
 
 -- The volume keeps its copies of its first so many blocks in this run: each slice of the host that isn't marked `db`, and on which it may lie by these lines, has so many, on a
 -- drive that answers. Of a slice that the host hasn't it asks nothing.
-pub record KeepsCopies {drives : Geometry} {home : Home} {before : List Ran} {script : Script} (run : Running drives home before script) (volume : VolId) (lines : List Exchange) (end : ℕ) : Type 0 where
-  pub within : (slice : SliceName) (at : SliceAt) → MayLie volume slice lines → HasSlice (own_view drives home.host).slices slice at → at.db ≡ false → end ≤ at.blocks
-  pub answered : (slice : SliceName) (at : SliceAt) → MayLie volume slice lines → HasSlice (own_view drives home.host).slices slice at → at.db ≡ false → HasAnswered run at.drive
+pub record KeepsCopies {drives : Geometry} {name : List ℕ} {before : List Ran} {script : Script} (run : Running drives name before script) (volume : VolId) (lines : List Exchange) (end : ℕ) : Type 0 where
+  pub within : (slice : SliceName) (at : SliceAt) → MayLie volume slice lines → HasSlice (own_view drives name).slices slice at → at.db ≡ false → end ≤ at.blocks
+  pub answered : (slice : SliceName) (at : SliceAt) → MayLie volume slice lines → HasSlice (own_view drives name).slices slice at → at.db ≡ false → HasAnswered run at.drive
 
 -- The volume bears the losses of drives in this run, so that none takes the value of one of its first so many blocks back: each slice of the host that isn't marked
 -- `db`, on which it may lie by these lines, and that has so many, is on a drive that answered.
-pub record Bears {drives : Geometry} {home : Home} {before : List Ran} {script : Script} (run : Running drives home before script) (volume : VolId) (lines : List Exchange) (end : ℕ) : Type 0 where
-  pub answered : (slice : SliceName) (at : SliceAt) → MayLie volume slice lines → HasSlice (own_view drives home.host).slices slice at → at.db ≡ false → end ≤ at.blocks → HasAnswered run at.drive
+pub record Bears {drives : Geometry} {name : List ℕ} {before : List Ran} {script : Script} (run : Running drives name before script) (volume : VolId) (lines : List Exchange) (end : ℕ) : Type 0 where
+  pub answered : (slice : SliceName) (at : SliceAt) → MayLie volume slice lines → HasSlice (own_view drives name).slices slice at → at.db ≡ false → end ≤ at.blocks → HasAnswered run at.drive
 
 -- values of so many blocks, from that one on
 pub record AreValuesOf (at count : ℕ) (reply : List ℕ) : Type 0 where
@@ -96,9 +115,9 @@ pub record AreValuesOf (at count : ℕ) (reply : List ℕ) : Type 0 where
 -- A read of blocks of which the volume keeps its copies is told, with a value of each, or refused for want of memory.
 abbrev pub ReadsAreTold : Type 0
 ReadsAreTold =
-    (drives : Geometry) (home : Home) (before : List Ran) (script : Script) → IsHome drives home → (run : Running drives home before script) → HasAnswered run home.drive
+    (drives : Geometry) (name : List ℕ) (before : List Ran) (script : Script) → Contains drives.hosts name → (run : Running drives name before script)
     → (one : Exchange) (earlier : List Exchange) (volume : VolId) (at count : ℕ)
-    → Answered run one earlier → HasBegun volume earlier → Asks one (Read volume at count) → count ≤ 1024 → KeepsCopies run volume earlier (at + count)
+    → Answered run one earlier → HaveAnswered run earlier → HasBegun volume earlier → Asks one (Read volume at count) → count ≤ 1024 → KeepsCopies run volume earlier (at + count)
     → (reply : List ℕ) → IsTold one reply → (reply ≡ refusal_line OutOfMemory) ⊎ AreValuesOf at count reply
 
 -- the numbers of what a print tells
@@ -117,48 +136,48 @@ pub record ListsAll (lines : List Exchange) (reply : List ℕ) : Type 0 where
   pub ascending : AllPairs (λ m n. m.0 < n.0) (numbers_of are.listed)
   pub each : (volume : VolId) → IsThere volume lines → Contains (numbers_of are.listed) volume
 
--- A print of volumes each of which lines show to be there tells just these, or is refused for want of memory, as long as the database's drive answers.
+-- A print of volumes each of which lines show to be there tells just these, or is refused for want of memory, as long as enough drives answer for the database.
 abbrev pub PrintsOfNames : Type 0
 PrintsOfNames =
-    (drives : Geometry) (home : Home) (before : List Ran) (script : Script) → IsHome drives home → (run : Running drives home before script) → HasAnswered run home.drive
+    (drives : Geometry) (name : List ℕ) (before : List Ran) (script : Script) → Contains drives.hosts name → (run : Running drives name before script)
     → (one : Exchange) (earlier : List Exchange) (first : VolId) (volumes : List VolId)
-    → Answered run one earlier → ((volume : VolId) → Contains (first ∷ volumes) volume → IsThere volume earlier) → Asks one (Print (map named.Volume (first ∷ volumes)))
+    → Answered run one earlier → HaveAnswered run earlier → ((volume : VolId) → Contains (first ∷ volumes) volume → IsThere volume earlier) → Asks one (Print (map named.Volume (first ∷ volumes)))
     → (reply : List ℕ) → IsTold one reply → (reply ≡ refusal_line OutOfMemory) ⊎ ((is : Lists earlier reply) × (numbers_of is.listed ≡ first ∷ volumes))
 
--- A print of no names, where lines show that there is a database, tells all its volumes, or is refused for want of memory, as long as its drive answers.
+-- A print of no names, where lines show that there is a database, tells all its volumes, or is refused for want of memory, as long as enough drives answer for it.
 abbrev pub PrintsOfAll : Type 0
 PrintsOfAll =
-    (drives : Geometry) (home : Home) (before : List Ran) (script : Script) → IsHome drives home → (run : Running drives home before script) → HasAnswered run home.drive
-    → (one : Exchange) (earlier : List Exchange) → Answered run one earlier → HasDatabase earlier → Asks one (Print [])
+    (drives : Geometry) (name : List ℕ) (before : List Ran) (script : Script) → Contains drives.hosts name → (run : Running drives name before script)
+    → (one : Exchange) (earlier : List Exchange) → Answered run one earlier → HaveAnswered run earlier → HasDatabase earlier → Asks one (Print [])
     → (reply : List ℕ) → IsTold one reply → (reply ≡ refusal_line OutOfMemory) ⊎ ListsAll earlier reply
 
 -- what a read tells of a block that was written, and the write acknowledged, is that write's, or one's that was issued later
 abbrev pub WritesLast : Type 0
 WritesLast =
-    (drives : Geometry) (home : Home) (before : List Ran) (script : Script) → IsHome drives home → (run : Running drives home before script)
+    (drives : Geometry) (name : List ℕ) (before : List Ran) (script : Script) → Contains drives.hosts name → (run : Running drives name before script)
     → (read write : Exchange) (earlier first between : List Exchange) (volume : VolId) (number : ℕ) (old block : List ℕ) → Answered run read earlier → earlier ≡ first ++ write ∷ between
     → IsAcknowledged volume number old write → TellsBlock volume number block read → IsOrWasWritten volume number old between block
 
 -- what a read tells of a block is what an earlier read of the run told of it, or was written in between
 abbrev pub ReadsAgree : Type 0
 ReadsAgree =
-    (drives : Geometry) (home : Home) (before : List Ran) (script : Script) → IsHome drives home → (run : Running drives home before script)
+    (drives : Geometry) (name : List ℕ) (before : List Ran) (script : Script) → Contains drives.hosts name → (run : Running drives name before script)
     → (read again : Exchange) (first between later : List Exchange) (volume : VolId) (number : ℕ) (old block : List ℕ) → exchanges_now run ≡ first ++ read ∷ between ++ again ∷ later
     → TellsBlock volume number old read → TellsBlock volume number block again → IsOrWasWritten volume number old between block
 
 -- What a read tells of a block is what the new drives held there, on a slice on which the volume may lie, or was written since.
 abbrev pub BlocksBegin : Type 0
 BlocksBegin =
-    (drives : Geometry) (home : Home) (before : List Ran) (script : Script) → IsHome drives home → (run : Running drives home before script)
+    (drives : Geometry) (name : List ℕ) (before : List Ran) (script : Script) → Contains drives.hosts name → (run : Running drives name before script)
     → (read : Exchange) (earlier : List Exchange) (volume : VolId) (number : ℕ) (block : List ℕ) → Answered run read earlier → TellsBlock volume number block read
-    → (bytes : List ℕ) × HeldAtFirst drives home run.made earlier volume number bytes × IsOrWasWritten volume number bytes earlier block
+    → (bytes : List ℕ) × HeldAtFirst drives name run.made earlier volume number bytes × IsOrWasWritten volume number bytes earlier block
 
 -- What a read tells of a block is what a read of an earlier run told of it, or was written in between, where the volume bore the losses of drives in that run, up to a moment at which that was told.
 abbrev pub RunsAgree : Type 0
 RunsAgree =
-    (drives : Geometry) (home : Home) (before more : List Ran) (script other : Script) (next t : Tale) → IsHome drives home
-    → (run : Running drives home before script) (went : WentOn run next) → Runs drives (ran_on run next went ∷ before) next more t → (later : Running drives home more other) → later.t.tale ≡ t
+    (drives : Geometry) (name : List ℕ) (before more : List Ran) (script other : Script) (next t : Tale) → Contains drives.hosts name
+    → (run : Running drives name before script) (went : WentOn run next) → Runs drives (ran_on run next went ∷ before) next more t → (later : Running drives name more other) → later.t.tale ≡ t
     → (read again : Exchange) (here rest behind first earlier : List Exchange) (volume : VolId) (number : ℕ) (old block : List ℕ)
-    → exchanges_now run ≡ here ++ read ∷ rest → exchanges_of script went.stands.bytes ≡ here ++ read ∷ behind → first ≡ exchanges_by home before ++ here → Answered later again earlier
+    → exchanges_now run ≡ here ++ read ∷ rest → exchanges_of script went.stands.bytes ≡ here ++ read ∷ behind → first ≡ exchanges_by name before ++ here → Answered later again earlier
     → Bears run volume earlier (number + 1)
     → TellsBlock volume number old read → TellsBlock volume number block again → (since : List Exchange) → earlier ≡ first ++ read ∷ since → IsOrWasWritten volume number old since block

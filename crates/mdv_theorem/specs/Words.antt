@@ -1,11 +1,10 @@
 -- What lines show of a database and of a volume: that they are there, that the volume's blocks may be read, where it lies, and what its blocks may have. Further commands and kinds of
 -- volumes widen these words.
-use Rattle.std.specs.Prelude.{◌≡◌, ◌⊎◌, ◌+◌, ◌<◌, ℕ, List, [], ◌∷◌, ◌++◌, codes, Contains, false}
+use Rattle.std.specs.Prelude.{◌≡◌, ◌⊎◌, ◌+◌, ◌<◌, ℕ, List, [], ◌∷◌, ◌++◌, codes, Contains, false, Bool}
 use Rattle.mdv_base.specs.declared.drive.SliceName.{SliceName}
 use Rattle.mdv_base.specs.declared.name.VolId.{VolId}
 use Rattle.mdv_engine_law.specs.Replies.{ok_line}
 use Rattle.mdv_home.specs.View.{own_view}
-use Rattle.mdv_home.specs.declared.geometry.Home.{Home}
 use Rattle.mdv_name.specs.Drive.{slice_text}
 use Rattle.mdv_name.specs.SliceIndex.{HasSlice}
 use Rattle.mdv_name.specs.Volume.{number_text}
@@ -18,7 +17,7 @@ use Rattle.mdv_theorem.specs.Exchanges.{Asks, Exchange, IsGranted, IsSameBlock, 
 
 -- the command takes the volume away: none does so far
 abbrev pub TakesAway : VolId → Command → Type 0
-TakesAway volume (Create slice force blocks) = ⊥
+TakesAway volume (Create slices force count blocks) = ⊥
 TakesAway volume (MakeStripe other slice) = ⊥
 TakesAway volume (Read other at count) = ⊥
 TakesAway volume (Write other at block) = ⊥
@@ -46,7 +45,7 @@ HasBegun volume lines = IsThere volume lines
 
 -- the command takes the database away: none does so far
 abbrev pub TakesDatabase : Command → Type 0
-TakesDatabase (Create slice force blocks) = ⊥
+TakesDatabase (Create slices force count blocks) = ⊥
 TakesDatabase (MakeStripe volume slice) = ⊥
 TakesDatabase (Read volume at count) = ⊥
 TakesDatabase (Write volume at block) = ⊥
@@ -61,7 +60,7 @@ pub record MayTakeDatabase (one : Exchange) : Type 0 where
 
 -- the command is done with a database alone, or makes one: each so far
 abbrev pub NeedsDatabase : Command → Type 0
-NeedsDatabase (Create slice force blocks) = Unit {0}
+NeedsDatabase (Create slices force count blocks) = Unit {0}
 NeedsDatabase (MakeStripe volume slice) = Unit {0}
 NeedsDatabase (Read volume at count) = Unit {0}
 NeedsDatabase (Write volume at block) = Unit {0}
@@ -77,6 +76,19 @@ pub record HasDatabase (lines : List Exchange) : Type 0 where
   pub asks : Asks shown command
   pub needs : NeedsDatabase command
   pub granted : IsGranted shown command
+  pub stays : (one : Exchange) → Contains behind one → MayTakeDatabase one → ⊥
+
+-- one of these lines was told to have made a database with replicas on these slices, and none behind it may have taken it away
+pub record IsMadeOn (slices : List SliceName) (lines : List Exchange) : Type 0 where
+  pub made : Exchange
+  pub force : Bool
+  pub count : ℕ
+  pub blocks : ℕ
+  pub before : List Exchange
+  pub behind : List Exchange
+  pub parts : lines ≡ before ++ made ∷ behind
+  pub asks : Asks made (Create slices force count blocks)
+  pub told : IsTold made ok_line
   pub stays : (one : Exchange) → Contains behind one → MayTakeDatabase one → ⊥
 
 -- The volume may lie on the slice: one of these lines may have made it there, and those that were told `ok` to making it, behind the last one that may have taken it away, named that slice.
@@ -99,11 +111,11 @@ listed_line of = number_text of.volume.0 ++ (codes " 1 1 " ++ (slice_text of.sli
 
 -- what the new drives, which held this, held in that block of the volume: in that block of a slice of the host that isn't marked `db`, on which the
 -- volume may lie by these lines
-pub record HeldAtFirst (drives : Geometry) (home : Home) (made : Image) (lines : List Exchange) (volume : VolId) (number : ℕ) (bytes : List ℕ) : Type 0 where
+pub record HeldAtFirst (drives : Geometry) (name : List ℕ) (made : Image) (lines : List Exchange) (volume : VolId) (number : ℕ) (bytes : List ℕ) : Type 0 where
   pub slice : SliceName
   pub may : MayLie volume slice lines
   pub at : SliceAt
-  pub has : HasSlice (own_view drives home.host).slices slice at
+  pub has : HasSlice (own_view drives name).slices slice at
   pub plain : at.db ≡ false
   pub within : number < at.blocks
   pub held : bytes ≡ made at.drive.0 (at.start + number)

@@ -1,10 +1,10 @@
-ghost use Rattle.mdv_theorem.specs.Observed.{BlocksBegin, DatabasesStay, PrintsOfAll, PrintsOfNames, ReadsAgree, ReadsAreTold, RunsAgree, RunsAnswer, RunsEnd, VolumesStay, WritesLast};
+ghost use Rattle.mdv_theorem.specs.Observed.{BlocksBegin, DatabasesStay, PrintsOfAll, PrintsOfNames, ReadsAgree, ReadsAreTold, RunsAgree, RunsAnswer, RunsEnd, RunsFindOne, VolumesStay, WritesLast};
 ghost use Rattle.mdv_theorem.specs.Running.{RunsGoOn, RunsLiveOn};
 
-/// Whatever ran on the drives before, whatever failed and crashed then: a run whose script can be read and whose replies can be told ends with Panic only where its database's
-/// drive failed; a volume that was made, read or written stays, and a read of it is told as long as it keeps its copies, both as long as the database's
-/// drive answers; and what it tells of a block is the last write that was acknowledged, or one that was issued later, and what an earlier read of the
-/// run told, or was written in between.
+/// Whatever ran on the drives before, whatever failed and crashed then: a run whose script can be read and whose replies can be told ends with Panic only where a call failed on a
+/// drive on which its database's replicas may lie; a volume that was made, read or written stays, and a read of it is told as long as it keeps its copies, both as long as enough
+/// drives answer for the database: all on which its replicas may lie, or those of more than half of the slices on which it was made; and what it tells of a block is the last write
+/// that was acknowledged, or one that was issued later, and what an earlier read of the run told, or was written in between.
 pub fn runs_keep_their_word()
     ensures ends { RunsEnd }
     ensures there { VolumesStay }
@@ -13,21 +13,22 @@ pub fn runs_keep_their_word()
     ensures agree { ReadsAgree }
 {}
 
-/// And over runs: what a read tells of a block is what the new drives held there, or was written since; and what a read of an earlier run told of it,
-/// in which the volume bore the losses of drives up to then, or was written in between.
+/// And over runs: what a read tells of a block is what the new drives held there, or was written since; and what a read of an earlier run told of it, in which the volume bore the
+/// losses of drives up to then, or was written in between.
 pub fn blocks_keep_their_values()
     ensures begin { BlocksBegin }
     ensures agree { RunsAgree }
 {}
 
 /// A database that a line was told to have made, or to have been done with, in this run or an earlier one, stays: no line is told that there is none, nor a creation that one was
-/// made, as long as its drive answers.
+/// made, as long as enough drives answer for it. And no run that begins on what earlier ones led to ends because two databases are there.
 pub fn databases_stay()
-    ensures { DatabasesStay }
+    ensures stay { DatabasesStay }
+    ensures one { RunsFindOne }
 {}
 
-/// A print of volumes that lines showed to be there, or of all of a database that they showed, is told, or refused for want of memory, as long as the database's drive answers: a line
-/// for each volume, with a slice on which it may lie.
+/// A print of volumes that lines showed to be there, or of all of a database that they showed, is told, or refused for want of memory, as long as enough drives answer for the
+/// database: a line for each volume, with a slice on which it may lie.
 pub fn prints_are_told()
     ensures named { PrintsOfNames }
     ensures all { PrintsOfAll }
@@ -38,8 +39,8 @@ pub fn lines_are_answered()
     ensures { RunsAnswer }
 {}
 
-/// The law speaks of each moment of a run that the contract of `run` speaks of, by its clauses `stands` and `tells`: there a run is under way, and wherever it is stopped it is
-/// one more run of the life that it began on. Of two such moments of one run, whichever is earlier, the other is one that it may have been stopped at, as the law over runs asks.
+/// The law speaks of each moment of a run that the contract of `run` speaks of, by its clauses `stands` and `tells`: there a run is under way, and wherever it is stopped it is one
+/// more run of the life that it began on. Of two such moments of one run, whichever is earlier, the other is one that it may have been stopped at, as the law over runs asks.
 pub fn runs_live_on()
     ensures lives { RunsLiveOn }
     ensures goes { RunsGoOn }

@@ -1,13 +1,13 @@
 -- Which tables a boot may find, as a log goes on.
-use Rattle.std.proofs.Common.{◌≡◌, ◌⊎◌, inl, inr, ⊎_elim, true, false, List, [], ◌∷◌, Option, Some, None, Contains, refl, sym, ap, subst, arith}
+use Rattle.std.proofs.Common.{◌≡◌, ◌⊎◌, inl, inr, ⊎_elim, true, false, List, [], ◌∷◌, Option, Some, None, All, Contains, refl, sym, ap, subst, arith}
 use Rattle.std.specs.List.{list_any}
 use Rattle.std.proofs.lemmas.List.Elements.{All-cons, All-contains, All-head, All-tail}
 use Rattle.mdv_base.specs.Mark.{IsBelow}
 use Rattle.mdv_base.specs.declared.mark.Mark.{Mark}
 use Rattle.mdv_store_law.specs.Log as log
 use Rattle.mdv_store_law.specs.Log.{IsLog, IsMade, IsNotOlder, IsRising, Log, Version, answered, is_firm, log_after}
-use Rattle.mdv_store_law.proofs.Families.{answered_rising, contains_cases, contains_first, written_firm}
-use Rattle.mdv_store_law.proofs.Logs.{firm_stays, is_log_after}
+use Rattle.mdv_store_law.proofs.Families.{contains_behind, contains_cases, contains_first, written_firm}
+use Rattle.mdv_store_law.proofs.Logs.{firm_stays, is_log_after, is_log_after_all}
 use Rattle.mdv_volumes.specs.Below.{Change, Geometry, Table}
 use Rattle.mdv_volumes.specs.Happening.{MayBeFound}
 use Rattle.mdv_volumes.specs.HistoryLaws.{AsksTable, IsAsked}
@@ -35,6 +35,30 @@ only_found newest older v rising written found = ⊎_elim (λ here. sym here)
 pub older_found : (v : Version) (older : List Version) (w : Version) → MayBeFound (v ∷ older) w → (v ≡ w) ⊎ MayBeFound older w
 older_found v older w found = ⊎_elim (λ here. inl here) (λ behind. inr (behind, All-tail (λ (x : Version). x.is_written ≡ true → IsBelow w.mark x.mark → ⊥) v older found.1)) (contains_cases v w older found.0)
 
+abbrev NotOver : Version → Version → Type 0
+NotOver v w = w.is_written ≡ true → IsBelow v.mark w.mark → ⊥
+
+-- an answer makes none one that a boot may find
+found_before : (newest : Version) (older : List Version) (v : Version) → MayBeFound (record newest { is_written = true } ∷ older) v → (w : Version) × MayBeFound (newest ∷ older) w × (w.table ≡ v.table)
+found_before newest older v found = ⊎_elim
+    (λ here. (
+      newest,
+      (
+        contains_first newest older,
+        All-cons (NotOver newest) newest older (λ written below. never_both newest.mark newest.mark below below)
+            (subst (λ (m : Mark). All (λ (w : Version). w.is_written ≡ true → IsBelow m w.mark → ⊥) older) (ap (λ (w : Version). w.mark) (sym here)) rest),
+      ),
+      ap (λ (w : Version). w.table) here,
+    ))
+    (λ behind. (v, (contains_behind newest v older behind, All-cons (NotOver v) newest older (λ written. All-head (NotOver v) then older found.1 refl) rest), refl))
+    (contains_cases then v older found.0)
+  where
+    then : Version
+    then = record newest { is_written = true }
+
+    rest : All (NotOver v) older
+    rest = All-tail (NotOver v) then older found.1
+
 pub none_found : (v : Version) → MayBeFound [] v → ⊥
 none_found v found = omega (arith, found.0.1)
 
@@ -42,11 +66,9 @@ module _ (P : Table → Type 0) where
   abbrev pub AllFound : List Version → Type 0
   AllFound family = (v : Version) → MayBeFound family v → P v.table
 
-  written_found : (family : List Version) → log.IsBegun family → IsRising family → AllFound family → AllFound (answered family)
-  written_found [] begun rising all v found = absurd begun
-  written_found (newest ∷ older) begun rising all v found =
-      let is = only_found (record newest { is_written = true }) older v (answered_rising (newest ∷ older) rising) refl found in
-      subst P (sym (ap (λ (w : Version). w.table) is)) (all newest (newest_found newest older rising))
+  written_found : (family : List Version) → log.IsBegun family → AllFound family → AllFound (answered family)
+  written_found [] begun all v found = absurd begun
+  written_found (newest ∷ older) begun all v found = let was = found_before newest older v found in subst P was.2 (all was.0 was.1)
 
   begun_found : (lg : Log) (mark : Mark) (asked : Option Change) (before : List Change) (table : Table) → P table → AllFound lg.family → AllFound (log_after lg (log.Writing mark asked before table)).family
   begun_found lg mark asked before table here all v found = ⊎_elim (λ new. subst P (ap (λ (w : Version). w.table) new) here) (λ old. all v old)
@@ -62,7 +84,7 @@ module _ (g : Geometry) (P : Table → Type 0) (none : (table : Table) → table
   found_step : (lg : Log) (e : log.Event) → IsLog g lg → log.MayHappen g lg e → AllFound P lg.family → ((table : Table) → AsksTable e table → P table) → AllFound P (log_after lg e).family
   found_step lg (log.Issued identity) is may all new = λ v found. absurd (none_found v found)
   found_step lg (log.Writing mark asked before table) is may all new = begun_found P lg mark asked before table (next_table lg asked before mark table may.1 all new) all
-  found_step lg log.Written is may all new = written_found P lg.family may is.rising all
+  found_step lg log.Written is may all new = written_found P lg.family may all
   found_step lg (log.Told which before) is may all new = all
 
   -- each table that a boot may find in the end is so, where those at the start are, and those that were asked
@@ -96,21 +118,22 @@ module _ (g : Geometry) (P : Table → Type 0) where
 
 -- and what no change takes from a table stays so
 module _ (g : Geometry) (P : Table → Type 0) (stays : (asked : Option Change) (old next : Table) → IsMade g asked old next → P old → P next) where
-  next_lasts : (lg : Log) (asked : Option Change) (before : List Change) (table : Table) → AreLasting g P lg → log.IsFirst lg.issued lg.family asked before table ⊎ log.IsNext g lg.family asked before table → P table
-  next_lasts lg asked before table are (inl first) = let firm = subst (λ (f : List Version). list_any (λ v. v.is_written) f ≡ true) first.none are.firm in absurd (cc firm)
-  next_lasts lg asked before table are (inr next) = stays asked next.parent.table table next.made (are.all next.parent (next.one_of, next.not_older))
+  next_lasts : (lg : Log) (asked : Option Change) (before : List Change) (table : Table) → is_firm lg ≡ true → AllFound P lg.family → log.IsFirst lg.issued lg.family asked before table ⊎ log.IsNext g lg.family asked before table → P table
+  next_lasts lg asked before table firm all (inl first) = let none = subst (λ (f : List Version). list_any (λ v. v.is_written) f ≡ true) first.none firm in absurd (cc none)
+  next_lasts lg asked before table firm all (inr next) = stays asked next.parent.table table next.made (all next.parent (next.one_of, next.not_older))
 
-  all_step : (lg : Log) (e : log.Event) → log.MayHappen g lg e → AreLasting g P lg → AllFound P (log_after lg e).family
-  all_step lg (log.Issued identity) may are = λ v found. absurd (none_found v found)
-  all_step lg (log.Writing mark asked before table) may are = begun_found P lg mark asked before table (next_lasts lg asked before table are may.1) are.all
-  all_step lg log.Written may are = written_found P lg.family may are.is_log.rising are.all
-  all_step lg (log.Told which before) may are = are.all
+  all_step : (lg : Log) (e : log.Event) → log.MayHappen g lg e → is_firm lg ≡ true → AllFound P lg.family → AllFound P (log_after lg e).family
+  all_step lg (log.Issued identity) may firm all = λ v found. absurd (none_found v found)
+  all_step lg (log.Writing mark asked before table) may firm all = begun_found P lg mark asked before table (next_lasts lg asked before table firm all may.1) all
+  all_step lg log.Written may firm all = written_found P lg.family may all
+  all_step lg (log.Told which before) may firm all = all
 
   -- whatever happens to the log
+  pub kept_all : (lg : Log) (es : List log.Event) → log.IsCourse g lg es → is_firm lg ≡ true → AllFound P lg.family → (is_firm (log.log_after_all lg es) ≡ true) × AllFound P (log.log_after_all lg es).family
+  kept_all lg [] course firm all = (firm, all)
+  kept_all lg (e ∷ es) course firm all = kept_all (log_after lg e) es course.1 (firm_stays g lg e course.0 firm) (all_step lg e course.0 firm all)
+
   pub lasting_all : (lg : Log) (es : List log.Event) → log.IsCourse g lg es → AreLasting g P lg → AreLasting g P (log.log_after_all lg es)
-  lasting_all lg [] course are = are
-  lasting_all lg (e ∷ es) course are = lasting_all (log_after lg e) es course.1 (record {
-    is_log = is_log_after g lg e are.is_log course.0;
-    firm = firm_stays g lg e course.0 are.firm;
-    all = all_step lg e course.0 are;
-  })
+  lasting_all lg es course are =
+      let kept = kept_all lg es course are.firm are.all in
+      record { is_log = is_log_after_all g lg es are.is_log course; firm = kept.0; all = kept.1 }

@@ -3,7 +3,9 @@ use Rattle.std.proofs.Common.{◌≡◌, inl, inr, true, false, List, [], ◌∷
 use Rattle.mdv_shelf.proofs.Blocks.{both_ways}
 use Rattle.mdv_store_law.specs.Log as log
 use Rattle.mdv_store_law.proofs.Machine.{after_more, course_more}
-use Rattle.mdv_volumes.specs.Below.{Change, Identity, Key, Log, Site, VolId, is_firm}
+use Rattle.mdv_databases.proofs.Creating.{creation_elsewhere, creation_here}
+use Rattle.mdv_databases.proofs.Lists.{events_elsewhere, events_log, key_differs, key_is}
+use Rattle.mdv_volumes.specs.Below.{Change, Geometry, Identity, Key, Log, VolId, is_firm}
 use Rattle.mdv_volumes.specs.Databases.{Database, current_of, log_in, log_of, same_key, with_creation, with_event}
 use Rattle.mdv_volumes.specs.Happening.{IsCourse, IsOfCurrent, MayHappen, deed_of, issued_by, told_by}
 use Rattle.mdv_volumes.specs.History.{Acknowledges, Boots, Crashes, Creation, Deed, Event, History, OfDatabase, OfVolume, Reads, Shows, Stops, databases_after, history_after, history_after_all}
@@ -11,13 +13,10 @@ use Rattle.mdv_volumes.specs.HistoryLaws.{DatabasesLive, database_deeds, log_eve
 use Rattle.mdv_volumes.specs.Happening.{begun_of}
 use Rattle.mdv_volumes.specs.Events.{Answers, Begins, Flushes, Issues, VolumeEvent, Woke}
 use Rattle.mdv_volumes.specs.Events as lives
-use Rattle.mdv_volumes.specs.Tables.{IsSite, Sites}
-use Rattle.mdv_volumes.proofs.Databases.{creation_elsewhere, creation_here, event_elsewhere, event_here, key_is, key_itself}
 
 module _ (key : Key) where
-  -- another key
   other_key : (other : Key) → same_key key other ≡ false → other ≡ key → ⊥
-  other_key other never same = let itself = subst (λ (k : Key). same_key key k ≡ true) (sym same) (key_itself key) in cc (itself, never)
+  other_key other never same = key_differs key other never (sym same)
 
   its_creation : (other : Key) (identity : Identity) → same_key key other ≡ true → log_events_at key (Creation other identity) ≡ log.Issued identity ∷ []
   its_creation other identity is = rw is refl
@@ -31,7 +30,7 @@ module _ (key : Key) where
         subst (λ (k : Key). log_of (with_creation k identity ds) key ≡ log.log_after (log_of ds key) (log.Issued identity)) (key_is key other does) (ap log_in (creation_here key identity ds))
         ∙ ap (λ (l : List log.Event). log.log_after_all (log_of ds key) l) (sym (its_creation other identity does))
     | inr never ↦
-        ap log_in (creation_elsewhere other key (other_key other never) identity ds) ∙ ap (λ (l : List log.Event). log.log_after_all (log_of ds key) l) (sym (no_creation other identity never))
+        ap log_in (creation_elsewhere other identity ds key (other_key other never)) ∙ ap (λ (l : List log.Event). log.log_after_all (log_of ds key) l) (sym (no_creation other identity never))
   ]
 
   event_log : (ds : List Database) (other : Key) (identity : Identity) (e : log.Event) (d : Database) → current_of ds other ≡ Some d → log_of (with_event other e ds) key ≡ log.log_after_all (log_of ds key) (log_events_at key (OfDatabase other identity e))
@@ -39,39 +38,38 @@ module _ (key : Key) where
     | inl does ↦
         let same = key_is key other does in
         let here : current_of ds key ≡ Some d = subst (λ (k : Key). current_of ds k ≡ Some d) (sym same) is in
-        rw does (subst (λ (k : Key). log_of (with_event k e ds) key ≡ log.log_after (log_of ds key) e) same (ap log_in (event_here key e ds d here) ∙ ap (λ (o : Option Database). log.log_after (log_in o) e) (sym here)))
-    | inr never ↦ rw never (ap log_in (event_elsewhere other key (other_key other never) e ds))
+        rw does (subst (λ (k : Key). log_of (with_event k e ds) key ≡ log.log_after (log_of ds key) e) same (events_log key (e ∷ []) ds d here))
+    | inr never ↦ rw never (ap log_in (events_elsewhere other (e ∷ []) ds key (other_key other never)))
   ]
 
-  log_step : (sites : Sites) (h : History) (e : Event) → MayHappen sites h e → log_of (databases_after h.databases e) key ≡ log.log_after_all (log_of h.databases key) (log_events_at key e)
-  log_step sites h (Creation other identity) may = created_log h.databases other identity
-  log_step sites h (OfDatabase other identity e) may = event_log h.databases other identity e may.database may.current
-  log_step sites h (OfVolume other volume e) may = refl
-  log_step sites h (Reads other volume at blocks) may = refl
-  log_step sites h (Acknowledges place other volume at blocks) may = refl
-  log_step sites h (Shows place other volume at blocks) may = refl
-  log_step sites h (Boots other up) may = refl
-  log_step sites h Stops may = refl
-  log_step sites h Crashes may = refl
+  log_step : (g : Geometry) (h : History) (e : Event) → MayHappen g h e → log_of (databases_after h.databases e) key ≡ log.log_after_all (log_of h.databases key) (log_events_at key e)
+  log_step g h (Creation other identity) may = created_log h.databases other identity
+  log_step g h (OfDatabase other identity e) may = event_log h.databases other identity e may.database may.current
+  log_step g h (OfVolume other volume e) may = refl
+  log_step g h (Reads other volume at blocks) may = refl
+  log_step g h (Acknowledges place other volume at blocks) may = refl
+  log_step g h (Shows place other volume at blocks) may = refl
+  log_step g h (Boots other up) may = refl
+  log_step g h Stops may = refl
+  log_step g h Crashes may = refl
 
-  log_all : (sites : Sites) (h : History) (es : List Event) → IsCourse sites h es → log_of (history_after_all h es).databases key ≡ log.log_after_all (log_of h.databases key) (log_events_of key es)
-  log_all sites h [] course = refl
-  log_all sites h (e ∷ es) course =
-      log_all sites (history_after h e) es course.1 ∙ ap (λ (l : Log). log.log_after_all l (log_events_of key es)) (log_step sites h e course.0)
+  log_all : (g : Geometry) (h : History) (es : List Event) → IsCourse g h es → log_of (history_after_all h es).databases key ≡ log.log_after_all (log_of h.databases key) (log_events_of key es)
+  log_all g h [] course = refl
+  log_all g h (e ∷ es) course =
+      log_all g (history_after h e) es course.1 ∙ ap (λ (l : Log). log.log_after_all l (log_events_of key es)) (log_step g h e course.0)
       ∙ sym (after_more log.log_after (log_of h.databases key) (log_events_at key e) (log_events_of key es))
 
-  module _ (sites : Sites) (site : Site) (is_site : IsSite sites key site) where
-    event_may : (h : History) (other : Key) (identity : Identity) (e : log.Event) → IsOfCurrent sites h.databases other identity e → log.IsCourse site.drives (log_of h.databases key) (log_events_at key (OfDatabase other identity e))
+  module _ (g : Geometry) where
+    event_may : (h : History) (other : Key) (identity : Identity) (e : log.Event) → IsOfCurrent g h.databases other identity e → log.IsCourse g (log_of h.databases key) (log_events_at key (OfDatabase other identity e))
     event_may h other identity e may = elim (both_ways (same_key key other)) [
       | inl does ↦
           let same = key_is key other does in
-          let at_site : may.site ≡ site = (let both = sym may.is_site ∙ ap sites (sym same) ∙ is_site in cc both) in
           let here : log_of h.databases key ≡ may.database.log = ap (λ (k : Key). log_of h.databases k) same ∙ ap log_in may.current in
-          rw does (subst (λ (l : Log). log.MayHappen site.drives l e) (sym here) (subst (λ (s : Site). log.MayHappen s.drives may.database.log e) at_site may.may), tt)
+          rw does (subst (λ (l : Log). log.MayHappen g l e) (sym here) may.may, tt)
       | inr never ↦ rw never tt
     ]
 
-    may_step : (h : History) (e : Event) → MayHappen sites h e → log.IsCourse site.drives (log_of h.databases key) (log_events_at key e)
+    may_step : (h : History) (e : Event) → MayHappen g h e → log.IsCourse g (log_of h.databases key) (log_events_at key e)
     may_step h (Creation other identity) may = elim (both_ways (same_key key other)) [
       | inl does ↦ rw does (subst (λ (k : Key). is_firm (log_of h.databases k) ≡ false) (sym (key_is key other does)) may.free, tt)
       | inr never ↦ rw never tt
@@ -85,11 +83,11 @@ module _ (key : Key) where
     may_step h Stops may = tt
     may_step h Crashes may = tt
 
-    may_all : (h : History) (es : List Event) → IsCourse sites h es → log.IsCourse site.drives (log_of h.databases key) (log_events_of key es)
+    may_all : (h : History) (es : List Event) → IsCourse g h es → log.IsCourse g (log_of h.databases key) (log_events_of key es)
     may_all h [] course = tt
     may_all h (e ∷ es) course =
-        course_more log.log_after (log.MayHappen site.drives) (log_of h.databases key) (log_events_at key e) (log_events_of key es) (may_step h e course.0)
-        (subst (λ (l : Log). log.IsCourse site.drives l (log_events_of key es)) (log_step sites h e course.0) (may_all (history_after h e) es course.1))
+        course_more log.log_after (log.MayHappen g) (log_of h.databases key) (log_events_at key e) (log_events_of key es) (may_step h e course.0)
+        (subst (λ (l : Log). log.IsCourse g l (log_events_of key es)) (log_step g h e course.0) (may_all (history_after h e) es course.1))
 
   -- what is told of one database, or begun, and more behind it
   deeds_more : (other : Key) (some : List (Option Change)) (deeds : List Deed) → same_key key other ≡ true → database_deeds key (map (deed_of other) some ++ deeds) ≡ some ++ database_deeds key deeds
@@ -146,8 +144,8 @@ module _ (key : Key) where
 
 pub databases_live : DatabasesLive
 databases_live = record {
-  is = λ key sites h es course. log_all key sites h es course;
-  may = λ key site sites h es is_site course. may_all key sites site is_site h es course;
+  is = λ key g h es course. log_all key g h es course;
+  may = λ key g h es course. may_all key g h es course;
   tells = λ key es. tells_all key es;
   begins = λ key es. begins_all key es;
 }

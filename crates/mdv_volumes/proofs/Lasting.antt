@@ -4,14 +4,14 @@ use Rattle.mdv_shelf.proofs.Blocks.{both_ways}
 use Rattle.mdv_store_law.specs.Log as log
 use Rattle.mdv_store_law.specs.Log.{IsMade}
 use Rattle.mdv_store_law.proofs.Logs.{is_log_after_all}
-use Rattle.mdv_volumes.specs.Below.{Change, Geometry, Key, MakeStripe, Map, Site, Table, VolId}
+use Rattle.mdv_volumes.specs.Below.{Change, Geometry, Key, MakeStripe, Map, Table, VolId}
 use Rattle.mdv_volumes.specs.Databases.{is_volume, log_of}
 use Rattle.mdv_volumes.specs.Events.{AllGoOn, Answers, Begins, Flushes, GoesOn, Issues, VolumeEvent, Woke}
 use Rattle.mdv_volumes.specs.Events as lives
 use Rattle.mdv_volumes.specs.Happening.{HasRange, IsCourse, IsNamed, IsPlaced, MayHappen}
 use Rattle.mdv_volumes.specs.History.{Acknowledges, Boots, Crashes, Creation, Event, History, OfDatabase, OfVolume, Reads, Shows, Stops, events_at, events_of, history_after, history_after_all}
 use Rattle.mdv_volumes.specs.HistoryLaws.{HasLogs, log_events_of}
-use Rattle.mdv_volumes.specs.Tables.{IsMapOf, IsSite, Sites}
+use Rattle.mdv_volumes.specs.Tables.{IsMapOf}
 use Rattle.mdv_volumes.proofs.Databases.{volume_key, volume_number}
 use Rattle.mdv_volumes.proofs.Found.{AreLasting, lasting_all, lasting_at, some_lasts}
 use Rattle.mdv_volumes.proofs.Keys.{databases_live}
@@ -19,9 +19,9 @@ use Rattle.mdv_volumes.proofs.Lists.{all_both}
 use Rattle.mdv_volumes.proofs.Tables.{tables_lie}
 
 -- the logs of a history stay logs
-pub still_logs : (sites : Sites) (h : History) (es : List Event) → IsCourse sites h es → HasLogs sites h → HasLogs sites (history_after_all h es)
-still_logs sites h es course logs key site is = subst (log.IsLog site.drives) (sym (databases_live.is key sites h es course))
-    (is_log_after_all site.drives (log_of h.databases key) (log_events_of key es) (logs key site is) (databases_live.may key site sites h es is course))
+pub still_logs : (g : Geometry) (h : History) (es : List Event) → IsCourse g h es → HasLogs g h → HasLogs g (history_after_all h es)
+still_logs g h es course logs key = subst (log.IsLog g) (sym (databases_live.is key g h es course))
+    (is_log_after_all g (log_of h.databases key) (log_events_of key es) (logs key) (databases_live.may key g h es course))
 
 -- the table has the volume, with the block
 abbrev HasBlock : Geometry → VolId → ℕ → Table → Type 0
@@ -32,23 +32,23 @@ block_stays : (g : Geometry) (volume : VolId) (b : ℕ) (asked : Option Change) 
 block_stays g volume b None old next made has = subst (HasBlock g volume b) (sym made) has
 block_stays g volume b (Some (MakeStripe other slice)) old next made has = (has.0, tables_lie.stays g old next other slice volume has.0 made.0 has.1, has.2)
 
-module _ (sites : Sites) (key : Key) (site : Site) (is_site : IsSite sites key site) (volume : VolId) (b : ℕ) where
+module _ (g : Geometry) (key : Key) (volume : VolId) (b : ℕ) where
   -- each table that a boot may find has it
   abbrev Lasts : History → Type 0
-  Lasts h = AreLasting site.drives (HasBlock site.drives volume b) (log_of h.databases key)
+  Lasts h = AreLasting g (HasBlock g volume b) (log_of h.databases key)
 
-  step_lasts : (h : History) (e : Event) → MayHappen sites h e → Lasts h → Lasts (history_after h e)
-  step_lasts h e may are = subst (AreLasting site.drives (HasBlock site.drives volume b)) (sym (databases_live.is key sites h (e ∷ []) (may, tt)))
-      (lasting_all site.drives (HasBlock site.drives volume b) (block_stays site.drives volume b) (log_of h.databases key) (log_events_of key (e ∷ [])) (databases_live.may key site sites h (e ∷ []) is_site (may, tt)) are)
+  step_lasts : (h : History) (e : Event) → MayHappen g h e → Lasts h → Lasts (history_after h e)
+  step_lasts h e may are = subst (AreLasting g (HasBlock g volume b)) (sym (databases_live.is key g h (e ∷ []) (may, tt)))
+      (lasting_all g (HasBlock g volume b) (block_stays g volume b) (log_of h.databases key) (log_events_of key (e ∷ [])) (databases_live.may key g h (e ∷ []) (may, tt)) are)
 
   -- one of them
-  some_named : (h : History) → Lasts h → (v : Map) × IsNamed sites h.databases key volume v × (b < v.blocks)
+  some_named : (h : History) → Lasts h → (v : Map) × IsNamed g h.databases key volume v × (b < v.blocks)
   some_named h are =
-      let found = some_lasts site.drives (HasBlock site.drives volume b) (log_of h.databases key) are in
-      let has = found.2 in (has.0, record { site = site; is_site = is_site; version = found.0; found = found.1; map = has.1 }, has.2)
+      let found = some_lasts g (HasBlock g volume b) (log_of h.databases key) are in
+      let has = found.2 in (has.0, record { version = found.0; found = found.1; map = has.1 }, has.2)
 
   -- so a log begins behind the block
-  own_goes : (h : History) (e : VolumeEvent) → IsPlaced sites h key volume e → Lasts h → GoesOn b e
+  own_goes : (h : History) (e : VolumeEvent) → IsPlaced g h key volume e → Lasts h → GoesOn b e
   own_goes h (Issues at blocks) placed are = tt
   own_goes h (Answers at blocks) placed are = tt
   own_goes h (Flushes at count) placed are = tt
@@ -59,15 +59,15 @@ module _ (sites : Sites) (key : Key) (site : Site) (is_site : IsSite sites key s
   own_goes h lives.Crashes placed are = tt
   own_goes h (Woke count content) placed are = tt
 
-  volume_goes : (h : History) (other : Key) (beside : VolId) (e : VolumeEvent) → IsPlaced sites h other beside e → Lasts h → AllGoOn b (events_at key volume (OfVolume other beside e))
+  volume_goes : (h : History) (other : Key) (beside : VolId) (e : VolumeEvent) → IsPlaced g h other beside e → Lasts h → AllGoOn b (events_at key volume (OfVolume other beside e))
   volume_goes h other beside e placed are = elim (both_ways (is_volume key volume other beside)) [
     | inl does ↦
-        let here = subst (λ (k : Key). IsPlaced sites h k beside e) (sym (volume_key key volume other beside does)) placed in
-        rw does (own_goes h e (subst (λ (v : VolId). IsPlaced sites h key v e) (sym (volume_number key volume other beside does)) here) are, tt)
+        let here = subst (λ (k : Key). IsPlaced g h k beside e) (sym (volume_key key volume other beside does)) placed in
+        rw does (own_goes h e (subst (λ (v : VolId). IsPlaced g h key v e) (sym (volume_number key volume other beside does)) here) are, tt)
     | inr never ↦ rw never tt
   ]
 
-  step_goes : (h : History) (e : Event) → MayHappen sites h e → Lasts h → AllGoOn b (events_at key volume e)
+  step_goes : (h : History) (e : Event) → MayHappen g h e → Lasts h → AllGoOn b (events_at key volume e)
   step_goes h (Creation other identity) may are = tt
   step_goes h (OfDatabase other identity e) may are = tt
   step_goes h (OfVolume other beside e) may are = volume_goes h other beside e may.1 are
@@ -78,16 +78,15 @@ module _ (sites : Sites) (key : Key) (site : Site) (is_site : IsSite sites key s
   step_goes h Stops may are = tt
   step_goes h Crashes may are = (tt, tt)
 
-  all_go : (h : History) (es : List Event) → IsCourse sites h es → Lasts h → AllGoOn b (events_of key volume es)
+  all_go : (h : History) (es : List Event) → IsCourse g h es → Lasts h → AllGoOn b (events_of key volume es)
   all_go h [] course are = tt
   all_go h (e ∷ es) course are = all_both (GoesOn b) (events_at key volume e) (events_of key volume es) (step_goes h e course.0 are) (all_go (history_after h e) es course.1 (step_lasts h e course.0 are))
 
 -- the log of no block of the range begins anew
-pub range_goes : (sites : Sites) (h : History) (es : List Event) (key : Key) (volume : VolId) (at count k : ℕ) → HasLogs sites h → HasRange sites h.databases key volume at count → k < count
-    → IsCourse sites h es → AllGoOn (at + k) (events_of key volume es)
-range_goes sites h es key volume at count k logs range lt course =
+pub range_goes : (g : Geometry) (h : History) (es : List Event) (key : Key) (volume : VolId) (at count k : ℕ) → HasLogs g h → HasRange g h.databases key volume at count → k < count
+    → IsCourse g h es → AllGoOn (at + k) (events_of key volume es)
+range_goes g h es key volume at count k logs range lt course =
     let there = range.there in
     let within = range.within in
-    let g = there.site.drives in
-    let start = lasting_at g (HasBlock g volume (at + k)) (log_of h.databases key) there.newest there.older (logs key there.site there.is_site) there.family there.written (range.map, there.map, omega (arith, within, lt)) in
-    all_go sites key there.site there.is_site volume (at + k) h es course start
+    let start = lasting_at g (HasBlock g volume (at + k)) (log_of h.databases key) there.newest there.older (logs key) there.family there.written (range.map, there.map, omega (arith, within, lt)) in
+    all_go g key volume (at + k) h es course start

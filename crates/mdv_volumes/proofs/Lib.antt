@@ -2,11 +2,14 @@ pub mod Lists
 pub mod Logs
 pub mod Standing
 pub mod Runs
+pub mod Clear
 pub mod Tables
 pub mod Databases
+pub mod Owners
 pub mod Lives
 pub mod Keys
 pub mod Found
+pub mod Listed
 pub mod Volumes
 pub mod Transfers
 pub mod Restarts

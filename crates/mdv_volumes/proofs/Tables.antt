@@ -9,6 +9,7 @@ use Rattle.std.proofs.lemmas.Option.{none-some}
 use Rattle.mdv_base.specs.declared.drive.DriveNo.{DriveNo}
 use Rattle.mdv_map.proofs.Combining.{in_run, run_disjoint}
 use Rattle.mdv_map.proofs.Covering.{runs_lie}
+use Rattle.mdv_table.specs.Below.{meets_db}
 use Rattle.mdv_table.specs.Plan.{component_slices}
 use Rattle.mdv_table.specs.Slices.{HasBlock, Overlaps}
 use Rattle.mdv_table.specs.Table.{IsComponentOn, IsKindOf}
@@ -23,9 +24,10 @@ use Rattle.mdv_table.proofs.Causes.{name_taken, no_slice}
 use Rattle.mdv_name.specs.SliceIndex.{slice_at}
 use Rattle.mdv_name.proofs.Finding.{slice_at-none, slice_at-some}
 use Rattle.mdv_base.specs.declared.refusal.Refusal.TheVariants.{NameTaken, NoSuchSlice}
-use Rattle.mdv_volumes.specs.Below.{AreApart, AreDisjoint, Base, Component, Geometry, HasSlice, HasVolume, IsDisjoint, IsAfter, IsOfGeometry, IsSound, MakeStripe, Map, Slice, SliceAt, SliceName, Stripe, Table, VolId, Volume, VolumeKind, area_of, area_of_map, run_map}
+use Rattle.mdv_volumes.specs.Below.{AreApart, AreDisjoint, Base, Component, Geometry, HasSlice, HasVolume, IsDisjoint, IsAfter, IsOfGeometry, IsSound, MakeStripe, Map, Slice, SliceAt, SliceName, Stripe, Table, VolId, Volume, VolumeKind, area_of_map, run_map, site_area, site_of}
+use Rattle.mdv_volumes.proofs.Clear.{lies_beside}
 use Rattle.mdv_volumes.proofs.Lists.{contains_behind, contains_first, first_or_behind}
-use Rattle.mdv_volumes.specs.Tables.{AreLaid, ArePlain, IsBaseMap, IsClear, IsKindMap, IsMapOf, Sites, TablesLie}
+use Rattle.mdv_volumes.specs.Tables.{AreLaid, IsBaseMap, IsClear, IsKindMap, IsMapOf, TablesLie}
 
 -- a volume lies on all blocks of one slice
 record OnSlice (g : Geometry) (of : Volume) (v : Map) : Type 0 where
@@ -33,6 +35,7 @@ record OnSlice (g : Geometry) (of : Volume) (v : Map) : Type 0 where
   at : SliceAt
   has : HasSlice g.slices slice at
   plain : at.db ≡ false
+  clear : meets_db g slice ≡ false
   lists : volume_slices of ≡ slice ∷ []
   map : v ≡ run_map at.drive.0 at.start at.blocks
 
@@ -42,6 +45,7 @@ record OnBase (g : Geometry) (base : Base) (v : Map) : Type 0 where
   at : SliceAt
   has : HasSlice g.slices slice at
   plain : at.db ≡ false
+  clear : meets_db g slice ≡ false
   is : base_slices base ≡ slice ∷ []
   map : v ≡ run_map at.drive.0 at.start at.blocks
 
@@ -85,6 +89,7 @@ module _ (g : Geometry) (sound : IsSound g) where
         at = lies.0;
         has = lies.1;
         plain = subst (λ (a : SliceAt). a.db ≡ false) same on.whole.plain;
+        clear = on.clear;
         is = refl;
         map = lies.2 ∙ ap (λ (first : ℕ). run_map lies.0.drive.0 first c.blocks) (let start = on.whole.start in omega arith)
             ∙ ap (λ (n : ℕ). run_map lies.0.drive.0 lies.0.start n) (on.whole.blocks ∙ ap (λ (a : SliceAt). a.blocks) same);
@@ -93,7 +98,7 @@ module _ (g : Geometry) (sound : IsSound g) where
   of_kind : (of : Volume) (kind : VolumeKind) (v : Map) → of.kind ≡ kind → IsKindOf g kind → IsKindMap g kind v → OnSlice g of v
   of_kind of (Stripe s) v is kind lies =
       let found = on_base s.component s.component.on v kind.component lies in
-      record { slice = found.slice; at = found.at; has = found.has; plain = found.plain; lists = ap kind_slices is ∙ found.is; map = found.map }
+      record { slice = found.slice; at = found.at; has = found.has; plain = found.plain; clear = found.clear; lists = ap kind_slices is ∙ found.is; map = found.map }
 
   module _ (table : Table) (is : IsOfGeometry g table) where
     abbrev volumes : List Volume
@@ -163,18 +168,18 @@ module _ (g : Geometry) (sound : IsSound g) where
         let away = never_over lies.of beside.of a.slice b.slice lies.has.0 beside.has.0 (λ same. differ (sym lies.has.1 ∙ ap (λ (x : Volume). x.number) same ∙ beside.has.1)) a.lists b.lists in
         subst (λ (x : Map). AreDisjoint x w) (sym a.map) (subst (λ (y : Map). AreDisjoint (run_map a.at.drive.0 a.at.start a.at.blocks) y) (sym b.map) (never_shared a.slice b.slice a.at b.at a.has b.has away))
 
-    clear_map : (sites : Sites) → ArePlain sites g → (volume : VolId) (v : Map) → IsMapOf g table volume v → IsClear sites v
-    clear_map sites plain volume v lies key site is_site =
+    clear_map : (volume : VolId) (v : Map) → IsMapOf g table volume v → IsClear g v
+    clear_map volume v lies key =
         let a = on_slice volume v lies in
-        subst (λ (x : Map). AreApart (area_of site) (area_of_map x)) (sym a.map) (λ drive block here there.
-        plain key site a.slice a.at is_site a.has a.plain drive block here (sym (runs_lie.area a.at.drive.0 a.at.start a.at.blocks drive block) ∙ there))
+        subst (λ (x : Map). AreApart (area_of_map x) (site_area (site_of g key))) (sym a.map) (λ drive block here there.
+        lies_beside g sound a.slice a.at a.has a.plain a.clear key drive block (sym (runs_lie.area a.at.drive.0 a.at.start a.at.blocks drive block) ∙ here) there)
 
-    laid : (sites : Sites) → ArePlain sites g → AreLaid sites g table
-    laid sites plain = record {
+    laid : AreLaid g table
+    laid = record {
       one = one_map;
       disjoint = λ volume v lies. let a = on_slice volume v lies in subst IsDisjoint (sym a.map) (run_disjoint a.at.drive.0 a.at.start a.at.blocks);
       apart = apart_maps;
-      clear = clear_map sites plain;
+      clear = clear_map;
     }
 
 -- the maps of a component of the geometry, and of a volume
@@ -227,7 +232,7 @@ module _ (g : Geometry) (old next : Table) (volume : VolId) (slice : SliceName) 
 
 pub tables_lie : TablesLie
 tables_lie = record {
-  laid = λ sites g table sound plain is. laid g sound table is sites plain;
+  laid = λ g table sound is. laid g sound table is;
   some = λ g table of is has. let found = some_kind g of.kind (All-contains (λ (w : Volume). IsKindOf g w.kind) table.plan.volumes of is.kinds has) in (found.0, record { of = of; has = (has, refl); kind = found.1 });
   new = λ g old next volume slice v sound after map. never_taken g old next volume slice after (slice_at g.slices slice) refl sound map.of map.has;
   lies = λ g old next volume slice after is. new_lies g old next volume slice after is;

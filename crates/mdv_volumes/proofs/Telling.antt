@@ -1,16 +1,16 @@
 -- What is done is told.
-use Rattle.std.proofs.Common.{◌≡◌, inl, inr, true, List, [], ◌∷◌, Option, Some, None, map, refl, ◌∙◌, ap, subst}
+use Rattle.std.proofs.Common.{◌≡◌, inl, inr, List, [], ◌∷◌, Option, Some, None, map, refl, ◌∙◌, ap, subst}
 use Rattle.mdv_shelf.proofs.Blocks.{both_ways}
 use Rattle.mdv_store_law.specs.Log as log
-use Rattle.mdv_store_law.proofs.Logs.{told_covers}
-use Rattle.mdv_volumes.specs.Below.{Change, Key, KeptOutside, Log, Site, Table, Tale, area_of}
+use Rattle.mdv_databases.proofs.Lists.{key_differs, key_is}
+use Rattle.mdv_databases.proofs.Telling.{told_stand}
+use Rattle.mdv_volumes.specs.Below.{Change, Geometry, IsCurrentOf, Key, KeptOutside, Log, Table, Tale, site_area, site_of}
 use Rattle.mdv_volumes.specs.Databases.{Database, current_of, log_of, same_key}
 use Rattle.mdv_volumes.specs.Happening.{deed_of}
 use Rattle.mdv_volumes.specs.Histories.{Happens, Stands}
 use Rattle.mdv_volumes.specs.History.{Acknowledges, Changed, Created, Deed, Event, History, Saw, Shows, Wrote, history_after_all}
-use Rattle.mdv_volumes.specs.HistoryLaws.{AreSitesApart, IsAsked, IsTellable, IsTold, TellsGo, identity_in, lifted}
-use Rattle.mdv_volumes.specs.Tables.{Sites}
-use Rattle.mdv_volumes.proofs.Databases.{key_is, key_itself}
+use Rattle.mdv_volumes.specs.HistoryLaws.{IsAsked, IsLifted, IsTellable, IsTold, TellsGo, identity_in, lifted}
+use Rattle.mdv_volumes.proofs.Databases.{current_some}
 use Rattle.mdv_volumes.proofs.Lifting.{databases_go}
 
 -- the newest change or creation is told as one deed
@@ -18,45 +18,53 @@ pub one_deed : (key : Key) (asked : Option Change) (before : List Change) → ma
 one_deed key None before = refl
 one_deed key (Some change) before = refl
 
-all_kept : (site : Site) (t : Tale) → KeptOutside (area_of site) t t
-all_kept site t drive block out = record { last = refl; left = λ x left. left; unwritten = refl }
+all_kept : (g : Geometry) (key : Key) (t : Tale) → KeptOutside (site_area (site_of g key)) t t
+all_kept g key t drive block out = record { last = refl; left = λ x left. left; unwritten = refl }
 
-module _ (sites : Sites) (h : History) (t : Tale) (apart : AreSitesApart sites) (stands : Stands sites h t) where
-  told_by_database : (key : Key) (asked : Option Change) → IsTellable sites h key asked → IsTold sites h (deed_of key asked) t
-  told_by_database key asked can =
-      let which = log.with_asked asked [] in
-      let before = can.may.before in
-      let may = can.may.may in
-      let is = databases_go sites h key can.site (log.Told which before ∷ []) t t apart can.is_site stands (all_kept can.site t) (may, tt)
-      (told_covers can.site (log_of h.databases key) which before t (stands.databases key can.site can.is_site).covers) (λ table none. absurd (never table none)) in
-      record {
-        es = lifted key (identity_in (current_of h.databases key)) (log.Told which before ∷ []);
-        happens = record { course = is.happens.course; begins = is.happens.begins; tells = is.happens.tells ∙ one_deed key asked before; stands = is.happens.stands };
-        families = λ other. elim (both_ways (same_key key other)) [
-          | inl does ↦ subst (λ (k : Key). (log_of (history_after_all h (lifted key (identity_in (current_of h.databases key)) (log.Told which before ∷ []))).databases k).family ≡ (log_of h.databases k).family) (key_is key other does)
-              (ap (λ (l : Log). l.family) is.own)
-          | inr not ↦ ap (λ (l : Log). l.family) (is.others other (λ same. absurd (let itself = subst (λ (q : Key). same_key key q ≡ true) same (key_itself key) in cc (itself, not))))
-        ];
-        volumes = is.volumes;
-      }
-    where
-      never : (table : Table) → IsAsked (log.Told (log.with_asked asked []) can.may.before ∷ []) table → ⊥
-      never table (inl none) = none
-      never table (inr none) = none
+module _ (g : Geometry) (h : History) (t : Tale) (stands : Stands g h t) where
+  module _ (key : Key) (asked : Option Change) (can : IsTellable g h key asked) where
+    abbrev es : List log.Event
+    es = log.Told (log.with_asked asked []) can.may.before ∷ []
 
-  told_one : (deed : Deed) (e : Event) → Happens sites h (e ∷ []) [] (deed ∷ []) t → ((history_after_all h (e ∷ [])).databases ≡ h.databases) → ((history_after_all h (e ∷ [])).volumes ≡ h.volumes) → IsTold sites h deed t
+    its : (d : Database) × IsCurrentOf h.databases key d.identity
+    its = (let one = current_some h.databases key can.may.may.newest can.may.may.older can.may.may.family in (one.0, record { database = one.0; current = one.1; as_begun = refl }))
+
+    never : (table : Table) → IsAsked es table → ⊥
+    never table (inl none) = none
+    never table (inr none) = none
+
+    goes : IsLifted g h key es t
+    goes = databases_go g h key its.0.identity es t t stands its.1 (tt, tt) (can.may.may, tt)
+        (told_stand (log.with_asked asked []) can.may.before g h.databases key t its.0.identity stands.databases its.1 can.may.may)
+        (all_kept g key t) (λ table is. absurd (never table is))
+
+    abbrev events : List Event
+    events = lifted key (identity_in (current_of h.databases key)) es
+
+    told_by_database : IsTold g h (deed_of key asked) t
+    told_by_database = record {
+      es = events;
+      happens = record { course = goes.happens.course; begins = goes.happens.begins; tells = goes.happens.tells ∙ one_deed key asked can.may.before; stands = goes.happens.stands };
+      families = λ other. elim (both_ways (same_key key other)) [
+        | inl does ↦ subst (λ (k : Key). (log_of (history_after_all h events).databases k).family ≡ (log_of h.databases k).family) (key_is key other does) (ap (λ (l : Log). l.family) goes.own)
+        | inr not ↦ ap (λ (l : Log). l.family) (goes.others other (key_differs key other not))
+      ];
+      volumes = goes.volumes;
+    }
+
+  told_one : (deed : Deed) (e : Event) → Happens g h (e ∷ []) [] (deed ∷ []) t → ((history_after_all h (e ∷ [])).databases ≡ h.databases) → ((history_after_all h (e ∷ [])).volumes ≡ h.volumes) → IsTold g h deed t
   told_one deed e happens databases volumes = record { es = e ∷ []; happens = happens; families = λ key. ap (λ (ds : List Database). (log_of ds key).family) databases; volumes = volumes }
 
 pub tells_go : TellsGo
-tells_go sites h (Created key) t apart can stands = told_by_database sites h t apart stands key None can
-tells_go sites h (Changed key change) t apart can stands = told_by_database sites h t apart stands key (Some change) can
-tells_go sites h (Wrote key volume at blocks) t apart can stands = told_one sites h t apart stands (Wrote key volume at blocks) (Acknowledges can.untold.0 key volume at blocks) (record {
+tells_go g h (Created key) t can stands = told_by_database g h t stands key None can
+tells_go g h (Changed key change) t can stands = told_by_database g h t stands key (Some change) can
+tells_go g h (Wrote key volume at blocks) t can stands = told_one g h t stands (Wrote key volume at blocks) (Acknowledges can.untold.0 key volume at blocks) (record {
   course = (((can.untold.1, can.untold.2), can.range, can.only), tt);
   begins = refl;
   tells = refl;
   stands = record { databases = stands.databases; laid = stands.laid; apart = stands.apart; volumes = stands.volumes };
 }) refl refl
-tells_go sites h (Saw key volume at blocks) t apart can stands = told_one sites h t apart stands (Saw key volume at blocks) (Shows can.0 key volume at blocks) (record {
+tells_go g h (Saw key volume at blocks) t can stands = told_one g h t stands (Saw key volume at blocks) (Shows can.0 key volume at blocks) (record {
   course = ((can.1, can.2), tt);
   begins = refl;
   tells = refl;

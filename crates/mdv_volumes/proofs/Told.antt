@@ -1,20 +1,19 @@
 -- A write that is told has its value alone in each block, and keeps it until the next is issued.
 use Rattle.std.proofs.Common.{◌≡◌, ◌⊎◌, inl, inr, ⊎_elim, ℕ, ◌+◌, ◌<◌, List, [], ◌∷◌, ◌++◌, length, slice_index_or, sym, ◌∙◌, ap, subst}
 use Rattle.mdv_store_law.proofs.Machine.{after_more}
-use Rattle.mdv_volumes.specs.Below.{Among, BlockLog, Key, VolId, VolumeLog, only}
+use Rattle.mdv_volumes.specs.Below.{Among, BlockLog, Geometry, Key, VolId, VolumeLog, only}
 use Rattle.mdv_volumes.specs.Events.{MayBeLeft, VolumeEvent}
 use Rattle.mdv_volumes.specs.Events as lives
 use Rattle.mdv_volumes.specs.Happening.{IsCourse, MayHappen}
 use Rattle.mdv_volumes.specs.History.{Acknowledges, Event, History, events_of, history_after, history_after_all}
 use Rattle.mdv_volumes.specs.HistoryLaws.{HasLogs, Lasts, ToldWritesLast}
 use Rattle.mdv_volumes.specs.LogLaws.{MayBe}
-use Rattle.mdv_volumes.specs.Tables.{Sites}
 use Rattle.mdv_volumes.proofs.Lasting.{range_goes, still_logs}
 use Rattle.mdv_volumes.proofs.Lists.{course_front, course_rest}
 use Rattle.mdv_volumes.proofs.Lives.{volumes_live}
 use Rattle.mdv_volumes.proofs.Logs.{issues_alone_add, the_one}
 
-module _ (sites : Sites) (h : History) (es later : List Event) (place : ℕ) (key : Key) (volume : VolId) (at : ℕ) (blocks : List (List ℕ)) (logs : HasLogs sites h) (course : IsCourse sites h (es ++ Acknowledges place key volume at blocks ∷ later)) where
+module _ (g : Geometry) (h : History) (es later : List Event) (place : ℕ) (key : Key) (volume : VolId) (at : ℕ) (blocks : List (List ℕ)) (logs : HasLogs g h) (course : IsCourse g h (es ++ Acknowledges place key volume at blocks ∷ later)) where
   -- where it is told, and behind that
   abbrev there : History
   there = history_after_all h es
@@ -22,8 +21,8 @@ module _ (sites : Sites) (h : History) (es later : List Event) (place : ℕ) (ke
   abbrev behind : History
   behind = history_after there (Acknowledges place key volume at blocks)
 
-  from_there : IsCourse sites there (Acknowledges place key volume at blocks ∷ later)
-  from_there = course_rest history_after (MayHappen sites) h es (Acknowledges place key volume at blocks ∷ later) course
+  from_there : IsCourse g there (Acknowledges place key volume at blocks ∷ later)
+  from_there = course_rest history_after (MayHappen g) h es (Acknowledges place key volume at blocks ∷ later) course
 
   abbrev start : VolumeLog
   start = there.volumes key volume
@@ -32,10 +31,10 @@ module _ (sites : Sites) (h : History) (es later : List Event) (place : ℕ) (ke
   rest = events_of key volume later
 
   own_course : lives.IsCourse start rest
-  own_course = volumes_live.may key volume sites behind later from_there.1
+  own_course = volumes_live.may key volume g behind later from_there.1
 
   own_log : (history_after_all h (es ++ Acknowledges place key volume at blocks ∷ later)).volumes key volume ≡ lives.log_after_all start rest
-  own_log = ap (λ (g : History). g.volumes key volume) (after_more history_after h es (Acknowledges place key volume at blocks ∷ later)) ∙ volumes_live.is key volume behind later
+  own_log = ap (λ (x : History). x.volumes key volume) (after_more history_after h es (Acknowledges place key volume at blocks ∷ later)) ∙ volumes_live.is key volume behind later
 
   module _ (k : ℕ) (lt : k < length blocks) where
     abbrev value : List ℕ
@@ -43,7 +42,7 @@ module _ (sites : Sites) (h : History) (es later : List Event) (place : ℕ) (ke
 
     -- the log of its block begins no more
     goes : lives.AllGoOn (at + k) rest
-    goes = range_goes sites behind later key volume at (length blocks) k (still_logs sites h es (course_front history_after (MayHappen sites) h es (Acknowledges place key volume at blocks ∷ later) course) logs) from_there.0.1 lt from_there.1
+    goes = range_goes g behind later key volume at (length blocks) k (still_logs g h es (course_front history_after (MayHappen g) h es (Acknowledges place key volume at blocks ∷ later) course) logs) from_there.0.1 lt from_there.1
 
     one : start (at + k) ≡ only value
     one = from_there.0.2 k lt
@@ -60,4 +59,4 @@ module _ (sites : Sites) (h : History) (es later : List Event) (place : ℕ) (ke
   told_lasts = record { lasts = λ k x lt may. lasts_so k lt x (subst (λ (l : VolumeLog). MayBe l (at + k) x) own_log may) }
 
 pub told_writes_last : ToldWritesLast
-told_writes_last sites h es later place key volume at blocks logs course = told_lasts sites h es later place key volume at blocks logs course
+told_writes_last g h es later place key volume at blocks logs course = told_lasts g h es later place key volume at blocks logs course

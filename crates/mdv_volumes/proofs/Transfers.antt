@@ -3,65 +3,57 @@ use Rattle.std.proofs.Common.{◌≡◌, ◌+◌, ◌<◌, ℕ, true, false, Lis
 use Rattle.std.proofs.lemmas.Bool.Decides.{nat_tests}
 use Rattle.mdv_map.proofs.Covering.{areas_cover}
 use Rattle.mdv_map.proofs.Following.{answers_follow, flushes_follow, issues_follow}
-use Rattle.mdv_store_law.specs.Standing as database
-use Rattle.mdv_store_law.proofs.Frame.{frames}
-use Rattle.mdv_volumes.specs.Below.{AllOnDisk, AllRead, AreApart, AreLastIssued, Area, Follows, IsDisjoint, Key, Map, Rewriting, Site, Tale, VolId, VolumeLog, area_of, area_of_map, is_among, only}
-use Rattle.mdv_volumes.specs.Databases.{is_volume, log_of}
+use Rattle.mdv_databases.proofs.Lasting.{stand_elsewhere}
+use Rattle.mdv_volumes.specs.Below.{AllOnDisk, AllRead, AreLastIssued, Follows, Geometry, IsDisjoint, Key, Map, Rewriting, Stand, Tale, VolId, VolumeLog, area_of_map, is_among, only}
+use Rattle.mdv_volumes.specs.Databases.{is_volume}
 use Rattle.mdv_volumes.specs.Events.{Answers, Flushes, Issues, VolumeEvent}
 use Rattle.mdv_volumes.specs.Events as lives
 use Rattle.mdv_volumes.specs.Happening.{HasRange, HaveOnly, IsNamed}
 use Rattle.mdv_volumes.specs.Histories.{Happens, Stands}
 use Rattle.mdv_volumes.specs.History.{Wrote, OfVolume, History, events_of, history_after, is_within}
 use Rattle.mdv_volumes.specs.HistoryLaws.{IsWritten, ReadsGo, WritesGo}
-use Rattle.mdv_volumes.specs.Tables.{IsSite, Sites}
+use Rattle.mdv_volumes.specs.Tables.{AreLaid}
 use Rattle.mdv_volumes.proofs.Databases.{volume_itself}
 use Rattle.mdv_volumes.proofs.Lives.{volumes_live}
 use Rattle.mdv_volumes.proofs.Logs.{writes_last}
 use Rattle.mdv_volumes.proofs.Standing.{frames_stand, reads_stand, writes_stand}
 use Rattle.mdv_volumes.proofs.Volumes.{after_own, other_map, same_map, stands_after, there_found, there_named}
 
-apart_both : (a b : Area) → AreApart a b → AreApart b a
-apart_both a b apart drive block in_b in_a = apart drive block in_a in_b
+module _ (g : Geometry) (h : History) (key : Key) (volume : VolId) (at : ℕ) (blocks : List (List ℕ)) (t : Tale) (range : HasRange g h.databases key volume at (length blocks)) (stands : Stands g h t) where
+  laid : AreLaid g range.there.newest.table
+  laid = stands.laid key range.there.newest (there_found g h t stands key volume range.map range.there)
 
-module _ (sites : Sites) (h : History) (key : Key) (volume : VolId) (at : ℕ) (blocks : List (List ℕ)) (t : Tale) (range : HasRange sites h.databases key volume at (length blocks)) (stands : Stands sites h t) where
   one : IsDisjoint range.map
-  one = (stands.laid key range.there.site range.there.newest range.there.is_site (there_found sites h t stands key volume range.map range.there)).disjoint volume range.map range.there.map
+  one = laid.disjoint volume range.map range.there.map
 
   -- no database has a block of it
-  databases_stay : (m : Tale) → Rewriting range.map at blocks t m → (k : Key) (site : Site) → IsSite sites k site → database.Stands site (log_of h.databases k) m
-  databases_stay m rewriting k site is =
-      let before = stands.databases k site is in
-      let laid = stands.laid key range.there.site range.there.newest range.there.is_site (there_found sites h t stands key volume range.map range.there) in
-      let kept = areas_cover.kept range.map at blocks t m range.within rewriting in
-      record {
-        is_log = before.is_log;
-        covers = frames.covers site (area_of_map range.map) (log_of h.databases k) t m (apart_both (area_of site) (area_of_map range.map) (laid.clear volume range.map range.there.map k site is)) kept before.covers;
-      }
+  databases_stay : (m : Tale) → Rewriting range.map at blocks t m → Stand g h.databases m
+  databases_stay m rewriting = stand_elsewhere g (area_of_map range.map) (laid.clear volume range.map range.there.map) t m (areas_cover.kept range.map at blocks t m range.within rewriting) h.databases stands.databases
 
-  others_stay : (m : Tale) → Rewriting range.map at blocks t m → (other : Key) (beside : VolId) (w : Map) → is_volume other beside key volume ≡ false → IsNamed sites h.databases other beside w → Follows w (h.volumes other beside) m
+  others_stay : (m : Tale) → Rewriting range.map at blocks t m → (other : Key) (beside : VolId) (w : Map) → is_volume other beside key volume ≡ false → IsNamed g h.databases other beside w → Follows w (h.volumes other beside) m
   others_stay m rewriting other beside w away named =
-      let laid = stands.laid other named.site named.version named.is_site named.found in
-      frames_stand.elsewhere w range.map at blocks (h.volumes other beside) t m (laid.disjoint beside w named.map) (other_map sites h t stands key volume range.map range.there other beside w away named) range.within rewriting
+      let laid = stands.laid other named.version named.found in
+      frames_stand.elsewhere w range.map at blocks (h.volumes other beside) t m (laid.disjoint beside w named.map) (other_map g h t stands key volume range.map range.there other beside w away named) range.within rewriting
       (stands.volumes other beside w named)
 
   follows : Follows range.map (h.volumes key volume) t
-  follows = stands.volumes key volume range.map (there_named sites h t stands key volume range.map range.there)
+  follows = stands.volumes key volume range.map (there_named g h t stands key volume range.map range.there)
 
   -- they are issued
-  pub issued_goes : (m : Tale) → Rewriting range.map at blocks t m → Happens sites h (OfVolume key volume (Issues at blocks) ∷ []) (Wrote key volume at blocks ∷ []) [] m
+  pub issued_goes : (m : Tale) → Rewriting range.map at blocks t m → Happens g h (OfVolume key volume (Issues at blocks) ∷ []) (Wrote key volume at blocks ∷ []) [] m
   issued_goes m rewriting = record {
     course = ((tt, range), tt);
     begins = refl;
     tells = refl;
-    stands = stands_after sites h key volume (Issues at blocks) t m stands (databases_stay m rewriting)
-        (λ w named. subst (λ (x : Map). Follows x (lives.log_after (h.volumes key volume) (Issues at blocks)) m) (sym (same_map sites h t stands key volume range.map range.there w named))
+    stands = stands_after g h key volume (Issues at blocks) t m stands (databases_stay m rewriting)
+        (λ w named. subst (λ (x : Map). Follows x (lives.log_after (h.volumes key volume) (Issues at blocks)) m) (sym (same_map g h t stands key volume range.map range.there w named))
         (writes_stand.issued range.map at blocks (h.volumes key volume) t m one range.within rewriting follows).follows) (others_stay m rewriting);
   }
 
 -- an event of a volume where nothing is done on the drives
-module _ (sites : Sites) (h : History) (key : Key) (volume : VolId) (e : VolumeEvent) (t : Tale) (stands : Stands sites h t) where
-  pub noted : ((w : Map) → IsNamed sites h.databases key volume w → Follows w (lives.log_after (h.volumes key volume) e) t) → Stands sites (history_after h (OfVolume key volume e)) t
-  noted own = stands_after sites h key volume e t t stands stands.databases own (λ other beside w away named. stands.volumes other beside w named)
+module _ (g : Geometry) (h : History) (key : Key) (volume : VolId) (e : VolumeEvent) (t : Tale) (stands : Stands g h t) where
+  pub noted : ((w : Map) → IsNamed g h.databases key volume w → Follows w (lives.log_after (h.volumes key volume) e) t) → Stands g (history_after h (OfVolume key volume e)) t
+  noted own = stands_after g h key volume e t t stands stands.databases own (λ other beside w away named. stands.volumes other beside w named)
 
 among_own : (at count k : ℕ) → k < count → is_among at count (at + k) ≡ true
 among_own at count k lt = grind (arith, nat_tests)
@@ -69,7 +61,7 @@ among_own at count k lt = grind (arith, nat_tests)
 contains_one : {A : Type 0} (x : A) (xs ys : List A) → Contains ((x ∷ xs) ++ ys) x
 contains_one x xs ys = (0, omega arith, refl)
 
-module _ (sites : Sites) (h : History) (key : Key) (volume : VolId) (at : ℕ) (blocks : List (List ℕ)) (t u : Tale) (range : HasRange sites h.databases key volume at (length blocks)) (stands : Stands sites h t)
+module _ (g : Geometry) (h : History) (key : Key) (volume : VolId) (at : ℕ) (blocks : List (List ℕ)) (t u : Tale) (range : HasRange g h.databases key volume at (length blocks)) (stands : Stands g h t)
     (rewriting : Rewriting range.map at blocks t u) (read : AllRead range.map at blocks u) (on : AllOnDisk range.map at (length blocks) u) where
   abbrev first : History
   first = history_after h (OfVolume key volume (Issues at blocks))
@@ -77,22 +69,22 @@ module _ (sites : Sites) (h : History) (key : Key) (volume : VolId) (at : ℕ) (
   abbrev second : History
   second = history_after first (OfVolume key volume (Answers at blocks))
 
-  is_map : (w : Map) → IsNamed sites h.databases key volume w → range.map ≡ w
-  is_map w named = sym (same_map sites h t stands key volume range.map range.there w named)
+  is_map : (w : Map) → IsNamed g h.databases key volume w → range.map ≡ w
+  is_map w named = sym (same_map g h t stands key volume range.map range.there w named)
 
-  first_stands : Stands sites first u
-  first_stands = (issued_goes sites h key volume at blocks t range stands u rewriting).stands
+  first_stands : Stands g first u
+  first_stands = (issued_goes g h key volume at blocks t range stands u rewriting).stands
 
-  second_stands : Stands sites second u
-  second_stands = noted sites first key volume (Answers at blocks) u first_stands (λ w named.
+  second_stands : Stands g second u
+  second_stands = noted g first key volume (Answers at blocks) u first_stands (λ w named.
       answers_follow.follows w at blocks (first.volumes key volume) u (subst (λ (x : Map). AllRead x at blocks u) (is_map w named) read) (first_stands.volumes key volume w named))
 
-  third_stands : Stands sites (history_after second (OfVolume key volume (Flushes at (length blocks)))) u
-  third_stands = noted sites second key volume (Flushes at (length blocks)) u second_stands (λ w named.
+  third_stands : Stands g (history_after second (OfVolume key volume (Flushes at (length blocks)))) u
+  third_stands = noted g second key volume (Flushes at (length blocks)) u second_stands (λ w named.
       flushes_follow.follows w at (length blocks) (second.volumes key volume) u (subst (λ (x : Map). AllOnDisk x at (length blocks) u) (is_map w named) on) (second_stands.volumes key volume w named))
 
   last_issued : AreLastIssued (first.volumes key volume) at blocks
-  last_issued = subst (λ (l : VolumeLog). AreLastIssued l at blocks) (sym (after_own sites h key volume (Issues at blocks) t u stands)) (issues_follow.newest at blocks (h.volumes key volume))
+  last_issued = subst (λ (l : VolumeLog). AreLastIssued l at blocks) (sym (after_own g h key volume (Issues at blocks) t u stands)) (issues_follow.newest at blocks (h.volumes key volume))
 
   within_itself : is_within key volume at (length blocks) (Wrote key volume at blocks) ≡ true
   within_itself = let here = volume_itself key volume in rw here (grind (arith, nat_tests))
@@ -109,7 +101,7 @@ module _ (sites : Sites) (h : History) (key : Key) (volume : VolId) (at : ℕ) (
       let is = volumes_live.is key volume first (OfVolume key volume (Answers at blocks) ∷ OfVolume key volume (Flushes at (length blocks)) ∷ []) ∙ ap (lives.log_after_all (first.volumes key volume)) settled_events in
       subst (λ (l : VolumeLog). l (at + k) ≡ only (slice_index_or blocks k [])) (sym is) (writes_last.flushed (first.volumes key volume) at blocks [] at (length blocks) k lt (last_issued, tt) tt tt refl (among_own at (length blocks) k lt))
 
-  pub written_goes : IsWritten sites h key volume at blocks u
+  pub written_goes : IsWritten g h key volume at blocks u
   written_goes = record {
     happens = record { course = ((tt, range), ((last_issued, range), ((tt, tt), tt))); begins = refl; tells = refl; stands = third_stands };
     can_tell = record {
@@ -121,14 +113,14 @@ module _ (sites : Sites) (h : History) (key : Key) (volume : VolId) (at : ℕ) (
 
 pub writes_go : WritesGo
 writes_go = record {
-  issued = λ sites h key volume at blocks t m range stands rewriting. issued_goes sites h key volume at blocks t range stands m rewriting;
-  done = λ sites h key volume at blocks t u range stands rewriting read on. written_goes sites h key volume at blocks t u range stands rewriting read on;
+  issued = λ g h key volume at blocks t m range stands rewriting. issued_goes g h key volume at blocks t range stands m rewriting;
+  done = λ g h key volume at blocks t u range stands rewriting read on. written_goes g h key volume at blocks t u range stands rewriting read on;
 }
 
 pub reads_go : ReadsGo
-reads_go sites h key volume at blocks t range stands copies read = record {
+reads_go g h key volume at blocks t range stands copies read = record {
   happens = record {
-    course = ((range, reads_stand.seen range.map at blocks (h.volumes key volume) t range.within copies read (follows sites h key volume at blocks t range stands)), tt);
+    course = ((range, reads_stand.seen range.map at blocks (h.volumes key volume) t range.within copies read (follows g h key volume at blocks t range stands)), tt);
     begins = refl;
     tells = refl;
     stands = record { databases = stands.databases; laid = stands.laid; apart = stands.apart; volumes = stands.volumes };

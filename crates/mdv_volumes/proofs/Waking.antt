@@ -1,8 +1,10 @@
 -- Boots that find one value of each block, and logs that begin.
-use Rattle.std.proofs.Common.{◌≡◌, ◌⊎◌, inl, inr, ⊎_elim, ℕ, zero, suc, Bool, ◌+◌, ◌≤◌, List, [], ◌∷◌, map, All, Contains, refl, sym, ◌∙◌, ap, subst, arith}
+use Rattle.std.proofs.Common.{◌≡◌, ◌⊎◌, inl, inr, ⊎_elim, ℕ, zero, suc, Bool, true, ◌+◌, ◌<◌, ◌≤◌, List, [], ◌∷◌, map, All, Contains, refl, sym, ◌∙◌, ap, subst, arith}
 use Rattle.std.proofs.lemmas.List.Elements.{All-cons, All-head, All-nil, All-tail}
+use Rattle.mdv_map.proofs.Covering.{runs_lie}
 use Rattle.mdv_shelf.proofs.Blocks.{both_ways}
-use Rattle.mdv_volumes.specs.Below.{Base, Component, Follows, Key, Map, Site, Slice, Stripe, Tale, Version, VolId, Volume, VolumeKind, VolumeLog, after_begin, last, opening, run_map}
+use Rattle.mdv_shelf.proofs.Settled.{covered}
+use Rattle.mdv_volumes.specs.Below.{Among, Base, Component, Follows, Geometry, Key, Map, MayLeave, Slice, Stripe, Tale, Version, VolId, Volume, VolumeKind, VolumeLog, after_begin, area_of_map, last, opening, run_map}
 use Rattle.mdv_volumes.specs.Databases.{is_volume, log_of}
 use Rattle.mdv_volumes.specs.Events.{Begins, Woke}
 use Rattle.mdv_volumes.specs.Events as lives
@@ -11,8 +13,8 @@ use Rattle.mdv_volumes.specs.Histories.{Happens, Stands}
 use Rattle.mdv_volumes.specs.History.{OfVolume, History, history_after, history_after_all}
 use Rattle.mdv_volumes.specs.HistoryLaws.{AreAwake, AreWoken, BeginningsGo, BootsGo, IsBooted, IsFoundBy, IsUpon, Waking, wakings}
 use Rattle.mdv_volumes.specs.Standing.{HaveOneValue}
-use Rattle.mdv_volumes.specs.Tables.{IsBaseMap, IsKindMap, IsMapOf, Sites}
-use Rattle.mdv_volumes.proofs.Databases.{volume_itself, volume_number}
+use Rattle.mdv_volumes.specs.Tables.{IsBaseMap, IsKindMap, IsMapOf}
+use Rattle.mdv_volumes.proofs.Databases.{is_log_of, volume_itself, volume_number}
 use Rattle.mdv_store_law.specs.Log.{IsRising}
 use Rattle.mdv_volumes.proofs.Found.{newest_found}
 use Rattle.mdv_volumes.proofs.Lists.{contains_behind, contains_first, first_or_behind}
@@ -23,27 +25,27 @@ use Rattle.mdv_volumes.proofs.Transfers.{noted}
 use Rattle.mdv_volumes.proofs.Volumes.{after_own, happens_more, same_map, there_named}
 
 -- one volume wakes
-module _ (sites : Sites) (h : History) (key : Key) (t : Tale) (stands : Stands sites h t) where
-  module _ (w : Waking) (found : IsFoundBy sites h.databases key t w) where
-    woke : Happens sites h (OfVolume key w.volume (Woke w.count w.content) ∷ []) [] [] t
+module _ (g : Geometry) (h : History) (key : Key) (t : Tale) (stands : Stands g h t) where
+  module _ (w : Waking) (found : IsFoundBy g h.databases key t w) where
+    woke : Happens g h (OfVolume key w.volume (Woke w.count w.content) ∷ []) [] [] t
     woke =
         let v = found.map in
-        let follows = stands.volumes key w.volume v (there_named sites h t stands key w.volume v found.there) in
+        let follows = stands.volumes key w.volume v (there_named g h t stands key w.volume v found.there) in
         let goes = boots_stand.woken v w.content (h.volumes key w.volume) t found.one follows in
         record {
           course = ((subst (λ (n : ℕ). lives.AreFound (h.volumes key w.volume) n w.content) (sym found.long) goes.course.0, tt), tt);
           begins = refl;
           tells = refl;
-          stands = noted sites h key w.volume (Woke w.count w.content) t stands (λ x named.
-              subst (λ (y : Map). Follows y (lives.log_after (h.volumes key w.volume) (Woke w.count w.content)) t) (sym (same_map sites h t stands key w.volume v found.there x named))
+          stands = noted g h key w.volume (Woke w.count w.content) t stands (λ x named.
+              subst (λ (y : Map). Follows y (lives.log_after (h.volumes key w.volume) (Woke w.count w.content)) t) (sym (same_map g h t stands key w.volume v found.there x named))
               (subst (λ (n : ℕ). Follows v (lives.log_after (h.volumes key w.volume) (Woke n w.content)) t) (sym found.long) goes.follows));
         }
 
   -- a volume is found with one count
-  same_count : (w x : Waking) → IsFoundBy sites h.databases key t w → IsFoundBy sites h.databases key t x → x.volume ≡ w.volume → x.count ≡ w.count
+  same_count : (w x : Waking) → IsFoundBy g h.databases key t w → IsFoundBy g h.databases key t x → x.volume ≡ w.volume → x.count ≡ w.count
   same_count w x found other same =
-      let named = there_named sites h t stands key x.volume other.map other.there in
-      let one = same_map sites h t stands key w.volume found.map found.there other.map (subst (λ (v : VolId). IsNamed sites h.databases key v other.map) same named) in
+      let named = there_named g h t stands key x.volume other.map other.there in
+      let one = same_map g h t stands key w.volume found.map found.there other.map (subst (λ (v : VolId). IsNamed g h.databases key v other.map) same named) in
       other.long ∙ ap (λ (v : Map). v.blocks) one ∙ sym found.long
 
 woke_count : (h : History) (key : Key) (w : Waking) → (history_after h (OfVolume key w.volume (Woke w.count w.content))).woken key w.volume ≡ w.count
@@ -58,74 +60,88 @@ counts_stay h key (x ∷ ws) volume count same is = counts_stay (history_after h
       | inr never ↦ rw never is
     ])
 
-awake : (sites : Sites) (h : History) (key : Key) (ws : List Waking) (t : Tale) → All (IsFoundBy sites h.databases key t) ws → Stands sites h t → AreAwake sites h key ws t
-awake sites h key [] t found stands = record {
+awake : (g : Geometry) (h : History) (key : Key) (ws : List Waking) (t : Tale) → All (IsFoundBy g h.databases key t) ws → Stands g h t → AreAwake g h key ws t
+awake g h key [] t found stands = record {
   happens = record { course = tt; begins = refl; tells = refl; stands = stands };
   woken = λ w has. absurd (omega (arith, has.1));
   databases = refl;
   up = refl;
 }
-awake sites h key (w ∷ ws) t found stands =
-    let own = All-head (IsFoundBy sites h.databases key t) w ws found in
-    let behind = All-tail (IsFoundBy sites h.databases key t) w ws found in
+awake g h key (w ∷ ws) t found stands =
+    let own = All-head (IsFoundBy g h.databases key t) w ws found in
+    let behind = All-tail (IsFoundBy g h.databases key t) w ws found in
     let next = history_after h (OfVolume key w.volume (Woke w.count w.content)) in
-    let first = woke sites h key t stands w own in
-    let rest = awake sites next key ws t behind first.stands in
+    let first = woke g h key t stands w own in
+    let rest = awake g next key ws t behind first.stands in
     record {
-      happens = happens_more sites h (OfVolume key w.volume (Woke w.count w.content) ∷ []) (wakings key ws) [] [] [] [] t t first rest.happens;
+      happens = happens_more g h (OfVolume key w.volume (Woke w.count w.content) ∷ []) (wakings key ws) [] [] [] [] t t first rest.happens;
       woken = λ x has. ⊎_elim (λ here. subst (λ (y : Waking). (history_after_all next (wakings key ws)).woken key y.volume ≡ y.count) here
-          (counts_stay next key ws w.volume w.count (λ k d lt same. same_count sites h key t stands w _ own (behind k d lt) same) (woke_count h key w)))
+          (counts_stay next key ws w.volume w.count (λ k d lt same. same_count g h key t stands w _ own (behind k d lt) same) (woke_count h key w)))
           (λ later. rest.woken x later) (first_or_behind w x ws has);
       databases = rest.databases;
       up = rest.up;
     }
 
 -- a volume whose blocks lie together on a drive that is up has one value in each of them, or none of its drives is up
-module _ (sites : Sites) (h : History) (key : Key) (site : Site) (newest : Version) (up : ℕ → Bool) (t : Tale) (booted : IsBooted sites h key site newest up t) (stands : Stands sites h t) where
+module _ (g : Geometry) (h : History) (key : Key) (newest : Version) (up : ℕ → Bool) (t : Tale) (booted : IsBooted g h key newest up t) (stands : Stands g h t) where
   abbrev Found : Map → Type 0
   Found v = ((content : ℕ → List ℕ) × HaveOneValue v content t) ⊎ (IsUpon up v → ⊥)
 
-  of_run : (drive first count : ℕ) → Found (run_map drive first count)
-  of_run drive first zero = inl (λ b. [], record { some = λ b lt. absurd (omega (arith, lt)); alone = λ image b x is lt. absurd (omega (arith, lt)) })
-  of_run drive first (suc count) = elim (both_ways (up drive)) [
-    | inl does ↦ inl (λ b. last t drive (first + b), boots_stand.run drive first (suc count) t (booted.synced drive does))
+  -- a crash leaves of each block of the map on drives that are up what a read gives
+  abbrev Still : Map → Type 0
+  Still v = (drive block : ℕ) → area_of_map v drive block ≡ true → up drive ≡ true → (x : List ℕ) → MayLeave t drive block x → x ≡ last t drive block
+
+  one_value : (drive first count : ℕ) → up drive ≡ true → Still (run_map drive first count) → HaveOneValue (run_map drive first count) (λ b. last t drive (first + b)) t
+  one_value drive first count on still = record {
+    some = λ b lt. inl refl;
+    alone = λ image b x is lt among. by image b x lt (is.each drive (first + b)) among;
+  }
+    where
+      by : (image : ℕ → ℕ → List ℕ) (b : ℕ) (x : List ℕ) → b < count → MayLeave t drive (first + b) (image drive (first + b)) → Among (image drive (first + b) ∷ []) x → x ≡ last t drive (first + b)
+      by image b x lt left (inl same) = same ∙ still drive (first + b) (runs_lie.area drive first count drive (first + b) ∙ covered drive first count b lt) on (image drive (first + b)) left
+      by image b x lt left (inr none) = absurd none
+
+  of_run : (drive first count : ℕ) → Still (run_map drive first count) → Found (run_map drive first count)
+  of_run drive first zero still = inl (λ b. [], record { some = λ b lt. absurd (omega (arith, lt)); alone = λ image b x is lt. absurd (omega (arith, lt)) })
+  of_run drive first (suc count) still = elim (both_ways (up drive)) [
+    | inl does ↦ inl (λ b. last t drive (first + b), one_value drive first (suc count) does still)
     | inr never ↦ inr (λ upon. absurd (let is = upon 0 drive (first + 0) (omega arith) (inl (refl, refl)) in cc (is, never)))
   ]
 
-  of_base : (c : Component) (base : Base) (v : Map) → IsBaseMap site.drives c base v → Found v
-  of_base c (Slice slice) v lies = subst Found (sym lies.2) (of_run lies.0.drive.0 (lies.0.start + c.start) c.blocks)
+  of_base : (c : Component) (base : Base) (v : Map) → IsBaseMap g c base v → Still v → Found v
+  of_base c (Slice slice) v lies still = subst Found (sym lies.2) (of_run lies.0.drive.0 (lies.0.start + c.start) c.blocks (subst Still lies.2 still))
 
-  of_kind : (kind : VolumeKind) (v : Map) → IsKindMap site.drives kind v → Found v
-  of_kind (Stripe s) v lies = of_base s.component s.component.on v lies
+  of_kind : (kind : VolumeKind) (v : Map) → IsKindMap g kind v → Still v → Found v
+  of_kind (Stripe s) v lies still = of_base s.component s.component.on v lies still
 
   -- what is found of the volumes of a list
   record FoundOf (volumes : List Volume) : Type 0 where
     ws : List Waking
-    all : All (IsFoundBy sites h.databases key t) ws
-    each : (of : Volume) (v : Map) → Contains volumes of → IsMapOf site.drives newest.table of.number v → IsUpon up v → (w : Waking) × Contains ws w × (w.volume ≡ of.number) × (w.count ≡ v.blocks)
+    all : All (IsFoundBy g h.databases key t) ws
+    each : (of : Volume) (v : Map) → Contains volumes of → IsMapOf g newest.table of.number v → IsUpon up v → (w : Waking) × Contains ws w × (w.volume ≡ of.number) × (w.count ≡ v.blocks)
 
-  is_one : (volume : VolId) (v w : Map) → IsMapOf site.drives newest.table volume v → IsMapOf site.drives newest.table volume w → v ≡ w
-  is_one = (stands.laid key site newest booted.is_site found).one where
+  is_one : (volume : VolId) (v w : Map) → IsMapOf g newest.table volume v → IsMapOf g newest.table volume w → v ≡ w
+  is_one = (stands.laid key newest found).one where
     found : MayBeFound (log_of h.databases key).family newest
-    found = subst (λ (f : List Version). MayBeFound f newest) (sym booted.family) (newest_found newest booted.older (subst IsRising booted.family (stands.databases key site booted.is_site).is_log.rising))
+    found = subst (λ (f : List Version). MayBeFound f newest) (sym booted.family) (newest_found newest booted.older (subst IsRising booted.family (is_log_of g h.databases t stands.databases key).rising))
 
-  one_more : (of : Volume) (volumes : List Volume) (v : Map) → IsMapOf site.drives newest.table of.number v → Found v → FoundOf volumes → FoundOf (of ∷ volumes)
+  one_more : (of : Volume) (volumes : List Volume) (v : Map) → IsMapOf g newest.table of.number v → Found v → FoundOf volumes → FoundOf (of ∷ volumes)
   one_more of volumes v map (inl one) rest =
       let w : Waking = record { volume = of.number; count = v.blocks; content = one.0 } in
-      let found : IsFoundBy sites h.databases key t w = record {
+      let found : IsFoundBy g h.databases key t w = record {
         map = v;
-        there = record { site = site; is_site = booted.is_site; newest = newest; older = booted.older; family = booted.family; written = booted.written; map = map };
+        there = record { newest = newest; older = booted.older; family = booted.family; written = booted.written; map = map };
         long = refl;
         one = one.1;
       } in record {
         ws = w ∷ rest.ws;
-        all = All-cons (IsFoundBy sites h.databases key t) w rest.ws found rest.all;
+        all = All-cons (IsFoundBy g h.databases key t) w rest.ws found rest.all;
         each = λ other x has other_map upon. ⊎_elim
             (λ same. (
               w,
               contains_first w rest.ws,
               ap (λ (o : Volume). o.number) same,
-              ap (λ (y : Map). y.blocks) (is_one of.number v x map (subst (λ (n : VolId). IsMapOf site.drives newest.table n x) (sym (ap (λ (o : Volume). o.number) same)) other_map)),
+              ap (λ (y : Map). y.blocks) (is_one of.number v x map (subst (λ (n : VolId). IsMapOf g newest.table n x) (sym (ap (λ (o : Volume). o.number) same)) other_map)),
             ))
             (λ behind. let one_of = rest.each other x behind other_map upon in (one_of.0, contains_behind w one_of.0 rest.ws one_of.1, one_of.2, one_of.3)) (first_or_behind of other volumes has);
       }
@@ -133,20 +149,20 @@ module _ (sites : Sites) (h : History) (key : Key) (site : Site) (newest : Versi
     ws = rest.ws;
     all = rest.all;
     each = λ other x has other_map upon. ⊎_elim
-        (λ same. absurd (never (subst (λ (y : Map). IsUpon up y) (sym (is_one of.number v x map (subst (λ (n : VolId). IsMapOf site.drives newest.table n x) (sym (ap (λ (o : Volume). o.number) same)) other_map))) upon)))
+        (λ same. absurd (never (subst (λ (y : Map). IsUpon up y) (sym (is_one of.number v x map (subst (λ (n : VolId). IsMapOf g newest.table n x) (sym (ap (λ (o : Volume). o.number) same)) other_map))) upon)))
         (λ behind. rest.each other x behind other_map upon) (first_or_behind of other volumes has);
   }
 
   found_of : (volumes : List Volume) → ((of : Volume) → Contains volumes of → Contains newest.table.plan.volumes of) → FoundOf volumes
-  found_of [] among = record { ws = []; all = All-nil (IsFoundBy sites h.databases key t); each = λ of v has. absurd (omega (arith, has.1)) }
+  found_of [] among = record { ws = []; all = All-nil (IsFoundBy g h.databases key t); each = λ of v has. absurd (omega (arith, has.1)) }
   found_of (of ∷ volumes) among =
-      let lies = tables_lie.some site.drives newest.table of booted.of_geometry (among of (contains_first of volumes)) in
-      one_more of volumes lies.0 lies.1 (of_kind lies.1.of.kind lies.0 lies.1.kind) (found_of volumes (λ other has. among other (contains_behind of other volumes has)))
+      let lies = tables_lie.some g newest.table of booted.of_geometry (among of (contains_first of volumes)) in
+      one_more of volumes lies.0 lies.1 (of_kind lies.1.of.kind lies.0 lies.1.kind (λ drive block. booted.still of.number lies.0 drive block lies.1)) (found_of volumes (λ other has. among other (contains_behind of other volumes has)))
 
-  all_awake : (ws : List Waking) × AreAwake sites h key ws t × AreWoken site newest.table up (history_after_all h (wakings key ws)) key
+  all_awake : (ws : List Waking) × AreAwake g h key ws t × AreWoken g newest.table up (history_after_all h (wakings key ws)) key
   all_awake =
       let found = found_of newest.table.plan.volumes (λ of has. has) in
-      let woke = awake sites h key found.ws t found.all stands in (
+      let woke = awake g h key found.ws t found.all stands in (
         found.ws,
         woke,
         λ volume v map upon.
@@ -165,14 +181,14 @@ below_follows w from log logs t le follows = record {
 }
 
 pub beginnings_go : BeginningsGo
-beginnings_go sites h key volume from v t free front stands =
+beginnings_go g h key volume from v t free front stands =
     let goes = beginnings_stand.grown v from (h.volumes key volume) t front in
     record {
       happens = record {
         course = ((goes.course.0, λ w named. let le = free w named in omega (arith, le)), tt);
         begins = refl;
         tells = refl;
-        stands = noted sites h key volume (Begins from (opening v t)) t stands (λ w named. below_follows w from (h.volumes key volume) (opening v t) t (free w named) (stands.volumes key volume w named));
+        stands = noted g h key volume (Begins from (opening v t)) t stands (λ w named. below_follows w from (h.volumes key volume) (opening v t) t (free w named) (stands.volumes key volume w named));
       };
-      follows = subst (λ (l : VolumeLog). Follows v l t) (sym (after_own sites h key volume (Begins from (opening v t)) t t stands)) goes.follows;
+      follows = subst (λ (l : VolumeLog). Follows v l t) (sym (after_own g h key volume (Begins from (opening v t)) t t stands)) goes.follows;
     }

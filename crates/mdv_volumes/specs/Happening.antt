@@ -1,41 +1,34 @@
 -- When each event of a history may happen, what it tells and what it begins.
-use Rattle.std.specs.Prelude.{◌≡◌, ℕ, ◌+◌, ◌<◌, ◌≤◌, true, false, List, [], ◌∷◌, length, map, slice_index_or, Option, None, Some, Contains}
-use Rattle.mdv_volumes.specs.Below.{Change, Identity, IsNotOlder, Key, Map, Site, Version, VolId, VolumeLog, is_firm, only}
+use Rattle.std.specs.Prelude.{◌≡◌, ℕ, ◌+◌, ◌<◌, ◌≤◌, true, false, List, [], ◌∷◌, length, map, slice_index_or, Option, None, Some}
+use Rattle.mdv_volumes.specs.Below.{Change, Geometry, Identity, IsFresh, Key, Map, Version, VolId, VolumeLog, is_firm, only}
 use Rattle.mdv_store_law.specs.Log as log
 use Rattle.mdv_store_law.specs.Machine.{all_of}
 use Rattle.mdv_store_law.specs.Machine as machine
 use Rattle.mdv_volumes.specs.Databases.{Database, current_of, log_of}
+pub use Rattle.mdv_databases.specs.Meeting.{MayBeFound}
 use Rattle.mdv_volumes.specs.Events.{VolumeEvent, Issues, Answers, Flushes, Begins, Woke, AreReadable}
 use Rattle.mdv_volumes.specs.Events as lives
 use Rattle.mdv_volumes.specs.History.{Deed, Created, Changed, Wrote, Saw, Event, Creation, OfDatabase, OfVolume, Reads, Acknowledges, Shows, Boots, Stops, Crashes, History, history_after}
-use Rattle.mdv_volumes.specs.Tables.{IsMapOf, IsSite, Sites}
-
--- a boot may find this version: none whose write was answered is above it
-abbrev pub MayBeFound : List Version → Version → Type 0
-MayBeFound family version = Contains family version × IsNotOlder version.mark family
+use Rattle.mdv_volumes.specs.Tables.{IsMapOf}
 
 -- a table that a boot may find has the volume, with this map
-pub record IsNamed (sites : Sites) (databases : List Database) (key : Key) (volume : VolId) (v : Map) : Type 0 where
-  pub site : Site
-  pub is_site : IsSite sites key site
+pub record IsNamed (g : Geometry) (databases : List Database) (key : Key) (volume : VolId) (v : Map) : Type 0 where
   pub version : Version
   pub found : MayBeFound (log_of databases key).family version
-  pub map : IsMapOf site.drives version.table volume v
+  pub map : IsMapOf g version.table volume v
 
 -- the newest table of the key was written, and has the volume with this map
-pub record IsThere (sites : Sites) (databases : List Database) (key : Key) (volume : VolId) (v : Map) : Type 0 where
-  pub site : Site
-  pub is_site : IsSite sites key site
+pub record IsThere (g : Geometry) (databases : List Database) (key : Key) (volume : VolId) (v : Map) : Type 0 where
   pub newest : Version
   pub older : List Version
   pub family : (log_of databases key).family ≡ newest ∷ older
   pub written : newest.is_written ≡ true
-  pub map : IsMapOf site.drives newest.table volume v
+  pub map : IsMapOf g newest.table volume v
 
 -- and so many blocks, from that one on
-pub record HasRange (sites : Sites) (databases : List Database) (key : Key) (volume : VolId) (at count : ℕ) : Type 0 where
+pub record HasRange (g : Geometry) (databases : List Database) (key : Key) (volume : VolId) (at count : ℕ) : Type 0 where
   pub map : Map
-  pub there : IsThere sites databases key volume map
+  pub there : IsThere g databases key volume map
   pub some : 0 < count
   pub within : at + count ≤ map.blocks
 
@@ -47,30 +40,27 @@ IsLater log.Written = Unit {0}
 IsLater (log.Told which before) = Unit {0}
 
 -- an event of the key's current database, which has this identity
-pub record IsOfCurrent (sites : Sites) (databases : List Database) (key : Key) (identity : Identity) (e : log.Event) : Type 0 where
-  pub site : Site
-  pub is_site : IsSite sites key site
+pub record IsOfCurrent (g : Geometry) (databases : List Database) (key : Key) (identity : Identity) (e : log.Event) : Type 0 where
   pub database : Database
   pub current : current_of databases key ≡ Some database
   pub as_begun : database.identity ≡ identity
   pub later : IsLater e
-  pub may : log.MayHappen site.drives database.log e
+  pub may : log.MayHappen g database.log e
 
--- a creation where the key may have a database, and none whose table was written
-pub record MayBegin (sites : Sites) (databases : List Database) (key : Key) : Type 0 where
-  pub site : Site
-  pub is_site : IsSite sites key site
+-- a creation of a key that has no database whose table was written, under an identity that none has
+pub record MayBegin (databases : List Database) (key : Key) (identity : Identity) : Type 0 where
+  pub fresh : IsFresh databases identity
   pub free : is_firm (log_of databases key) ≡ false
 
 -- Blocks are issued, and answered, of a volume that the one table has which a boot may find; a log begins where no table that a boot may find has the
 -- volume with blocks from there on; drives begin anew all at once.
-abbrev pub IsPlaced : Sites → History → Key → VolId → VolumeEvent → Type 0
-IsPlaced sites h key volume (Issues at blocks) = HasRange sites h.databases key volume at (length blocks)
-IsPlaced sites h key volume (Answers at blocks) = HasRange sites h.databases key volume at (length blocks)
-IsPlaced sites h key volume (Flushes at count) = Unit {0}
-IsPlaced sites h key volume (Begins from logs) = (v : Map) → IsNamed sites h.databases key volume v → v.blocks ≤ from
-IsPlaced sites h key volume lives.Crashes = ⊥
-IsPlaced sites h key volume (Woke count content) = Unit {0}
+abbrev pub IsPlaced : Geometry → History → Key → VolId → VolumeEvent → Type 0
+IsPlaced g h key volume (Issues at blocks) = HasRange g h.databases key volume at (length blocks)
+IsPlaced g h key volume (Answers at blocks) = HasRange g h.databases key volume at (length blocks)
+IsPlaced g h key volume (Flushes at count) = Unit {0}
+IsPlaced g h key volume (Begins from logs) = (v : Map) → IsNamed g h.databases key volume v → v.blocks ≤ from
+IsPlaced g h key volume lives.Crashes = ⊥
+IsPlaced g h key volume (Woke count content) = Unit {0}
 
 -- this deed is done and not told, at that place of the list
 abbrev pub IsUntoldAt : List Deed → ℕ → Deed → Type 0
@@ -81,20 +71,20 @@ abbrev pub HaveOnly : VolumeLog → ℕ → List (List ℕ) → Type 0
 HaveOnly log at blocks = (k : ℕ) → k < length blocks → log (at + k) ≡ only (slice_index_or blocks k [])
 
 -- When each event may happen. A write is told while its values are all that its blocks may have, whatever crashes.
-abbrev pub MayHappen : Sites → History → Event → Type 0
-MayHappen sites h (Creation key identity) = MayBegin sites h.databases key
-MayHappen sites h (OfDatabase key identity e) = IsOfCurrent sites h.databases key identity e
-MayHappen sites h (OfVolume key volume e) = lives.MayHappen (h.volumes key volume) e × IsPlaced sites h key volume e
-MayHappen sites h (Reads key volume at blocks) = HasRange sites h.databases key volume at (length blocks) × AreReadable (h.volumes key volume) at blocks
-MayHappen sites h (Acknowledges place key volume at blocks) = IsUntoldAt h.untold place (Wrote key volume at blocks) × HasRange sites h.databases key volume at (length blocks) × HaveOnly (h.volumes key volume) at blocks
-MayHappen sites h (Shows place key volume at blocks) = IsUntoldAt h.untold place (Saw key volume at blocks)
-MayHappen sites h (Boots key up) = Unit {0}
-MayHappen sites h Stops = Unit {0}
-MayHappen sites h Crashes = (h.answered ≡ []) × (h.untold ≡ [])
+abbrev pub MayHappen : Geometry → History → Event → Type 0
+MayHappen g h (Creation key identity) = MayBegin h.databases key identity
+MayHappen g h (OfDatabase key identity e) = IsOfCurrent g h.databases key identity e
+MayHappen g h (OfVolume key volume e) = lives.MayHappen (h.volumes key volume) e × IsPlaced g h key volume e
+MayHappen g h (Reads key volume at blocks) = HasRange g h.databases key volume at (length blocks) × AreReadable (h.volumes key volume) at blocks
+MayHappen g h (Acknowledges place key volume at blocks) = IsUntoldAt h.untold place (Wrote key volume at blocks) × HasRange g h.databases key volume at (length blocks) × HaveOnly (h.volumes key volume) at blocks
+MayHappen g h (Shows place key volume at blocks) = IsUntoldAt h.untold place (Saw key volume at blocks)
+MayHappen g h (Boots key up) = Unit {0}
+MayHappen g h Stops = Unit {0}
+MayHappen g h Crashes = (h.answered ≡ []) × (h.untold ≡ [])
 
 -- each of the events may happen where it happens
-abbrev pub IsCourse : Sites → History → List Event → Type 0
-IsCourse sites = machine.IsCourse history_after (MayHappen sites)
+abbrev pub IsCourse : Geometry → History → List Event → Type 0
+IsCourse g = machine.IsCourse history_after (MayHappen g)
 
 -- a creation or a change of the key's database, told or begun
 abbrev pub deed_of : Key → Option Change → Deed

@@ -1,20 +1,17 @@
 -- Laws of histories: of each volume, of databases and of deeds, over crashes, boots, writes and reads.
 use Rattle.std.specs.Prelude.{◌≡◌, ◌⊎◌, ◌+◌, ◌<◌, ◌≤◌, ℕ, true, List, [], ◌∷◌, ◌++◌, length, slice_index_or, Bool, if◌then◌else◌, map, Option, Some, None, All, Contains}
-use Rattle.mdv_volumes.specs.Below.{AllOnDisk, AllRead, Among, AreApart, AreDisjoint, Area, Change, Follows, HasDriveBlock, Identity, Image, IsOfGeometry, Key, KeptOutside, Map, Rewriting, Site, Table, Tale, Version, VolId, area_of, area_of_map, nowhere, only, opening, restarted}
-use Rattle.mdv_shelf.specs.Settle.{IsSynced}
+use Rattle.mdv_volumes.specs.Below.{AllOnDisk, AllRead, Among, AreApart, AreDisjoint, Area, Change, Follows, Geometry, HasDriveBlock, HasNoReplica, Identity, Image, IsBeside, IsCurrentOf, IsOfGeometry, Key, KeptOutside, Map, MayLeave, One, Place, Rewriting, Spells, Stand, Table, Tale, Version, VolId, area_of_map, is_firm, last, only, opening, restarted, site_area, site_of, with_events}
 use Rattle.mdv_store_law.specs.Log as log
-use Rattle.mdv_store_law.specs.Machine.{all_of}
-use Rattle.mdv_store_law.specs.Site.{IsFound}
-use Rattle.mdv_store_law.specs.Standing as database
-use Rattle.mdv_volumes.specs.Databases.{Database, current_of, log_of, same_key}
+use Rattle.mdv_store_law.specs.Machine.{AreAll, all_of}
+use Rattle.mdv_volumes.specs.Databases.{Database, current_of, log_of, same_key, with_creation}
 use Rattle.mdv_volumes.specs.Events.{Answers, Begins, Flushes, Issues, Woke}
 use Rattle.mdv_volumes.specs.Events as lives
-use Rattle.mdv_volumes.specs.Happening.{HasRange, HaveOnly, IsCourse, IsNamed, IsThere, deed_of, issued_by, told_by}
+use Rattle.mdv_volumes.specs.Happening.{HasRange, HaveOnly, IsCourse, IsLater, IsNamed, IsThere, MayBeFound, MayBegin, deed_of, issued_by, told_by}
 use Rattle.mdv_volumes.specs.Histories.{Happens, Stands}
 use Rattle.mdv_volumes.specs.LogLaws.{MayBe}
 use Rattle.mdv_volumes.specs.History.{Deed, Created, Changed, Wrote, Saw, Event, Creation, OfDatabase, OfVolume, Reads, Acknowledges, Shows, Boots, Stops, Crashes, History, events_of, history_after, history_after_all}
 use Rattle.mdv_volumes.specs.Standing.{HaveCopies, HaveOneValue, LeavesNoMore}
-use Rattle.mdv_volumes.specs.Tables.{AreLaid, IsMapOf, IsSite, Sites}
+use Rattle.mdv_volumes.specs.Tables.{AreLaid, IsMapOf}
 
 -- a table that an event begins to write, for a change
 abbrev pub AsksTable : log.Event → Table → Type 0
@@ -32,22 +29,22 @@ IsAsked (e ∷ es) table = AsksTable e table ⊎ IsAsked es table
 -- a history says of a volume's blocks what happened to them, so the laws of their logs are its laws
 pub record VolumesLive : Type 0 where
   pub is : (key : Key) (volume : VolId) (h : History) (es : List Event) → (history_after_all h es).volumes key volume ≡ lives.log_after_all (h.volumes key volume) (events_of key volume es)
-  pub may : (key : Key) (volume : VolId) (sites : Sites) (h : History) (es : List Event) → IsCourse sites h es → lives.IsCourse (h.volumes key volume) (events_of key volume es)
+  pub may : (key : Key) (volume : VolId) (g : Geometry) (h : History) (es : List Event) → IsCourse g h es → lives.IsCourse (h.volumes key volume) (events_of key volume es)
 
 -- what the events of a write that is done make of a history
 abbrev pub write_of : Key → VolId → ℕ → List (List ℕ) → List Event
 write_of key volume at blocks = OfVolume key volume (Issues at blocks) ∷ OfVolume key volume (Answers at blocks) ∷ OfVolume key volume (Flushes at (length blocks)) ∷ []
 
 -- a write that is done, and isn't told: the newest table has its blocks, and each has just its value
-pub record CanAcknowledge (sites : Sites) (h : History) (key : Key) (volume : VolId) (at : ℕ) (blocks : List (List ℕ)) : Type 0 where
+pub record CanAcknowledge (g : Geometry) (h : History) (key : Key) (volume : VolId) (at : ℕ) (blocks : List (List ℕ)) : Type 0 where
   pub untold : Contains h.untold (Wrote key volume at blocks)
-  pub range : HasRange sites h.databases key volume at (length blocks)
+  pub range : HasRange g h.databases key volume at (length blocks)
   pub only : HaveOnly (h.volumes key volume) at blocks
 
 -- a write is done, and can be told
-pub record IsWritten (sites : Sites) (h : History) (key : Key) (volume : VolId) (at : ℕ) (blocks : List (List ℕ)) (u : Tale) : Type 0 where
-  pub happens : Happens sites h (write_of key volume at blocks) (Wrote key volume at blocks ∷ []) [] u
-  pub can_tell : CanAcknowledge sites (history_after_all h (write_of key volume at blocks)) key volume at blocks
+pub record IsWritten (g : Geometry) (h : History) (key : Key) (volume : VolId) (at : ℕ) (blocks : List (List ℕ)) (u : Tale) : Type 0 where
+  pub happens : Happens g h (write_of key volume at blocks) (Wrote key volume at blocks ∷ []) [] u
+  pub can_tell : CanAcknowledge g (history_after_all h (write_of key volume at blocks)) key volume at blocks
 
 -- what happens to the log of one key
 abbrev pub log_events_at : Key → Event → List log.Event
@@ -74,56 +71,60 @@ database_deeds key (Saw other volume at blocks ∷ deeds) = database_deeds key d
 
 -- a history says of a key's log what happened to it, so the laws of logs are its laws
 pub record DatabasesLive : Type 0 where
-  pub is : (key : Key) (sites : Sites) (h : History) (es : List Event) → IsCourse sites h es → log_of (history_after_all h es).databases key ≡ log.log_after_all (log_of h.databases key) (log_events_of key es)
-  pub may : (key : Key) (site : Site) (sites : Sites) (h : History) (es : List Event) → IsSite sites key site → IsCourse sites h es → log.IsCourse site.drives (log_of h.databases key) (log_events_of key es)
+  pub is : (key : Key) (g : Geometry) (h : History) (es : List Event) → IsCourse g h es → log_of (history_after_all h es).databases key ≡ log.log_after_all (log_of h.databases key) (log_events_of key es)
+  pub may : (key : Key) (g : Geometry) (h : History) (es : List Event) → IsCourse g h es → log.IsCourse g (log_of h.databases key) (log_events_of key es)
   pub tells : (key : Key) (es : List Event) → log.told_by (log_events_of key es) ≡ database_deeds key (told_by es)
   pub begins : (key : Key) (es : List Event) → log.begun_by (log_events_of key es) ≡ database_deeds key (issued_by es)
+
+-- a write of a table of the key was answered, and each table that a boot may find lists these places
+abbrev pub HasLists : Key → List Place → History → Type 0
+HasLists key places h = (is_firm (log_of h.databases key) ≡ true) × ((v : Version) → MayBeFound (log_of h.databases key).family v → v.table.plan.lists ≡ One places)
+
+-- so it stays, whatever happens: no creation of the key begins any more, and no change moves a place
+abbrev pub ListsStay : Type 0
+ListsStay = (g : Geometry) (key : Key) (places : List Place) (h : History) (es : List Event) → IsCourse g h es → HasLists key places h → HasLists key places (history_after_all h es)
 
 -- blocks of a volume are written
 pub record WritesGo : Type 0 where
   -- at each moment they were issued
-  pub issued : (sites : Sites) (h : History) (key : Key) (volume : VolId) (at : ℕ) (blocks : List (List ℕ)) (t m : Tale) (range : HasRange sites h.databases key volume at (length blocks)) → Stands sites h t
-      → Rewriting range.map at blocks t m → Happens sites h (OfVolume key volume (Issues at blocks) ∷ []) (Wrote key volume at blocks ∷ []) [] m
+  pub issued : (g : Geometry) (h : History) (key : Key) (volume : VolId) (at : ℕ) (blocks : List (List ℕ)) (t m : Tale) (range : HasRange g h.databases key volume at (length blocks)) → Stands g h t
+      → Rewriting range.map at blocks t m → Happens g h (OfVolume key volume (Issues at blocks) ∷ []) (Wrote key volume at blocks ∷ []) [] m
   -- in the end, on the disk, they were answered too, and can be told
-  pub done : (sites : Sites) (h : History) (key : Key) (volume : VolId) (at : ℕ) (blocks : List (List ℕ)) (t u : Tale) (range : HasRange sites h.databases key volume at (length blocks)) → Stands sites h t
-      → Rewriting range.map at blocks t u → AllRead range.map at blocks u → AllOnDisk range.map at (length blocks) u → IsWritten sites h key volume at blocks u
+  pub done : (g : Geometry) (h : History) (key : Key) (volume : VolId) (at : ℕ) (blocks : List (List ℕ)) (t u : Tale) (range : HasRange g h.databases key volume at (length blocks)) → Stands g h t
+      → Rewriting range.map at blocks t u → AllRead range.map at blocks u → AllOnDisk range.map at (length blocks) u → IsWritten g h key volume at blocks u
 
 -- they were read, and their values can be told
-pub record IsSeen (sites : Sites) (h : History) (key : Key) (volume : VolId) (at : ℕ) (blocks : List (List ℕ)) (t : Tale) : Type 0 where
-  pub happens : Happens sites h (Reads key volume at blocks ∷ []) [] [] t
+pub record IsSeen (g : Geometry) (h : History) (key : Key) (volume : VolId) (at : ℕ) (blocks : List (List ℕ)) (t : Tale) : Type 0 where
+  pub happens : Happens g h (Reads key volume at blocks ∷ []) [] [] t
   pub untold : Contains (history_after_all h (Reads key volume at blocks ∷ [])).untold (Saw key volume at blocks)
 
 -- they are read, each from a copy of it
 abbrev pub ReadsGo : Type 0
-ReadsGo = (sites : Sites) (h : History) (key : Key) (volume : VolId) (at : ℕ) (blocks : List (List ℕ)) (t : Tale) (range : HasRange sites h.databases key volume at (length blocks)) → Stands sites h t
-    → HaveCopies range.map at (length blocks) → AllRead range.map at blocks t → IsSeen sites h key volume at blocks t
+ReadsGo = (g : Geometry) (h : History) (key : Key) (volume : VolId) (at : ℕ) (blocks : List (List ℕ)) (t : Tale) (range : HasRange g h.databases key volume at (length blocks)) → Stands g h t
+    → HaveCopies range.map at (length blocks) → AllRead range.map at blocks t → IsSeen g h key volume at blocks t
 
 -- nothing happened yet
 abbrev pub new_history : History
 new_history = record { databases = []; volumes = λ key volume b. only []; answered = []; untold = []; up = λ key. []; woken = λ key volume. 0 }
 
--- no place of a database has a block of the area, nor has a volume of a table that a boot may find
-pub record IsElsewhere (sites : Sites) (databases : List Database) (area : Area) : Type 0 where
-  pub places : (key : Key) (site : Site) → IsSite sites key site → AreApart (area_of site) area
-  pub volumes : (key : Key) (volume : VolId) (v : Map) → IsNamed sites databases key volume v → AreApart area (area_of_map v)
+-- no slice on which a boot looks has a block of the area, nor has a volume of a table that a boot may find
+pub record IsElsewhere (g : Geometry) (databases : List Database) (area : Area) : Type 0 where
+  pub slices : IsBeside g area
+  pub volumes : (key : Key) (volume : VolId) (v : Map) → IsNamed g databases key volume v → AreApart area (area_of_map v)
 
 -- drives begin anew, or go on as they were
 pub record RestartsGo : Type 0 where
-  pub crashed : (sites : Sites) (h : History) (t u : Tale) → LeavesNoMore t u → Stands sites h t → Happens sites h (Stops ∷ Crashes ∷ []) [] [] u
-  pub ended : (sites : Sites) (h : History) (t : Tale) → Stands sites h t → Happens sites h (Stops ∷ []) [] [] t
+  pub crashed : (g : Geometry) (h : History) (t u : Tale) → LeavesNoMore t u → Stands g h t → Happens g h (Stops ∷ Crashes ∷ []) [] [] u
+  pub ended : (g : Geometry) (h : History) (t : Tale) → Stands g h t → Happens g h (Stops ∷ []) [] [] t
   -- what is done to no block of theirs, as where nothing is done, leaves all as it stood
-  pub elsewhere : (sites : Sites) (h : History) (area : Area) (t m : Tale) → IsElsewhere sites h.databases area → KeptOutside area t m → Stands sites h t → Stands sites h m
-  -- new drives, on which no boot finds a database, whatever else they hold
-  pub new_drives : (sites : Sites) (image : Image) (told : List ℕ) → ((key : Key) (site : Site) → IsSite sites key site → IsFound site (image site.at.drive.0) None) → Stands sites new_history (restarted image told)
+  pub elsewhere : (g : Geometry) (h : History) (area : Area) (t m : Tale) → IsElsewhere g h.databases area → KeptOutside area t m → Stands g h t → Stands g h m
+  -- new drives, on which no boot finds a replica, whatever else they hold
+  pub new_drives : (g : Geometry) (image : Image) (told : List ℕ) → HasNoReplica (Spells g) g image → Stands g new_history (restarted image told)
 
--- areas of databases of different keys are apart
-abbrev pub AreSitesApart : Sites → Type 0
-AreSitesApart sites = (key other : Key) (site beside : Site) → (key ≡ other → ⊥) → IsSite sites key site → IsSite sites other beside → AreApart (area_of site) (area_of beside)
-
--- events of a key's log as a history's
+-- events of a key's log as a history's; a creation is none of them
 abbrev pub lifted : Key → Identity → List log.Event → List Event
 lifted key identity [] = []
-lifted key identity (log.Issued other ∷ es) = Creation key other ∷ lifted key other es
+lifted key identity (log.Issued other ∷ es) = lifted key identity es
 lifted key identity (log.Writing mark asked before table ∷ es) = OfDatabase key identity (log.Writing mark asked before table) ∷ lifted key identity es
 lifted key identity (log.Written ∷ es) = OfDatabase key identity log.Written ∷ lifted key identity es
 lifted key identity (log.Told which before ∷ es) = OfDatabase key identity (log.Told which before) ∷ lifted key identity es
@@ -134,48 +135,60 @@ identity_in (Some d) = d.identity
 
 -- A table may become one that a boot may find: its volumes lie apart from each other, from databases and from those of other keys, and the drives
 -- follow the log of each.
-pub record IsReady (sites : Sites) (h : History) (key : Key) (site : Site) (t : Tale) (table : Table) : Type 0 where
-  pub laid : AreLaid sites site.drives table
-  pub apart : (other : Key) (volume beside : VolId) (v w : Map) → (key ≡ other → ⊥) → IsMapOf site.drives table volume v → IsNamed sites h.databases other beside w → AreDisjoint v w
-  pub follows : (volume : VolId) (v : Map) → IsMapOf site.drives table volume v → Follows v (h.volumes key volume) t
+pub record IsReady (g : Geometry) (h : History) (key : Key) (t : Tale) (table : Table) : Type 0 where
+  pub laid : AreLaid g table
+  pub apart : (other : Key) (volume beside : VolId) (v w : Map) → (key ≡ other → ⊥) → IsMapOf g table volume v → IsNamed g h.databases other beside w → AreDisjoint v w
+  pub follows : (volume : VolId) (v : Map) → IsMapOf g table volume v → Follows v (h.volumes key volume) t
 
 -- the events of a key's log happened to the history; what was told of other keys and of volumes stays, and what a boot has found of them
-pub record IsLifted (sites : Sites) (h : History) (key : Key) (es : List log.Event) (m : Tale) : Type 0 where
-  pub happens : Happens sites h (lifted key (identity_in (current_of h.databases key)) es) (map (deed_of key) (log.begun_by es)) (map (deed_of key) (log.told_by es)) m
+pub record IsLifted (g : Geometry) (h : History) (key : Key) (es : List log.Event) (m : Tale) : Type 0 where
+  pub happens : Happens g h (lifted key (identity_in (current_of h.databases key)) es) (map (deed_of key) (log.begun_by es)) (map (deed_of key) (log.told_by es)) m
   pub own : log_of (history_after_all h (lifted key (identity_in (current_of h.databases key)) es)).databases key ≡ log.log_after_all (log_of h.databases key) es
   pub others : (other : Key) → (key ≡ other → ⊥) → log_of (history_after_all h (lifted key (identity_in (current_of h.databases key)) es)).databases other ≡ log_of h.databases other
   pub volumes : (history_after_all h (lifted key (identity_in (current_of h.databases key)) es)).volumes ≡ h.volumes
   pub woken : (history_after_all h (lifted key (identity_in (current_of h.databases key)) es)).woken ≡ h.woken
   pub up : (history_after_all h (lifted key (identity_in (current_of h.databases key)) es)).up ≡ h.up
 
--- A key's log goes on, with nothing done outside the place of its database: so does the history, if each table that is made by a change is ready.
+-- none of these is a creation
+abbrev pub AreLater : List log.Event → Type 0
+AreLater = AreAll IsLater
+
+-- A key's log goes on by events of its current database, so that all stand, with nothing done outside the slices on which its boots look: so does the history, if
+-- each table that is made by a change is ready.
 abbrev pub DatabasesGo : Type 0
-DatabasesGo = (sites : Sites) (h : History) (key : Key) (site : Site) (es : List log.Event) (t m : Tale) → AreSitesApart sites → IsSite sites key site → Stands sites h t → KeptOutside (area_of site) t m
-    → log.IsCourse site.drives (log_of h.databases key) es → database.Covers site (log.log_after_all (log_of h.databases key) es) m
-    → ((table : Table) → IsAsked es table → IsReady sites h key site t table) → IsLifted sites h key es m
+DatabasesGo = (g : Geometry) (h : History) (key : Key) (identity : Identity) (es : List log.Event) (t m : Tale) → Stands g h t → IsCurrentOf h.databases key identity → AreLater es
+    → log.IsCourse g (log_of h.databases key) es → Stand g (with_events key es h.databases) m → KeptOutside (site_area (site_of g key)) t m
+    → ((table : Table) → IsAsked es table → IsReady g h key t table) → IsLifted g h key es m
+
+-- a database of the key was begun, and its earlier one is over
+pub record IsNewlyBegun (g : Geometry) (h : History) (key : Key) (identity : Identity) (t : Tale) : Type 0 where
+  pub happens : Happens g h (Creation key identity ∷ []) (Created key ∷ []) [] t
+  pub its : IsCurrentOf (history_after h (Creation key identity)).databases key identity
+
+-- A creation begins, where no table of its key was written, so that all stand.
+abbrev pub CreationsGo : Type 0
+CreationsGo = (g : Geometry) (h : History) (key : Key) (identity : Identity) (t : Tale) → Stands g h t → MayBegin h.databases key identity → Stand g (with_creation key identity h.databases) t → IsNewlyBegun g h key identity t
 
 -- the creation of a key's database, or a change of it, came to the newest table, and wasn't told
-pub record IsTellable (sites : Sites) (h : History) (key : Key) (asked : Option Change) : Type 0 where
-  pub site : Site
-  pub is_site : IsSite sites key site
+pub record IsTellable (g : Geometry) (h : History) (key : Key) (asked : Option Change) : Type 0 where
   pub may : log.IsNewestTellable (log_of h.databases key) asked
 
 -- What an `ok` may tell of a history: a write or a read only where it is done.
-abbrev pub CanTell : Sites → Deed → History → Type 0
-CanTell sites (Created key) h = IsTellable sites h key None
-CanTell sites (Changed key change) h = IsTellable sites h key (Some change)
-CanTell sites (Wrote key volume at blocks) h = CanAcknowledge sites h key volume at blocks
-CanTell sites (Saw key volume at blocks) h = Contains h.untold (Saw key volume at blocks)
+abbrev pub CanTell : Geometry → Deed → History → Type 0
+CanTell g (Created key) h = IsTellable g h key None
+CanTell g (Changed key change) h = IsTellable g h key (Some change)
+CanTell g (Wrote key volume at blocks) h = CanAcknowledge g h key volume at blocks
+CanTell g (Saw key volume at blocks) h = Contains h.untold (Saw key volume at blocks)
 
 -- it was told, and nothing else happened
-pub record IsTold (sites : Sites) (h : History) (deed : Deed) (t : Tale) : Type 0 where
+pub record IsTold (g : Geometry) (h : History) (deed : Deed) (t : Tale) : Type 0 where
   pub es : List Event
-  pub happens : Happens sites h es [] (deed ∷ []) t
+  pub happens : Happens g h es [] (deed ∷ []) t
   pub families : (key : Key) → (log_of (history_after_all h es).databases key).family ≡ (log_of h.databases key).family
   pub volumes : (history_after_all h es).volumes ≡ h.volumes
 
 abbrev pub TellsGo : Type 0
-TellsGo = (sites : Sites) (h : History) (deed : Deed) (t : Tale) → AreSitesApart sites → CanTell sites deed h → Stands sites h t → IsTold sites h deed t
+TellsGo = (g : Geometry) (h : History) (deed : Deed) (t : Tale) → CanTell g deed h → Stands g h t → IsTold g h deed t
 
 -- a boot finds one value of each block of a volume: of so many blocks, this one
 pub record Waking : Type 0 where
@@ -188,14 +201,14 @@ wakings key [] = []
 wakings key (w ∷ ws) = OfVolume key w.volume (Woke w.count w.content) ∷ wakings key ws
 
 -- the volume is there, so long, and has that one value in each block, on the disk
-pub record IsFoundBy (sites : Sites) (databases : List Database) (key : Key) (t : Tale) (w : Waking) : Type 0 where
+pub record IsFoundBy (g : Geometry) (databases : List Database) (key : Key) (t : Tale) (w : Waking) : Type 0 where
   pub map : Map
-  pub there : IsThere sites databases key w.volume map
+  pub there : IsThere g databases key w.volume map
   pub long : w.count ≡ map.blocks
   pub one : HaveOneValue map w.content t
 
-pub record AreAwake (sites : Sites) (h : History) (key : Key) (ws : List Waking) (t : Tale) : Type 0 where
-  pub happens : Happens sites h (wakings key ws) [] [] t
+pub record AreAwake (g : Geometry) (h : History) (key : Key) (ws : List Waking) (t : Tale) : Type 0 where
+  pub happens : Happens g h (wakings key ws) [] [] t
   pub woken : (w : Waking) → Contains ws w → (history_after_all h (wakings key ws)).woken key w.volume ≡ w.count
   pub databases : (history_after_all h (wakings key ws)).databases ≡ h.databases
   pub up : (history_after_all h (wakings key ws)).up ≡ h.up
@@ -205,33 +218,32 @@ abbrev pub IsUpon : (ℕ → Bool) → Map → Type 0
 IsUpon up v = (b drive block : ℕ) → b < v.blocks → HasDriveBlock (v.copies b) drive block → up drive ≡ true
 
 -- one value was found of each block of each volume of the table on drives that are up, since the last boot
-abbrev pub AreWoken : Site → Table → (ℕ → Bool) → History → Key → Type 0
-AreWoken site table up h key = (volume : VolId) (v : Map) → IsMapOf site.drives table volume v → IsUpon up v → h.woken key volume ≡ v.blocks
+abbrev pub AreWoken : Geometry → Table → (ℕ → Bool) → History → Key → Type 0
+AreWoken g table up h key = (volume : VolId) (v : Map) → IsMapOf g table volume v → IsUpon up v → h.woken key volume ≡ v.blocks
 
--- the newest table of a key was written and is one of the geometry, and the drives that are up are synced
-pub record IsBooted (sites : Sites) (h : History) (key : Key) (site : Site) (newest : Version) (up : ℕ → Bool) (t : Tale) : Type 0 where
-  pub is_site : IsSite sites key site
+-- the newest table of a key was written and is one of the geometry, and a crash leaves of each block of its volumes on drives that are up what a read gives
+pub record IsBooted (g : Geometry) (h : History) (key : Key) (newest : Version) (up : ℕ → Bool) (t : Tale) : Type 0 where
   pub older : List Version
   pub family : (log_of h.databases key).family ≡ newest ∷ older
   pub written : newest.is_written ≡ true
-  pub of_geometry : IsOfGeometry site.drives newest.table
-  pub synced : (drive : ℕ) → up drive ≡ true → IsSynced drive t
+  pub of_geometry : IsOfGeometry g newest.table
+  pub still : (volume : VolId) (v : Map) (drive block : ℕ) → IsMapOf g newest.table volume v → area_of_map v drive block ≡ true → up drive ≡ true → (x : List ℕ) → MayLeave t drive block x → x ≡ last t drive block
 
 -- boots wake volumes
 pub record BootsGo : Type 0 where
-  pub awake : (sites : Sites) (h : History) (key : Key) (ws : List Waking) (t : Tale) → All (IsFoundBy sites h.databases key t) ws → Stands sites h t → AreAwake sites h key ws t
+  pub awake : (g : Geometry) (h : History) (key : Key) (ws : List Waking) (t : Tale) → All (IsFoundBy g h.databases key t) ws → Stands g h t → AreAwake g h key ws t
   -- all of the table that a boot adopted, where it has read their drives
-  pub all : (sites : Sites) (h : History) (key : Key) (site : Site) (newest : Version) (up : ℕ → Bool) (t : Tale) → IsBooted sites h key site newest up t → Stands sites h t
-      → (ws : List Waking) × AreAwake sites h key ws t × AreWoken site newest.table up (history_after_all h (wakings key ws)) key
+  pub all : (g : Geometry) (h : History) (key : Key) (newest : Version) (up : ℕ → Bool) (t : Tale) → IsBooted g h key newest up t → Stands g h t
+      → (ws : List Waking) × AreAwake g h key ws t × AreWoken g newest.table up (history_after_all h (wakings key ws)) key
 
-pub record IsBegun (sites : Sites) (h : History) (key : Key) (volume : VolId) (from : ℕ) (v : Map) (t : Tale) : Type 0 where
-  pub happens : Happens sites h (OfVolume key volume (Begins from (opening v t)) ∷ []) [] [] t
+pub record IsBegun (g : Geometry) (h : History) (key : Key) (volume : VolId) (from : ℕ) (v : Map) (t : Tale) : Type 0 where
+  pub happens : Happens g h (OfVolume key volume (Begins from (opening v t)) ∷ []) [] [] t
   pub follows : Follows v ((history_after h (OfVolume key volume (Begins from (opening v t)))).volumes key volume) t
 
 -- A volume is made: its log begins before a table has it. So it is with blocks behind those that it has.
 abbrev pub BeginningsGo : Type 0
-BeginningsGo = (sites : Sites) (h : History) (key : Key) (volume : VolId) (from : ℕ) (v : Map) (t : Tale) → ((w : Map) → IsNamed sites h.databases key volume w → w.blocks ≤ from) → Follows (record v { blocks = from }) (h.volumes key volume) t
-    → Stands sites h t → IsBegun sites h key volume from v t
+BeginningsGo = (g : Geometry) (h : History) (key : Key) (volume : VolId) (from : ℕ) (v : Map) (t : Tale) → ((w : Map) → IsNamed g h.databases key volume w → w.blocks ≤ from) → Follows (record v { blocks = from }) (h.volumes key volume) t
+    → Stands g h t → IsBegun g h key volume from v t
 
 -- A write of blocks was told behind these events, and later ones came: whatever happened, a read gives of each of its blocks, and a crash leaves, what was
 -- written, or what was issued since it was told.
@@ -240,10 +252,10 @@ pub record Lasts (h : History) (es later : List Event) (place : ℕ) (key : Key)
       → (x ≡ slice_index_or blocks k []) ⊎ Among (lives.issued_to (at + k) (events_of key volume later)) x
 
 -- of each key the family of tables is one, and what was told is firm
-abbrev pub HasLogs : Sites → History → Type 0
-HasLogs sites h = (key : Key) (site : Site) → IsSite sites key site → log.IsLog site.drives (log_of h.databases key)
+abbrev pub HasLogs : Geometry → History → Type 0
+HasLogs g h = (key : Key) → log.IsLog g (log_of h.databases key)
 
 -- so it is of every write that is told
 abbrev pub ToldWritesLast : Type 0
-ToldWritesLast = (sites : Sites) (h : History) (es later : List Event) (place : ℕ) (key : Key) (volume : VolId) (at : ℕ) (blocks : List (List ℕ)) → HasLogs sites h
-    → IsCourse sites h (es ++ Acknowledges place key volume at blocks ∷ later) → Lasts h es later place key volume at blocks
+ToldWritesLast = (g : Geometry) (h : History) (es later : List Event) (place : ℕ) (key : Key) (volume : VolId) (at : ℕ) (blocks : List (List ℕ)) → HasLogs g h
+    → IsCourse g h (es ++ Acknowledges place key volume at blocks ∷ later) → Lasts h es later place key volume at blocks

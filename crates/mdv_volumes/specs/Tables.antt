@@ -1,6 +1,6 @@
 -- Where the volumes of a table lie: the map of each of them.
-use Rattle.std.specs.Prelude.{◌≡◌, ◌⊎◌, ◌+◌, false, Option, Some, Contains}
-use Rattle.mdv_volumes.specs.Below.{AreApart, AreDisjoint, Base, Component, Geometry, HasSlice, HasVolume, IsAfter, IsDisjoint, IsOfGeometry, IsSound, Key, MakeStripe, Map, Site, Slice, SliceAt, SliceName, Stripe, Table, VolId, Volume, VolumeKind, area_of, area_of_map, range, run_map}
+use Rattle.std.specs.Prelude.{◌≡◌, ◌⊎◌, ◌+◌, Contains}
+use Rattle.mdv_volumes.specs.Below.{AreDisjoint, Base, Component, Geometry, HasSlice, HasVolume, IsAfter, IsBeside, IsDisjoint, IsOfGeometry, IsSound, MakeStripe, Map, Slice, SliceAt, SliceName, Stripe, Table, VolId, Volume, VolumeKind, area_of_map, run_map}
 
 -- the blocks of a slice that a component has
 abbrev pub IsBaseMap : Geometry → Component → Base → Map → Type 0
@@ -15,33 +15,21 @@ pub record IsMapOf (g : Geometry) (table : Table) (volume : VolId) (v : Map) : T
   pub has : HasVolume table.plan.volumes volume of
   pub kind : IsKindMap g of.kind v
 
--- Where a key has its database, if it may have one. The key of a set has none yet.
-abbrev pub Sites : Type 0
-Sites = Key → Option Site
+-- no slice on which a boot looks for replicas, of whatever key, has a block of the map
+abbrev pub IsClear : Geometry → Map → Type 0
+IsClear g v = IsBeside g (area_of_map v)
 
--- that is where it has it
-abbrev pub IsSite : Sites → Key → Site → Type 0
-IsSite sites key site = sites key ≡ Some site
-
--- no place of a database has a block of the map
-abbrev pub IsClear : Sites → Map → Type 0
-IsClear sites v = (key : Key) (site : Site) → IsSite sites key site → AreApart (area_of site) (area_of_map v)
-
--- The volumes of a table: each has one map, no block of a drive belongs to two of its blocks, nor to those of two volumes, nor to a database.
-pub record AreLaid (sites : Sites) (g : Geometry) (table : Table) : Type 0 where
+-- The volumes of a table: each has one map, no block of a drive belongs to two of its blocks, nor to those of two volumes, nor to a slice with replicas.
+pub record AreLaid (g : Geometry) (table : Table) : Type 0 where
   pub one : (volume : VolId) (v w : Map) → IsMapOf g table volume v → IsMapOf g table volume w → v ≡ w
   pub disjoint : (volume : VolId) (v : Map) → IsMapOf g table volume v → IsDisjoint v
   pub apart : (volume other : VolId) (v w : Map) → (volume ≡ other → ⊥) → IsMapOf g table volume v → IsMapOf g table other w → AreDisjoint v w
-  pub clear : (volume : VolId) (v : Map) → IsMapOf g table volume v → IsClear sites v
-
--- no slice has a block of a place, but those that are set aside for replicas
-abbrev pub ArePlain : Sites → Geometry → Type 0
-ArePlain sites g = (key : Key) (site : Site) (name : SliceName) (at : SliceAt) → IsSite sites key site → HasSlice g.slices name at → at.db ≡ false → AreApart (area_of site) (range at.drive.0 at.start at.blocks)
+  pub clear : (volume : VolId) (v : Map) → IsMapOf g table volume v → IsClear g v
 
 -- tables of the geometry
 pub record TablesLie : Type 0 where
-  -- their volumes lie apart, where slices that replicas may have share no block with others
-  pub laid : (sites : Sites) (g : Geometry) (table : Table) → IsSound g → ArePlain sites g → IsOfGeometry g table → AreLaid sites g table
+  -- their volumes lie apart
+  pub laid : (g : Geometry) (table : Table) → IsSound g → IsOfGeometry g table → AreLaid g table
   -- each of them has a map
   pub some : (g : Geometry) (table : Table) (of : Volume) → IsOfGeometry g table → Contains table.plan.volumes of → (v : Map) × IsMapOf g table of.number v
   -- a change makes one that the table before didn't have, which has a map, and leaves the others where they lay

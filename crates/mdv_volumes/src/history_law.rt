@@ -1,4 +1,4 @@
-ghost use Rattle.mdv_volumes.specs.HistoryLaws.{BeginningsGo, BootsGo, DatabasesGo, DatabasesLive, ReadsGo, RestartsGo, TellsGo, ToldWritesLast, VolumesLive, WritesGo};
+ghost use Rattle.mdv_volumes.specs.HistoryLaws.{BeginningsGo, BootsGo, CreationsGo, DatabasesGo, DatabasesLive, ListsStay, ReadsGo, RestartsGo, TellsGo, ToldWritesLast, VolumesLive, WritesGo};
 
 /// What a history says of a volume is what happened to that volume, each where it may.
 pub fn volumes_live()
@@ -25,6 +25,11 @@ pub fn databases_go()
     ensures { DatabasesGo }
 {}
 
+/// A creation begins, where no table of its key was written.
+pub fn creations_go()
+    ensures { CreationsGo }
+{}
+
 /// A deed that is done is told by one event, and nothing else changes.
 pub fn tells_go()
     ensures { TellsGo }
@@ -48,4 +53,9 @@ pub fn told_writes_last()
 /// What a history says of a key's log is what happened to that log, each where it may; and of what it tells and begins that key's part.
 pub fn databases_live()
     ensures { DatabasesLive }
+{}
+
+/// Once a write of a key's table was answered, each table that a boot may find has the places that it had, whatever happens.
+pub fn lists_stay()
+    ensures { ListsStay }
 {}

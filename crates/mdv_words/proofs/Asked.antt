@@ -1,20 +1,22 @@
--- What a line of the grammar asks keeps the numbers of volumes and of blocks.
+-- What a line of the grammar asks keeps the numbers of replicas, of volumes and of blocks.
 use Rattle.std.specs.Option.{option_or}
-use Rattle.std.proofs.Common.{ℕ, ◌≤◌, Bool, true, false, cond, Option, None, Some, sym, subst, List, [], ◌∷◌, codes}
+use Rattle.std.proofs.Common.{ℕ, ◌≤◌, Bool, true, false, cond, Option, None, Some, sym, subst, List, [], ◌∷◌, codes, length, arith}
 use Rattle.std.specs.Prelude.{IfSome, nat_le}
 use Rattle.mdv_name.specs.declared.volume.VolName.{VolName}
 use Rattle.mdv_parts.specs.declared.component.Component.{Component}
+use Rattle.mdv_base.specs.declared.drive.SliceName.{SliceName}
+use Rattle.mdv_parts.specs.declared.options.ReplicaOptions.{ReplicaOptions}
 use Rattle.mdv_parts.specs.declared.part.Part.{Part}
 use Rattle.mdv_parts.specs.declared.part.Part.TheVariants.{Pool, Replicas, Slice, Volume}
-use Rattle.mdv_parts.specs.Runs.{behind, component_of, front, pool_of}
+use Rattle.mdv_parts.specs.Runs.{behind, component_of, front, pool_of, slice_of}
 use Rattle.mdv_tab.specs.declared.entry.Entry.{Entry}
 use Rattle.mdv_tab.specs.Form.{entry_of}
 use Rattle.mdv_tab.specs.Options.{late_interlace, on_some}
 use Rattle.mdv_command.specs.declared.command.Command.{Command}
 use Rattle.mdv_command.specs.declared.command.Pools.{Pools}
 use Rattle.mdv_command.specs.declared.given.Given.{Given}
-use Rattle.mdv_command.specs.Given.{count_given, has, interlace_given, length_given, length_of, only}
-use Rattle.mdv_command.specs.declared.given.Given.TheVariants.{Length}
+use Rattle.mdv_command.specs.Given.{count_given, count_of, first_given, has, interlace_given, length_given, length_of, only}
+use Rattle.mdv_command.specs.declared.given.Given.TheVariants.{Count, Length}
 use Rattle.mdv_command.specs.Options.{AreGiven, Bare, IsGiven, Spelled, Valued, joined}
 use Rattle.mdv_command.specs.Spares.{added_spares_of, deleted_spares_of, enabled_spares_of, listed_pools_of, metahs_of, pools_of, replaced_spare_of}
 use Rattle.mdv_command.specs.Volumes.{added_of, all_cleared_of, all_made_of, all_of, deleted_of, ends_attach, enabled_of, listed_of, made_of, metaclear_of, metadb_of, metainit_of, metareplace_of, metattach_of, named_of, only_size, replaced_of, sized_of, some_of, some_slices, submirror_of}
@@ -28,15 +30,11 @@ use Rattle.mdv_grammar.specs.Line.{AsksBehind, IsCommand}
 use Rattle.mdv_grammar.specs.Operands.{command_of, plain_of, scope_of}
 use Rattle.mdv_command.specs.Given.{set_given}
 use Rattle.mdv_grammar.specs.Sets.{AsksSets}
+use Rattle.mdv_words.specs.Line.{IsCount, IsLength}
 use Rattle.mdv_words.proofs.Entries.{BeginsSmall, Kept, KeepsEntry, begins_small, entry_keeps, if_either, if_then}
 
--- the blocks of a replica that are given are 16 to 8192
-abbrev pub IsGivenLength : Option ℕ → Type 0
-IsGivenLength None = Unit {0}
-IsGivenLength (Some n) = (16 ≤ n) × (n ≤ 8192)
-
 abbrev pub Keeps : Command → Type 0
-Keeps (Command.AddReplicas slices options force) = IsGivenLength options.blocks
+Keeps (Command.AddReplicas slices options force) = (1 ≤ length slices) × IfSome options.count IsCount × IfSome options.blocks IsLength
 Keeps (Command.Make entry force) = KeepsEntry entry
 Keeps (Command.Read volume at count) = 1 ≤ count
 Keeps _ = Unit {0}
@@ -54,31 +52,48 @@ passed b x holds = either b x None holds tt
 behind_it : {B : Type 0} (o : Option B) (next : B → Option Command) → ((b : B) → Holds (next b)) → Holds (on_some o next)
 behind_it o next holds = if_then Keeps o next holds
 
-given_length : (s : Spelled) (g : Given) → IsGiven s g → IsGivenLength (length_of g)
-given_length (Bare b) g is = subst (λ (x : Given). IsGivenLength (length_of x)) (sym is) tt
+either_given : (P : ℕ → Type 0) (a b : Option ℕ) → IfSome a P → IfSome b P → IfSome (option_or a b) P
+either_given P None b one other = other
+either_given P (Some n) b one other = one
+
+-- what each value of one kind keeps, the first of them keeps
+first_keeps : (P : ℕ → Type 0) (value : Given → Option ℕ) (ss : List Spelled) (gs : List Given) → ((s : Spelled) (g : Given) → IsGiven s g → IfSome (value g) P) → AreGiven ss gs → IfSome (first_given value gs) P
+first_keeps P value [] [] each are = tt
+first_keeps P value [] (g ∷ gs) each are = absurd are
+first_keeps P value (s ∷ ss) [] each are = absurd are
+first_keeps P value (s ∷ ss) (g ∷ gs) each are = either_given P (value g) (first_given value gs) (each s g are.0) (first_keeps P value ss gs each are.1)
+
+given_count : (s : Spelled) (g : Given) → IsGiven s g → IfSome (count_of g) IsCount
+given_count (Bare b) g is = subst (λ (x : Given). IfSome (count_of x) IsCount) (sym is) tt
+given_count (Valued b text) (Count n) is = (is.2, is.3)
+given_count (Valued b text) g is = tt
+
+given_length : (s : Spelled) (g : Given) → IsGiven s g → IfSome (length_of g) IsLength
+given_length (Bare b) g is = subst (λ (x : Given). IfSome (length_of x) IsLength) (sym is) tt
 given_length (Valued b text) (Length n) is = (is.2, is.3)
 given_length (Valued b text) g is = tt
 
-first_length : (a b : Option ℕ) → IsGivenLength a → IsGivenLength b → IsGivenLength (option_or a b)
-first_length None b one other = other
-first_length (Some n) b one other = one
+-- the numbers that the options of a line give are in their bounds
+abbrev AreBounded : List Given → Type 0
+AreBounded gs = IfSome (count_given gs) IsCount × IfSome (length_given gs) IsLength
 
--- so those are that the options of a line give
-lengths : (ss : List Spelled) (gs : List Given) → AreGiven ss gs → IsGivenLength (length_given gs)
-lengths [] [] are = tt
-lengths [] (g ∷ gs) are = absurd are
-lengths (s ∷ ss) [] are = absurd are
-lengths (s ∷ ss) (g ∷ gs) are = first_length (length_of g) (length_given gs) (given_length s g are.0) (lengths ss gs are.1)
+bounded : (ss : List Spelled) (gs : List Given) → AreGiven ss gs → AreBounded gs
+bounded ss gs are = (first_keeps IsCount count_of ss gs given_count are, first_keeps IsLength length_of ss gs given_length are)
 
-added_keeps : (gs : List Given) (ps : List Part) → IsGivenLength (length_given gs) → Holds (added_of gs ps)
+on_slices : (options : ReplicaOptions) (force : Bool) (slices : List SliceName) (ps : List Part) → IfSome options.count IsCount → IfSome options.blocks IsLength → Holds (on_some (some_of slices ps) (λ ss. Some (Command.AddReplicas ss options force)))
+on_slices options force [] ps count blocks = tt
+on_slices options force (s ∷ ss) [] count blocks = (omega arith, count, blocks)
+on_slices options force (s ∷ ss) (p ∷ ps) count blocks = tt
+
+added_keeps : (gs : List Given) (ps : List Part) → AreBounded gs → Holds (added_of gs ps)
 added_keeps gs (Replicas n ∷ []) is = passed (only (codes "af") gs) (Some (Command.AddListed n (has 102 gs))) tt
-added_keeps gs ps is = behind_it (some_slices ps) (λ ss. Some (Command.AddReplicas ss (record { count = count_given gs; blocks = length_given gs }) (has 102 gs))) (λ ss. is)
+added_keeps gs ps is = on_slices (record { count = count_given gs; blocks = length_given gs }) (has 102 gs) (front slice_of ps) (behind slice_of ps) is.0 is.1
 
 listed_keeps : (gs : List Given) (set : Option (List ℕ)) (ps : List Part) → Holds (listed_of gs set ps)
 listed_keeps gs set [] = tt
 listed_keeps gs set (p ∷ ps) = tt
 
-metadb_keeps : (gs : List Given) (set : Option (List ℕ)) (ps : List Part) → IsGivenLength (length_given gs) → Holds (metadb_of gs set ps)
+metadb_keeps : (gs : List Given) (set : Option (List ℕ)) (ps : List Part) → AreBounded gs → Holds (metadb_of gs set ps)
 metadb_keeps gs set ps is =
     either (has 97 gs) _ _ (passed (only (codes "afcl") gs) (added_of gs ps) (added_keeps gs ps is)) (
     either (has 100 gs) _ _ (passed (only (codes "df") gs) (deleted_of gs ps) (behind_it (some_slices ps) _ (λ ss. tt))) (
@@ -162,7 +177,7 @@ metahs_keeps gs set all ps =
     either (has 101 gs) _ _ (passed (only (codes "es") gs) _ (enabled_spares_keep set all ps)) (
     passed (has 105 gs) _ (passed (only (codes "is") gs) _ (listed_pools_keep set all ps))))))
 
-plain_keeps : (verb : Verb) (gs : List Given) (set : Option (List ℕ)) (ps : List Part) → IsGivenLength (length_given gs) → BeginsSmall ps → Holds (plain_of verb gs set ps)
+plain_keeps : (verb : Verb) (gs : List Given) (set : Option (List ℕ)) (ps : List Part) → AreBounded gs → BeginsSmall ps → Holds (plain_of verb gs set ps)
 plain_keeps Metadb gs set ps is small = metadb_keeps gs set ps is
 plain_keeps Metainit gs set ps is small = metainit_keeps gs set ps small
 plain_keeps Metaclear gs set ps is small = metaclear_keeps gs set ps
@@ -174,7 +189,7 @@ plain_keeps Metareplace gs set ps is small = metareplace_keeps gs set ps
 plain_keeps Metahs gs set ps is small = metahs_keeps gs set false ps
 plain_keeps Metastat gs set ps is small = behind_it (all_of (front named_of ps) (behind named_of ps)) _ (λ ns. tt)
 
-verb_keeps : (verb : Verb) (gs : List Given) (set : Option (List ℕ)) (all : Bool) (ps : List Part) → IsGivenLength (length_given gs) → BeginsSmall ps → Holds (command_of verb gs set all ps)
+verb_keeps : (verb : Verb) (gs : List Given) (set : Option (List ℕ)) (all : Bool) (ps : List Part) → AreBounded gs → BeginsSmall ps → Holds (command_of verb gs set all ps)
 verb_keeps verb gs set false ps is small = plain_keeps verb gs set ps is small
 verb_keeps Metahs gs set true ps is small = metahs_keeps gs set true ps
 verb_keeps _ gs set true ps is small = tt
@@ -188,7 +203,7 @@ asked_keeps : (head : Head) (ws : List (List ℕ)) (c : Command) → AsksBehind 
 asked_keeps (OfVerb verb) ws c asks =
     let parts = asks.asks in
     let small = begins_small (scope_of (set_given asks.given) parts.set) parts.names parts.parts parts.spelled in
-    subst (λ (o : Option Command). Holds o) parts.form (verb_keeps verb asks.given parts.set parts.all parts.parts (lengths (joined asks.options.0.spelled) asks.given asks.options.0.given) small)
+    subst (λ (o : Option Command). Holds o) parts.form (verb_keeps verb asks.given parts.set parts.all parts.parts (bounded (joined asks.options.0.spelled) asks.given asks.options.0.given) small)
 asked_keeps OfSets ws c asks = sets_keep asks.form asks.given asks.operands c asks.asks
 asked_keeps OfRead ws c asks = subst Keeps (sym asks.is) asks.counted.some
 asked_keeps OfWrite ws c asks = subst Keeps (sym asks.is) tt

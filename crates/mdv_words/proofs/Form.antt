@@ -1,5 +1,5 @@
--- A replica that a line makes has 16 to 8192 blocks, a volume a number below 8192, and a line reads one block at least.
-use Rattle.std.proofs.Common.{ℕ, ◌<◌, Bool, true, false, Option, None, Some, subst, List, [], ◌∷◌, arith}
+-- A line makes 1 to 50 replicas of 16 to 8192 blocks on one slice or more, a volume has a number below 8192, and a line reads one block at least.
+use Rattle.std.proofs.Common.{ℕ, ◌<◌, Bool, true, Option, None, Some, subst, List, [], ◌∷◌, arith}
 use Rattle.std.specs.Prelude.{IfSome}
 use Rattle.mdv_base.specs.declared.drive.SliceName.{SliceName}
 use Rattle.mdv_base.specs.declared.name.Named.{Named}
@@ -12,19 +12,19 @@ use Rattle.mdv_tab.specs.declared.entry.Row.{Row}
 use Rattle.mdv_command.specs.declared.command.Command.{Command as Wanted}
 use Rattle.mdv_command.specs.declared.command.Command.TheVariants as wanted
 use Rattle.mdv_words.specs.declared.command.Command.{Command}
-use Rattle.mdv_words.specs.Line.{IsCommand, IsInForm, IsLength, blocks_or_default, built_of, creation_of, on_local, print_of, slice_of_row, stripe_of, volume_on}
-use Rattle.mdv_words.proofs.Asked.{IsGivenLength, Keeps, command_keeps}
+use Rattle.mdv_words.specs.Line.{IsCommand, IsCount, IsInForm, IsLength, blocks_or_default, built_of, count_or_default, on_local, print_of, slice_of_row, stripe_of, volume_on}
+use Rattle.mdv_words.proofs.Asked.{Keeps, command_keeps}
 
 abbrev Formed : Option Command → Type 0
 Formed command = IfSome command IsInForm
 
-length_formed : (blocks : Option ℕ) → IsGivenLength blocks → IsLength (blocks_or_default blocks)
+count_formed : (count : Option ℕ) → IfSome count IsCount → IsCount (count_or_default count)
+count_formed None is = (omega arith, omega arith)
+count_formed (Some n) is = is
+
+length_formed : (blocks : Option ℕ) → IfSome blocks IsLength → IsLength (blocks_or_default blocks)
 length_formed None is = (omega arith, omega arith)
 length_formed (Some n) is = is
-
-creation_formed : (slices : List SliceName) (count blocks : Option ℕ) (force : Bool) → IsGivenLength blocks → Formed (creation_of slices count blocks force)
-creation_formed (slice ∷ []) None blocks force is = length_formed blocks is
-creation_formed slices count blocks force is = tt
 
 print_formed : (set : Option (List ℕ)) (names : List Named) (printed : Bool) → Formed (print_of set names printed)
 print_formed None names true = tt
@@ -43,7 +43,7 @@ local_formed None command is = is
 local_formed (Some s) command is = tt
 
 built_formed : (asked : Wanted) → Keeps asked → Formed (built_of asked)
-built_formed (wanted.AddReplicas slices options force) keeps = creation_formed slices options.count options.blocks force keeps
+built_formed (wanted.AddReplicas slices options force) keeps = (keeps.0, count_formed options.count keeps.1, length_formed options.blocks keeps.2)
 built_formed (wanted.Make (Stripe name rows spares) force) keeps = stripe_formed name rows spares keeps
 built_formed (wanted.Read volume at count) keeps = local_formed volume.set (Command.Read volume.volume at count) keeps
 built_formed (wanted.Write volume at block) keeps = local_formed volume.set (Command.Write volume.volume at block) tt

@@ -1,5 +1,5 @@
 -- What an item of a script is, which is one line or a `tab` block: `boot`, a block's lines, or a line that is built.
-use Rattle.std.specs.Prelude.{◌≡◌, ◌<◌, ◌≤◌, ℕ, Bool, true, Option, None, Some, List, [], ◌∷◌, ◌++◌, codes}
+use Rattle.std.specs.Prelude.{◌≡◌, ◌<◌, ◌≤◌, ℕ, Bool, true, Option, None, Some, List, [], ◌∷◌, ◌++◌, codes, length}
 use Rattle.mdv_base.specs.declared.drive.SliceName.{SliceName}
 use Rattle.mdv_base.specs.declared.name.Named.{Named}
 use Rattle.mdv_base.specs.declared.name.PoolId.{PoolId}
@@ -40,15 +40,19 @@ tab_text lines = codes "tab" ++ 10 ∷ lines
 abbrev pub IsAlone : List ℕ → Type 0
 IsAlone text = (lines : List ℕ) → text ≡ tab_text lines → ⊥
 
+-- the replicas on a slice where no number is given
+abbrev pub count_or_default : Option ℕ → ℕ
+count_or_default None = 1
+count_or_default (Some count) = count
+
 -- the blocks of a replica for which none are given
 abbrev pub blocks_or_default : Option ℕ → ℕ
 blocks_or_default None = 8192
 blocks_or_default (Some blocks) = blocks
 
--- one slice, with no number of replicas
-abbrev pub creation_of : List SliceName → Option ℕ → Option ℕ → Bool → Option Command
-creation_of (slice ∷ []) None blocks force = Some (Create slice force (blocks_or_default blocks))
-creation_of slices count blocks force = None
+-- so many replicas on each of the slices
+abbrev pub creation_of : List SliceName → Option ℕ → Option ℕ → Bool → Command
+creation_of slices count blocks force = Create slices force (count_or_default count) (blocks_or_default blocks)
 
 -- a row of one slice, with no interlace
 abbrev pub slice_of_row : List Component → Option ℕ → Option SliceName
@@ -75,10 +79,10 @@ abbrev pub print_of : Option (List ℕ) → List Named → Bool → Option Comma
 print_of None names true = Some (Print names)
 print_of set names printed = None
 
--- The commands that are built, among all that a line may ask: `metadb -a [-f] [-l BLOCKS] SLICE`, `metainit [-f] dN 1 1 SLICE`, whose `-f` changes nothing,
--- `read`, `write`, and `metastat -p [NAME ..]`.
+-- The commands that are built, among all that a line may ask: `metadb -a [-f] [-c COUNT] [-l BLOCKS] SLICE ..`, `metainit [-f] dN 1 1 SLICE`, whose `-f`
+-- changes nothing, `read`, `write`, and `metastat -p [NAME ..]`.
 abbrev pub built_of : Wanted → Option Command
-built_of (wanted.AddReplicas slices options force) = creation_of slices options.count options.blocks force
+built_of (wanted.AddReplicas slices options force) = Some (creation_of slices options.count options.blocks force)
 built_of (wanted.Make (Stripe name rows spares) force) = stripe_of name rows spares
 built_of (wanted.Read volume at count) = on_local volume.set (Read volume.volume at count)
 built_of (wanted.Write volume at block) = on_local volume.set (Write volume.volume at block)
@@ -101,13 +105,17 @@ abbrev pub IsFaultOf : List ℕ → WordsFault → Type 0
 IsFaultOf text BadLine = (line : Line) → IsLine text line → ⊥
 IsFaultOf text Memory = Unit {0}
 
+-- so many replicas a line may put on each slice
+abbrev pub IsCount : ℕ → Type 0
+IsCount count = (1 ≤ count) × (count ≤ 50)
+
 -- blocks that a replica may have
 abbrev pub IsLength : ℕ → Type 0
 IsLength blocks = (16 ≤ blocks) × (blocks ≤ 8192)
 
 -- what each command of a line keeps
 abbrev pub IsInForm : Command → Type 0
-IsInForm (Create slice force blocks) = IsLength blocks
+IsInForm (Create slices force count blocks) = (1 ≤ length slices) × IsCount count × IsLength blocks
 IsInForm (MakeStripe volume slice) = volume.0 < 8192
 IsInForm (Read volume at count) = 1 ≤ count
 IsInForm (Write volume at block) = Unit {0}

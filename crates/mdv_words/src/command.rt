@@ -1,5 +1,5 @@
 ghost use Rattle.std.specs.Prelude.{◌≡◌};
-ghost use Rattle.mdv_words.specs.Line.{blocks_or_default, creation_of, print_of, slice_of_row, stripe_of, on_local, built_of};
+ghost use Rattle.mdv_words.specs.Line.{blocks_or_default, count_or_default, creation_of, print_of, slice_of_row, stripe_of, on_local, built_of};
 
 use mdv_base::{Block, Name, Named, PoolId, SliceName, VolId};
 use mdv_command::Command as Asked;
@@ -7,17 +7,23 @@ use mdv_name::VolName;
 use mdv_parts::{Component, Items, ReplicaOptions};
 use mdv_tab::{Entry, Row};
 
+// How many replicas each slice gets where no `-c` is given.
+const DEFAULT_COUNT: u8 = 1;
+
 // How many blocks a replica has that no `-l` is given for.
 const DEFAULT_BLOCKS: u32 = 8192;
 
 /// What a line asks an engine for.
 #[derive(Drop)]
 pub enum Command {
-    /// `metadb -a SLICE`, or with `-f`, or with `-l BLOCKS`
+    /// `metadb -a SLICE ..`, or with `-f`, `-c COUNT` or `-l BLOCKS`
     Create {
-        slice: SliceName,
+        /// One or more; a line may name a slice twice.
+        slices: Items<SliceName>,
         force: bool,
-        /// Blocks of the replica, 16 to 8192.
+        /// Replicas on each slice, 1 to 50.
+        count: u8,
+        /// Blocks of each replica, 16 to 8192.
         blocks: u32,
     },
     /// `metainit dN 1 1 SLICE`, or with `-f`
@@ -43,6 +49,15 @@ pub enum Command {
     },
 }
 
+fn count_of(options: &ReplicaOptions) -> u8
+    ensures { result ≡ count_or_default options.now.count }
+{
+    match options.count {
+        Some(count) => count,
+        None => DEFAULT_COUNT,
+    }
+}
+
 fn blocks_of(options: &ReplicaOptions) -> u32
     ensures { result ≡ blocks_or_default options.now.blocks }
 {
@@ -52,20 +67,15 @@ fn blocks_of(options: &ReplicaOptions) -> u32
     }
 }
 
-fn creation(slices: &[SliceName], options: &ReplicaOptions, force: bool) -> Option<Command>
-    ensures { result ≡ creation_of slices.now options.now.count options.now.blocks force }
+fn creation(slices: Items<SliceName>, options: &ReplicaOptions, force: bool) -> Command
+    ensures { result ≡ creation_of slices options.now.count options.now.blocks force }
 {
-    let [slice] = slices else {
-        return None;
-    };
-    if options.count.is_some() {
-        return None;
-    }
-    Some(Command::Create {
-        slice: *slice,
+    Command::Create {
+        slices,
         force,
+        count: count_of(options),
         blocks: blocks_of(options),
-    })
+    }
 }
 
 // The slice of a row of one.
@@ -127,7 +137,7 @@ pub(crate) fn built(asked: Asked) -> Option<Command>
             slices,
             options,
             force,
-        } => creation(slices.as_slice(), &options, force),
+        } => Some(creation(slices, &options, force)),
         Asked::Make {
             entry: Entry::Stripe { name, rows, spares },
             ..

@@ -7,7 +7,7 @@ pub fn reads_one_line()
     ensures { (text : List ℕ) (a b : Line) → IsLine text a → IsLine text b → a ≡ b }
 {}
 
-/// A replica that a line makes has 16 to 8192 blocks, a volume a number below 8192, and a line reads one block at least.
+/// A line makes 1 to 50 replicas of 16 to 8192 blocks on one slice or more, a volume has a number below 8192, and a line reads one block at least.
 pub fn commands_are_in_form()
     ensures { (text : List ℕ) (c : Command) → IsCommand text c → IsInForm c }
 {}

@@ -16,12 +16,13 @@ in the working folder:
 
 HOST is one of the hosts H, and its own drives are those whose lines have its name, as many as
 there are. FILE is an image of BLOCKS * 512 bytes, or a block device of that length; make an
-image, say, with truncate -s 8388608 disk0.img for 16384 blocks. Of the slices on the host's
-own drives one is marked db: there a state database may lie, from block START of the drive on;
-it needs 8208 blocks, or 16 and those that -l gives. Others are for volumes, and share no block
-with it. The table may have
-other hosts too, drives with the word shared for H, and lines mediator H BLOCKS FILE: a run
-opens none of those files. So runs of different hosts may go on at the same time.
+image, say, with truncate -s 8388608 disk0.img for 16384 blocks. On the slices of the host's own
+drives that are marked db the replicas of its state database may lie, from block 16 of each slice
+on: one takes 8192 blocks, or those that -l gives. A slice marked db that shares a block with
+another such one, or has fewer than 32 blocks, takes none. Other slices are for volumes, and one
+that shares a block with a slice marked db takes none. The table may have other hosts too, drives
+with the word shared for H, and lines mediator H BLOCKS FILE: a run opens none of those files. So
+runs of different hosts may go on at the same time.
 
 An own image is locked while the program runs, and synced when it is opened. One that can't be
 opened for reading and writing, has another length, is in use by another run or is the file of
@@ -32,10 +33,13 @@ drives.failed beside drives.tab remembers it: until the system starts anew, what
 has of it in memory may differ from the disk, so it is a lost drive. bin/metad drops what the
 system has in memory, takes the image out of drives.failed, and starts this program.
 
-The host boots. Then SCRIPT is read, on standard input, with a command on each line:
+The host boots: it takes the database whose newest table is found at more than half of its
+places, and none where no replica shows a table. Then SCRIPT is read, on standard input, with a
+command on each line:
 
-    metadb -a -f c0t0d0s7    makes a state database; its first replica needs the -f;
-                             -l BLOCKS, 16 to 8192, makes it shorter than 8192 blocks
+    metadb -a -f c0t0d0s7    makes a state database, of a replica on each slice that is named; the
+                             first ones need the -f; -c COUNT, 1 to 50, puts so many on each slice,
+                             -l BLOCKS, 16 to 8192, makes them shorter than 8192 blocks
     metainit d0 1 1 c0t0d0s0 makes the volume d0 of all blocks of a slice
     write d0 5 ab            writes block 5 of d0: bytes in hexadecimal, and zeros behind
     read d0 5 1              tells 1 block of d0, from block 5 on; at most 1024 at a time

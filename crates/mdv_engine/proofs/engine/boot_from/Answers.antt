@@ -1,71 +1,117 @@
-use Rattle.std.proofs.Common.{refl, sym, subst, Contains, List}
-use Rattle.mdv_shelf.specs.Drives.{AreDrives}
-use Rattle.mdv_shelf.specs.Made.{made_of}
-use Rattle.mdv_shelf.specs.Shelves.{DriveFailures}
-use Rattle.mdv_engine_law.proofs.Ready.{at_home, own_drives_lie}
-use Rattle.mdv_engine.specs.Below.{DriveNo, PlaceAt}
-use Rattle.mdv_engine.proofs.Booting.{adopted_all, adopted_cause, all_moments, lost_all, lost_cause, none_all, none_cause, own_still, spent_all, spent_cause, table_well, wanting_all, wanting_cause}
-use Rattle.mdv_engine.proofs.Sites.{on_drive}
+use Rattle.std.proofs.Common.{refl, ap}
+use Rattle.mdv_engine_law.specs.declared.answer.Ended.TheVariants as ended
+use Rattle.mdv_engine.specs.Below.{answered_by}
+use Rattle.mdv_engine.proofs.Booting.{all_moments, empty_cause, empty_counted, empty_end, fitting_cause, fitting_counted, fitting_end, fitting_well, lost_cause, over_counted, over_end, short_cause, spent_cause, two_cause, wanting_cause}
 use Rattle.mdv_engine.proofs.engine.boot_from.Goals as goal
 
-pub boot-end-requires-clause-on_drive : goal.boot-end-requires-clause-on_drive
-boot-end-requires-clause-on_drive g c = on_drive c.args.host.now (g.S.Shelf.sizes c.args.shelf.now) c.requires c.place_at.result c.place_at.ensures
-
-pub boot-end-requires-clause-own : goal.boot-end-requires-clause-own
-boot-end-requires-clause-own g c = subst (λ (own : List DriveNo). AreDrives (g.S.Shelf.sizes c.args.shelf.now) own) (sym c.as_slice.ensures) (own_drives_lie c.args.host.now (g.S.Shelf.sizes c.args.shelf.now) c.requires)
-
-pub boot-end-requires-clause-one_of : goal.boot-end-requires-clause-one_of
-boot-end-requires-clause-one_of g c =
-    subst (λ (own : List DriveNo). Contains own c.place_at.result.drive) (sym c.as_slice.ensures) (subst (λ (p : PlaceAt). Contains c.args.host.now.own p.drive) (sym c.place_at.ensures) (at_home c.args.host.now (g.S.Shelf.sizes c.args.shelf.now) c.requires))
-
 pub returns-in-Adopted-clause-moments : goal.returns-in-Adopted-clause-moments
-returns-in-Adopted-clause-moments g c = all_moments c.args.host.now (g.S.Shelf.sizes c.args.shelf.now) c.requires c.place_at.result c.place_at.ensures _ _ c.boot-end.ensures.moments
+returns-in-Adopted-clause-moments g c =
+    all_moments g.S.Shelf c.args.shelf.now c.boot-end.new.shelf c.args.host.now c.requires c.boot-end.result c.boot-end.ensures.answer c.boot-end.ensures.kept c.args.begun c.boot-end.ensures.moments c.boot-end.ensures.end c.boot-end.ensures.counted
 
 pub returns-in-Empty-clause-moments : goal.returns-in-Empty-clause-moments
-returns-in-Empty-clause-moments g c = all_moments c.args.host.now (g.S.Shelf.sizes c.args.shelf.now) c.requires c.place_at.result c.place_at.ensures _ _ c.boot-end.ensures.moments
+returns-in-Empty-clause-moments g c =
+    all_moments g.S.Shelf c.args.shelf.now c.boot-end.new.shelf c.args.host.now c.requires c.boot-end.result c.boot-end.ensures.answer c.boot-end.ensures.kept c.args.begun c.boot-end.ensures.moments c.boot-end.ensures.end c.boot-end.ensures.counted
+
+pub returns-in-TwoDatabases-clause-moments : goal.returns-in-TwoDatabases-clause-moments
+returns-in-TwoDatabases-clause-moments g c =
+    all_moments g.S.Shelf c.args.shelf.now c.boot-end.new.shelf c.args.host.now c.requires c.boot-end.result c.boot-end.ensures.answer c.boot-end.ensures.kept c.args.begun c.boot-end.ensures.moments c.boot-end.ensures.end c.boot-end.ensures.counted
+
+pub returns-in-NoQuorum-clause-moments : goal.returns-in-NoQuorum-clause-moments
+returns-in-NoQuorum-clause-moments g c =
+    all_moments g.S.Shelf c.args.shelf.now c.boot-end.new.shelf c.args.host.now c.requires c.boot-end.result c.boot-end.ensures.answer c.boot-end.ensures.kept c.args.begun c.boot-end.ensures.moments c.boot-end.ensures.end c.boot-end.ensures.counted
 
 pub returns-in-Lost-clause-moments : goal.returns-in-Lost-clause-moments
-returns-in-Lost-clause-moments g c = all_moments c.args.host.now (g.S.Shelf.sizes c.args.shelf.now) c.requires c.place_at.result c.place_at.ensures _ _ c.boot-end.ensures.moments
+returns-in-Lost-clause-moments g c =
+    all_moments g.S.Shelf c.args.shelf.now c.boot-end.new.shelf c.args.host.now c.requires c.boot-end.result c.boot-end.ensures.answer c.boot-end.ensures.kept c.args.begun c.boot-end.ensures.moments c.boot-end.ensures.end c.boot-end.ensures.counted
 
 pub returns-in-Spent-clause-moments : goal.returns-in-Spent-clause-moments
-returns-in-Spent-clause-moments g c = all_moments c.args.host.now (g.S.Shelf.sizes c.args.shelf.now) c.requires c.place_at.result c.place_at.ensures _ _ c.boot-end.ensures.moments
+returns-in-Spent-clause-moments g c =
+    all_moments g.S.Shelf c.args.shelf.now c.boot-end.new.shelf c.args.host.now c.requires c.boot-end.result c.boot-end.ensures.answer c.boot-end.ensures.kept c.args.begun c.boot-end.ensures.moments c.boot-end.ensures.end c.boot-end.ensures.counted
 
 pub returns-in-Memory-clause-moments : goal.returns-in-Memory-clause-moments
-returns-in-Memory-clause-moments g c = all_moments c.args.host.now (g.S.Shelf.sizes c.args.shelf.now) c.requires c.place_at.result c.place_at.ensures _ _ c.boot-end.ensures.moments
+returns-in-Memory-clause-moments g c =
+    all_moments g.S.Shelf c.args.shelf.now c.boot-end.new.shelf c.args.host.now c.requires c.boot-end.result c.boot-end.ensures.answer c.boot-end.ensures.kept c.args.begun c.boot-end.ensures.moments c.boot-end.ensures.end c.boot-end.ensures.counted
 
 pub returns-in-Adopted-clause-end : goal.returns-in-Adopted-clause-end
-returns-in-Adopted-clause-end g c = rw c.booted.ensures (adopted_all c.args.host.now (g.S.Shelf.sizes c.args.shelf.now) c.requires c.place_at.result c.place_at.ensures c.as_slice.result.now c.as_slice.ensures (DriveFailures g.S.Shelf c.args.shelf.now c.boot-end.new.shelf) (made_of g.S.Shelf c.args.shelf.now c.boot-end.new.shelf) c.boot-end.result c.args.begun _ _ c.boot-end.ensures.answer (own_still g.S.Shelf c.args.shelf.now c.boot-end.new.shelf c.as_slice.result.now c.boot-end.ensures.kept) c.boot-end.ensures.moments c.boot-end.ensures.end c.in-Adopted.database c.in-Adopted.is)
+returns-in-Adopted-clause-end g c =
+    rw c.booted.ensures (fitting_end g.S.Shelf c.args.shelf.now c.boot-end.new.shelf c.args.host.now c.requires c.boot-end.result c.boot-end.ensures.answer c.boot-end.ensures.kept c.args.begun c.boot-end.ensures.moments c.boot-end.ensures.end c.boot-end.ensures.counted c.in-Adopted.store c.in-Adopted.is c.fitting-database.result c.fitting-database.ensures)
 
 pub returns-in-Empty-clause-end : goal.returns-in-Empty-clause-end
-returns-in-Empty-clause-end g c = rw c.booted-in-Empty.ensures (none_all c.args.host.now (g.S.Shelf.sizes c.args.shelf.now) c.requires c.place_at.result c.place_at.ensures c.as_slice.result.now c.as_slice.ensures (DriveFailures g.S.Shelf c.args.shelf.now c.boot-end.new.shelf) (made_of g.S.Shelf c.args.shelf.now c.boot-end.new.shelf) c.boot-end.result c.args.begun _ _ c.boot-end.ensures.answer (own_still g.S.Shelf c.args.shelf.now c.boot-end.new.shelf c.as_slice.result.now c.boot-end.ensures.kept) c.boot-end.ensures.moments c.boot-end.ensures.end c.in-Empty.is)
+returns-in-Empty-clause-end g c =
+    rw c.booted-in-Empty.ensures (empty_end g.S.Shelf c.args.shelf.now c.boot-end.new.shelf c.args.host.now c.requires c.boot-end.result c.boot-end.ensures.answer c.boot-end.ensures.kept c.args.begun c.boot-end.ensures.moments c.boot-end.ensures.end c.boot-end.ensures.counted c.in-Empty.is)
+
+pub returns-in-TwoDatabases-clause-end : goal.returns-in-TwoDatabases-clause-end
+returns-in-TwoDatabases-clause-end g c =
+    over_end g.S.Shelf c.args.shelf.now c.boot-end.new.shelf c.args.host.now c.requires c.boot-end.result c.boot-end.ensures.answer c.boot-end.ensures.kept c.args.begun c.boot-end.ensures.moments c.boot-end.ensures.end c.boot-end.ensures.counted (ended.TwoDatabases c.in-TwoDatabases.a c.in-TwoDatabases.b) (ap answered_by c.in-TwoDatabases.is)
+
+pub returns-in-NoQuorum-clause-end : goal.returns-in-NoQuorum-clause-end
+returns-in-NoQuorum-clause-end g c =
+    over_end g.S.Shelf c.args.shelf.now c.boot-end.new.shelf c.args.host.now c.requires c.boot-end.result c.boot-end.ensures.answer c.boot-end.ensures.kept c.args.begun c.boot-end.ensures.moments c.boot-end.ensures.end c.boot-end.ensures.counted (ended.NoQuorum c.in-NoQuorum.readable c.in-NoQuorum.needed) (ap answered_by c.in-NoQuorum.is)
 
 pub returns-in-Lost-clause-end : goal.returns-in-Lost-clause-end
-returns-in-Lost-clause-end g c = lost_all c.args.host.now (g.S.Shelf.sizes c.args.shelf.now) c.requires c.place_at.result c.place_at.ensures c.as_slice.result.now c.as_slice.ensures (DriveFailures g.S.Shelf c.args.shelf.now c.boot-end.new.shelf) (made_of g.S.Shelf c.args.shelf.now c.boot-end.new.shelf) c.boot-end.result c.args.begun _ _ c.boot-end.ensures.answer (own_still g.S.Shelf c.args.shelf.now c.boot-end.new.shelf c.as_slice.result.now c.boot-end.ensures.kept) c.boot-end.ensures.moments c.boot-end.ensures.end c.in-Lost.is
+returns-in-Lost-clause-end g c =
+    over_end g.S.Shelf c.args.shelf.now c.boot-end.new.shelf c.args.host.now c.requires c.boot-end.result c.boot-end.ensures.answer c.boot-end.ensures.kept c.args.begun c.boot-end.ensures.moments c.boot-end.ensures.end c.boot-end.ensures.counted (ended.Lost c.in-Lost.active c.in-Lost.listed) (ap answered_by c.in-Lost.is)
 
 pub returns-in-Spent-clause-end : goal.returns-in-Spent-clause-end
-returns-in-Spent-clause-end g c = spent_all c.args.host.now (g.S.Shelf.sizes c.args.shelf.now) c.requires c.place_at.result c.place_at.ensures c.as_slice.result.now c.as_slice.ensures (DriveFailures g.S.Shelf c.args.shelf.now c.boot-end.new.shelf) (made_of g.S.Shelf c.args.shelf.now c.boot-end.new.shelf) c.boot-end.result c.args.begun _ _ c.boot-end.ensures.answer (own_still g.S.Shelf c.args.shelf.now c.boot-end.new.shelf c.as_slice.result.now c.boot-end.ensures.kept) c.boot-end.ensures.moments c.boot-end.ensures.end c.in-Spent.is
+returns-in-Spent-clause-end g c =
+    over_end g.S.Shelf c.args.shelf.now c.boot-end.new.shelf c.args.host.now c.requires c.boot-end.result c.boot-end.ensures.answer c.boot-end.ensures.kept c.args.begun c.boot-end.ensures.moments c.boot-end.ensures.end c.boot-end.ensures.counted ended.Spent (ap answered_by c.in-Spent.is)
 
 pub returns-in-Memory-clause-end : goal.returns-in-Memory-clause-end
-returns-in-Memory-clause-end g c = wanting_all c.args.host.now (g.S.Shelf.sizes c.args.shelf.now) c.requires c.place_at.result c.place_at.ensures c.as_slice.result.now c.as_slice.ensures (DriveFailures g.S.Shelf c.args.shelf.now c.boot-end.new.shelf) (made_of g.S.Shelf c.args.shelf.now c.boot-end.new.shelf) c.boot-end.result c.args.begun _ _ c.boot-end.ensures.answer (own_still g.S.Shelf c.args.shelf.now c.boot-end.new.shelf c.as_slice.result.now c.boot-end.ensures.kept) c.boot-end.ensures.moments c.boot-end.ensures.end c.in-Memory.is
+returns-in-Memory-clause-end g c =
+    over_end g.S.Shelf c.args.shelf.now c.boot-end.new.shelf c.args.host.now c.requires c.boot-end.result c.boot-end.ensures.answer c.boot-end.ensures.kept c.args.begun c.boot-end.ensures.moments c.boot-end.ensures.end c.boot-end.ensures.counted ended.Memory (ap answered_by c.in-Memory.is)
 
--- by which calls it came to its answer
 pub returns-in-Adopted-clause-answer : goal.returns-in-Adopted-clause-answer
-returns-in-Adopted-clause-answer g c = rw c.booted.ensures (record {
-  cause = adopted_cause c.args.host.now (g.S.Shelf.sizes c.args.shelf.now) c.requires c.place_at.result c.place_at.ensures c.as_slice.result.now c.as_slice.ensures (DriveFailures g.S.Shelf c.args.shelf.now c.boot-end.new.shelf) (made_of g.S.Shelf c.args.shelf.now c.boot-end.new.shelf) c.boot-end.result c.args.begun _ _ c.boot-end.ensures.answer (own_still g.S.Shelf c.args.shelf.now c.boot-end.new.shelf c.as_slice.result.now c.boot-end.ensures.kept) c.boot-end.ensures.moments c.boot-end.ensures.end c.in-Adopted.database c.in-Adopted.is;
-  well = (table_well c.args.host.now (g.S.Shelf.sizes c.args.shelf.now) c.requires c.place_at.result c.place_at.ensures c.as_slice.result.now c.as_slice.ensures (DriveFailures g.S.Shelf c.args.shelf.now c.boot-end.new.shelf) (made_of g.S.Shelf c.args.shelf.now c.boot-end.new.shelf) c.boot-end.result c.args.begun _ _ c.boot-end.ensures.answer (own_still g.S.Shelf c.args.shelf.now c.boot-end.new.shelf c.as_slice.result.now c.boot-end.ensures.kept) c.boot-end.ensures.moments c.boot-end.ensures.end c.in-Adopted.database c.in-Adopted.is, refl, refl);
-})
+returns-in-Adopted-clause-answer g c =
+    rw c.booted.ensures (record { cause = fitting_cause g.S.Shelf c.args.shelf.now c.boot-end.new.shelf c.args.host.now c.requires c.boot-end.result c.boot-end.ensures.answer c.boot-end.ensures.kept c.args.begun c.boot-end.ensures.moments c.boot-end.ensures.end c.boot-end.ensures.counted c.in-Adopted.store c.in-Adopted.is c.fitting-database.result c.fitting-database.ensures; well = (fitting_well g.S.Shelf c.args.shelf.now c.boot-end.new.shelf c.args.host.now c.requires c.boot-end.result c.boot-end.ensures.answer c.boot-end.ensures.kept c.args.begun c.boot-end.ensures.moments c.boot-end.ensures.end c.boot-end.ensures.counted c.in-Adopted.store c.in-Adopted.is c.fitting-database.result c.fitting-database.ensures, refl, refl) })
 
 pub returns-in-Empty-clause-answer : goal.returns-in-Empty-clause-answer
-returns-in-Empty-clause-answer g c = rw c.booted-in-Empty.ensures (record {
-  cause = none_cause c.args.host.now (g.S.Shelf.sizes c.args.shelf.now) c.requires c.place_at.result c.place_at.ensures c.as_slice.result.now c.as_slice.ensures (DriveFailures g.S.Shelf c.args.shelf.now c.boot-end.new.shelf) (made_of g.S.Shelf c.args.shelf.now c.boot-end.new.shelf) c.boot-end.result c.args.begun _ _ c.boot-end.ensures.answer (own_still g.S.Shelf c.args.shelf.now c.boot-end.new.shelf c.as_slice.result.now c.boot-end.ensures.kept) c.boot-end.ensures.moments c.boot-end.ensures.end;
-  well = (record { table = tt }, refl, refl);
-})
+returns-in-Empty-clause-answer g c =
+    rw c.booted-in-Empty.ensures (record { cause = empty_cause g.S.Shelf c.args.shelf.now c.boot-end.new.shelf c.args.host.now c.requires c.boot-end.result c.boot-end.ensures.answer c.boot-end.ensures.kept c.args.begun c.in-Empty.is; well = (record { database = tt }, refl, refl) })
+
+pub returns-in-TwoDatabases-clause-answer : goal.returns-in-TwoDatabases-clause-answer
+returns-in-TwoDatabases-clause-answer g c =
+    record { cause = two_cause g.S.Shelf c.args.shelf.now c.boot-end.new.shelf c.args.host.now c.requires c.boot-end.result c.boot-end.ensures.answer c.boot-end.ensures.kept c.args.begun c.in-TwoDatabases.a c.in-TwoDatabases.b c.in-TwoDatabases.is; well = tt }
+
+pub returns-in-NoQuorum-clause-answer : goal.returns-in-NoQuorum-clause-answer
+returns-in-NoQuorum-clause-answer g c =
+    record { cause = short_cause g.S.Shelf c.args.shelf.now c.boot-end.new.shelf c.args.host.now c.requires c.boot-end.result c.boot-end.ensures.answer c.boot-end.ensures.kept c.args.begun c.in-NoQuorum.readable c.in-NoQuorum.needed c.in-NoQuorum.is; well = tt }
 
 pub returns-in-Lost-clause-answer : goal.returns-in-Lost-clause-answer
-returns-in-Lost-clause-answer g c = record { cause = lost_cause c.args.host.now (g.S.Shelf.sizes c.args.shelf.now) c.requires c.place_at.result c.place_at.ensures c.as_slice.result.now c.as_slice.ensures (DriveFailures g.S.Shelf c.args.shelf.now c.boot-end.new.shelf) (made_of g.S.Shelf c.args.shelf.now c.boot-end.new.shelf) c.boot-end.result c.args.begun _ _ c.boot-end.ensures.answer (own_still g.S.Shelf c.args.shelf.now c.boot-end.new.shelf c.as_slice.result.now c.boot-end.ensures.kept) c.boot-end.ensures.moments c.boot-end.ensures.end c.in-Lost.is; well = tt }
+returns-in-Lost-clause-answer g c =
+    record { cause = lost_cause g.S.Shelf c.args.shelf.now c.boot-end.new.shelf c.args.host.now c.requires c.boot-end.result c.boot-end.ensures.answer c.boot-end.ensures.kept c.args.begun c.in-Lost.active c.in-Lost.listed c.in-Lost.is; well = tt }
 
 pub returns-in-Spent-clause-answer : goal.returns-in-Spent-clause-answer
-returns-in-Spent-clause-answer g c = record { cause = spent_cause c.args.host.now (g.S.Shelf.sizes c.args.shelf.now) c.requires c.place_at.result c.place_at.ensures c.as_slice.result.now c.as_slice.ensures (DriveFailures g.S.Shelf c.args.shelf.now c.boot-end.new.shelf) (made_of g.S.Shelf c.args.shelf.now c.boot-end.new.shelf) c.boot-end.result c.args.begun _ _ c.boot-end.ensures.answer (own_still g.S.Shelf c.args.shelf.now c.boot-end.new.shelf c.as_slice.result.now c.boot-end.ensures.kept) c.boot-end.ensures.moments c.boot-end.ensures.end c.in-Spent.is; well = tt }
+returns-in-Spent-clause-answer g c =
+    record { cause = spent_cause g.S.Shelf c.args.shelf.now c.boot-end.new.shelf c.args.host.now c.requires c.boot-end.result c.boot-end.ensures.answer c.boot-end.ensures.kept c.args.begun c.in-Spent.is; well = tt }
 
 pub returns-in-Memory-clause-answer : goal.returns-in-Memory-clause-answer
-returns-in-Memory-clause-answer g c = record { cause = wanting_cause c.args.host.now (g.S.Shelf.sizes c.args.shelf.now) c.requires c.place_at.result c.place_at.ensures c.as_slice.result.now c.as_slice.ensures (DriveFailures g.S.Shelf c.args.shelf.now c.boot-end.new.shelf) (made_of g.S.Shelf c.args.shelf.now c.boot-end.new.shelf) c.boot-end.result c.args.begun _ _ c.boot-end.ensures.answer (own_still g.S.Shelf c.args.shelf.now c.boot-end.new.shelf c.as_slice.result.now c.boot-end.ensures.kept) c.boot-end.ensures.moments c.boot-end.ensures.end c.in-Memory.is; well = tt }
+returns-in-Memory-clause-answer g c =
+    record { cause = wanting_cause g.S.Shelf c.args.shelf.now c.boot-end.new.shelf c.args.host.now c.requires c.boot-end.result c.boot-end.ensures.answer c.boot-end.ensures.kept c.args.begun c.in-Memory.is; well = tt }
+
+pub returns-in-Adopted-clause-counted : goal.returns-in-Adopted-clause-counted
+returns-in-Adopted-clause-counted g c =
+    rw c.booted.ensures (fitting_counted g.S.Shelf c.args.shelf.now c.boot-end.new.shelf c.args.host.now c.requires c.boot-end.result c.boot-end.ensures.answer c.boot-end.ensures.kept c.args.begun c.boot-end.ensures.moments c.boot-end.ensures.end c.boot-end.ensures.counted c.in-Adopted.store c.in-Adopted.is c.fitting-database.result c.fitting-database.ensures)
+
+pub returns-in-Empty-clause-counted : goal.returns-in-Empty-clause-counted
+returns-in-Empty-clause-counted g c =
+    rw c.booted-in-Empty.ensures (empty_counted g.S.Shelf c.args.shelf.now c.boot-end.new.shelf c.args.host.now c.requires c.boot-end.result c.boot-end.ensures.answer c.boot-end.ensures.kept c.args.begun c.boot-end.ensures.moments c.boot-end.ensures.end c.boot-end.ensures.counted c.in-Empty.is)
+
+pub returns-in-TwoDatabases-clause-counted : goal.returns-in-TwoDatabases-clause-counted
+returns-in-TwoDatabases-clause-counted g c =
+    over_counted g.S.Shelf c.args.shelf.now c.boot-end.new.shelf c.args.host.now c.requires c.boot-end.result c.boot-end.ensures.answer c.boot-end.ensures.kept c.args.begun c.boot-end.ensures.moments c.boot-end.ensures.end c.boot-end.ensures.counted (ended.TwoDatabases c.in-TwoDatabases.a c.in-TwoDatabases.b) _
+
+pub returns-in-NoQuorum-clause-counted : goal.returns-in-NoQuorum-clause-counted
+returns-in-NoQuorum-clause-counted g c =
+    over_counted g.S.Shelf c.args.shelf.now c.boot-end.new.shelf c.args.host.now c.requires c.boot-end.result c.boot-end.ensures.answer c.boot-end.ensures.kept c.args.begun c.boot-end.ensures.moments c.boot-end.ensures.end c.boot-end.ensures.counted (ended.NoQuorum c.in-NoQuorum.readable c.in-NoQuorum.needed) _
+
+pub returns-in-Lost-clause-counted : goal.returns-in-Lost-clause-counted
+returns-in-Lost-clause-counted g c =
+    over_counted g.S.Shelf c.args.shelf.now c.boot-end.new.shelf c.args.host.now c.requires c.boot-end.result c.boot-end.ensures.answer c.boot-end.ensures.kept c.args.begun c.boot-end.ensures.moments c.boot-end.ensures.end c.boot-end.ensures.counted (ended.Lost c.in-Lost.active c.in-Lost.listed) _
+
+pub returns-in-Spent-clause-counted : goal.returns-in-Spent-clause-counted
+returns-in-Spent-clause-counted g c =
+    over_counted g.S.Shelf c.args.shelf.now c.boot-end.new.shelf c.args.host.now c.requires c.boot-end.result c.boot-end.ensures.answer c.boot-end.ensures.kept c.args.begun c.boot-end.ensures.moments c.boot-end.ensures.end c.boot-end.ensures.counted ended.Spent _
+
+pub returns-in-Memory-clause-counted : goal.returns-in-Memory-clause-counted
+returns-in-Memory-clause-counted g c =
+    over_counted g.S.Shelf c.args.shelf.now c.boot-end.new.shelf c.args.host.now c.requires c.boot-end.result c.boot-end.ensures.answer c.boot-end.ensures.kept c.args.begun c.boot-end.ensures.moments c.boot-end.ensures.end c.boot-end.ensures.counted ended.Memory _

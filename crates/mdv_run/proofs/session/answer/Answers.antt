@@ -1,4 +1,4 @@
-use Rattle.mdv_run.proofs.Counting.{refused_calls, spelled_calls, text_some}
+use Rattle.mdv_run.proofs.Counting.{exec_calls, refused_calls, spelled_calls, text_some}
 use Rattle.mdv_shelf.specs.Calls.{RoseByAtMost}
 use Rattle.mdv_shelf.proofs.Counts.{rose_at_most}
 use Rattle.mdv_shelf.specs.Made.{made_of}
@@ -6,7 +6,7 @@ use Rattle.mdv_shelf.proofs.Between.{between_of}
 use Rattle.mdv_engine_law.specs.declared.answer.Outcome.TheVariants as outcome
 use Rattle.std.proofs.Common.{ℕ, ◌≤◌, ◌+◌, refl, inl, inr, ap, subst, sym, arith}
 use Rattle.mdv_engine_law.specs.Line.{Nothing}
-use Rattle.mdv_run.specs.Below.{line, Ends, IsWell, OnReplies, Boot, IsLine, asked_by, IsAnswered, Knows, TellsFront, TurnMoment, Engine, LinesMoment}
+use Rattle.mdv_run.specs.Below.{line, Ends, IsWell, OnReplies, Boot, IsLine, IsLostOnSite, asked_by, IsAnswered, Knows, TellsFront, TurnMoment, Engine, LinesMoment}
 use Rattle.mdv_words.specs.Line as words
 use Rattle.mdv_run_law.specs.Run.{IsNoCommand}
 use Rattle.mdv_words.proofs.Form.{commands_are_in_form}
@@ -27,10 +27,9 @@ use Rattle.mdv_run.proofs.Fronts.{AnswerFront, LineFront, front_of, only_refused
 use Rattle.mdv_engine.specs.Ends.{CarriesOut, OnlyAnswers}
 use Rattle.mdv_engine.specs.Tab.{KeepsLines}
 use Rattle.mdv_engine.proofs.Entering.{kept_begun, kept_host, kept_well}
-use Rattle.mdv_engine_law.specs.Commands.{MayLose, MaySpend, blamed}
-use Rattle.mdv_engine_law.specs.Line.{home_calls}
-use Rattle.mdv_engine_law.proofs.Widening.{lose_home}
-use Rattle.mdv_run.proofs.Answering.{asks_none, command_works, stays_as, uncut_replied, command_reply, told_reply, no_boot, line_executed, refused_turned, refused_down, refused_keeps, refused_knows, turn_home, turn_writes}
+use Rattle.mdv_engine.proofs.Counting.{not_lost}
+use Rattle.mdv_engine_law.specs.Commands.{MaySpend, blame_of}
+use Rattle.mdv_run.proofs.Answering.{command_reads, said_reads, asks_none, command_works, stays_as, uncut_replied, command_reply, told_reply, no_boot, line_executed, refused_turned, refused_down, refused_keeps, refused_knows, turn_home, turn_writes}
 use Rattle.mdv_run.proofs.session.answer.Goals as goal
 
 pub exec-requires-clause-form : goal.exec-requires-clause-form
@@ -66,7 +65,7 @@ returns-in-Ok-Command-clause-end g c = λ t told.
       end.1,
       record {
         answered = λ knows. line_executed c.args.line.now (words.Exec command) is outcomes replies made host old new c.exec.result t end.0 (end.2.answered knows) (turn_writes host (asked_by host command) old _ _ c.exec.ensures.moments.each t end.0 told end.1)
-            end.2.quiet (λ ok other same. subst (λ (x : Command). LeavesDone host old x end.0) (cc (same)) (end.2.done ok)) (λ ok same. absurd (cc (same)));
+            end.2.quiet (λ reads. absurd (command_reads _ _ _ c.exec.result c.exec.ensures.answer.cause reads)) (λ ok other same. subst (λ (x : Command). LeavesDone host old x end.0) (cc (same)) (end.2.done ok)) (λ ok same. absurd (cc (same)));
         ran = λ on more. line_ran host c.args.line.now (asked_by host command) more old new t end.0 (end.2.turned on) (turn_home host (asked_by host command) old _ _ c.exec.ensures.moments.each t end.0 told end.1) (inl (inr (words.Exec command, is, refl))) (inl (no_boot c.args.line.now (words.Exec command) is (λ same. cc (same))))
             (λ knows. command_entries outcomes replies made host old new c.exec.result t end.0 c.args.line.now (end.2.turned on).bytes (end.2.turned on).is_told command is (end.2.answered knows) on);
         knows = end.2.knows;
@@ -91,13 +90,14 @@ returns-in-Ok-Command-clause-answer g c = record {
   cause =
       let calls = DriveFailures g.B.Shelf c.args.bench.now c.exec.new.bench in
       let host = c.args.engine.now.host in
-      command_reply (blamed calls host c.args.engine.now.state c.in-Ok-Command.command) (MayLose calls host c.in-Ok-Command.command) (MaySpend c.in-Ok-Command.command) (home_calls host calls).some _ (lose_home calls host c.in-Ok-Command.command) c.exec.result c.exec.ensures.answer.cause;
+      command_reply (blame_of calls host c.args.engine.now.state c.in-Ok-Command.command) (IsLostOnSite calls host) (MaySpend c.in-Ok-Command.command) _ c.exec.result c.exec.ensures.answer.lost c.exec.ensures.answer.cause;
   same = c.exec.ensures.answer.host;
-  well = c.exec.ensures.answer.well;
+  well = λ on. c.exec.ensures.answer.well (not_lost c.exec.result on);
   begun = c.exec.ensures.answer.begun;
   counted = λ n calls.
       let is : IsLine c.args.line.now (words.Exec c.in-Ok-Command.command) = rw c.in-Ok-Command.field-0-is at c.in-Ok-Command.ensures.value in
-      subst (λ (k : ℕ). RoseByAtMost k (g.B.Shelf.calls c.args.bench.now) (g.B.Shelf.calls c.exec.new.bench)) (sym (spelled_calls c.args.engine.now.host c.args.line.now (words.Exec c.in-Ok-Command.command) is n calls)) c.exec.ensures.counted.most.in_calls;
+      subst (λ (k : ℕ). RoseByAtMost k (g.B.Shelf.calls c.args.bench.now) (g.B.Shelf.calls c.exec.new.bench)) (sym (spelled_calls c.args.engine.now.host c.args.line.now (words.Exec c.in-Ok-Command.command) is n calls))
+      (exec_calls c.args.engine.now.host c.args.engine.now.state c.requires.well c.in-Ok-Command.command _ _ c.exec.ensures.counted.most.at_most.in_calls);
 }
 
 -- a block of entries
@@ -123,7 +123,7 @@ returns-in-Ok-Tab-clause-end g c = λ t told.
       end.0,
       end.1,
       record {
-        answered = λ knows. line_executed c.args.line.now (words.Tab lines) is outcomes replies made host old new c.keep_tab.result t end.0 end.2.answered end.2.kept (λ quiet. end.2.kept) (λ ok command same. absurd (cc (same))) (λ ok same. absurd (cc (same)));
+        answered = λ knows. line_executed c.args.line.now (words.Tab lines) is outcomes replies made host old new c.keep_tab.result t end.0 end.2.answered end.2.kept (λ quiet. end.2.kept) (λ reads. absurd (said_reads _ c.keep_tab.ensures.answer.said c.keep_tab.result c.keep_tab.ensures.answer.cause reads)) (λ ok command same. absurd (cc (same))) (λ ok same. absurd (cc (same)));
         ran = λ on more. line_ran host c.args.line.now Nothing more old new t end.0 (end.2.turned on) (stays_still host t end.0 end.2.kept) (inl (inr (words.Tab lines, is, refl))) (inl (no_boot c.args.line.now (words.Tab lines) is (λ same. cc (same))))
             (λ knows. tab_entries outcomes replies made host old new c.keep_tab.result t end.0 c.args.line.now (end.2.turned on).bytes (end.2.turned on).is_told lines is end.2.answered on);
         knows = λ kept. end.2.knows;
@@ -147,7 +147,7 @@ pub returns-in-Ok-Tab-clause-answer : goal.returns-in-Ok-Tab-clause-answer
 returns-in-Ok-Tab-clause-answer g c = record {
   cause = told_reply _ _ c.keep_tab.ensures.answer.said c.keep_tab.result c.keep_tab.ensures.answer.cause;
   same = kept_host c.in-Ok-Tab.lines.now c.args.engine.now c.keep_tab.new.self c.keep_tab.ensures.answer.said c.keep_tab.ensures.answer.kept;
-  well = kept_well c.in-Ok-Tab.lines.now c.args.engine.now c.keep_tab.new.self c.keep_tab.ensures.answer.said c.keep_tab.ensures.answer.kept c.requires.well;
+  well = λ on. kept_well c.in-Ok-Tab.lines.now c.args.engine.now c.keep_tab.new.self c.keep_tab.ensures.answer.said c.keep_tab.ensures.answer.kept c.requires.well;
   begun = kept_begun c.in-Ok-Tab.lines.now c.args.engine.now c.keep_tab.new.self c.keep_tab.ensures.answer.said c.keep_tab.ensures.answer.kept;
   counted = λ n calls.
       let is : IsLine c.args.line.now (words.Tab c.in-Ok-Tab.lines.now) = rw c.in-Ok-Tab.field-0-is at c.in-Ok-Tab.ensures.value in
@@ -177,7 +177,7 @@ returns-in-Err-BadLine-clause-end g c =
       end.0,
       end.1,
       record {
-        answered = λ knows. record { answer = refusing BadLine; done = inl (never, c.refuse.ensures.answer.calm, refused_down host old BadLine bad_line_plain replies c.refuse.result t end.0 end.2); calls = inl (never, between_of g.B.Shelf.calls g.B.Shelf.written _ _ 1 0 1 1 0 (omega arith) (omega arith) (omega arith) c.refuse.ensures.counted.once); writes = inl end.2.kept; unwritten = λ on quiet. end.2.kept; leaves = λ on ok. absurd (cc (ok)); replied = end.2.replied };
+        answered = λ knows. record { answer = refusing BadLine; done = inl (never, c.refuse.ensures.answer.calm, refused_down host old BadLine bad_line_plain replies c.refuse.result t end.0 end.2); calls = inl (never, between_of g.B.Shelf.calls g.B.Shelf.written _ _ 1 0 1 1 0 (omega arith) (omega arith) (omega arith) c.refuse.ensures.counted.once); writes = inl end.2.kept; unwritten = λ on quiet. end.2.kept; unread = λ reads. absurd reads; leaves = λ on ok. absurd (cc (ok)); replied = end.2.replied };
         ran = λ on more. line_ran host c.args.line.now Nothing more old old t end.0 (refused_turned host old BadLine bad_line_plain replies c.refuse.result t end.0 end.2 Nothing on) (stays_still host t end.0 end.2.kept) (inl (inl (never, refl))) (inl (never Boot)) (λ knows. refused_keeps host old BadLine bad_line_plain replies c.refuse.result t end.0 end.2 c.args.line.now Nothing on);
         knows = λ kept. refused_knows host old BadLine bad_line_plain replies c.refuse.result t end.0 end.2;
       },
@@ -200,7 +200,7 @@ pub returns-in-Err-BadLine-clause-answer : goal.returns-in-Err-BadLine-clause-an
 returns-in-Err-BadLine-clause-answer g c = record {
   cause = told_reply _ _ (outcome.Refused BadLine) c.refuse.result c.refuse.ensures.answer.cause;
   same = ap (λ (e : Engine). e.host) c.refuse.ensures.answer.same;
-  well = subst (λ (e : Engine). IsWell c.args.engine.now.host e.state) (sym c.refuse.ensures.answer.same) c.requires.well;
+  well = λ on. subst (λ (e : Engine). IsWell c.args.engine.now.host e.state) (sym c.refuse.ensures.answer.same) c.requires.well;
   begun = subst (λ (e : Engine). e.state.begun ≤ c.args.engine.now.state.begun + 1) (sym c.refuse.ensures.answer.same) (omega arith);
   counted = λ n calls.
       subst (λ (k : ℕ). RoseByAtMost k (g.B.Shelf.calls c.args.bench.now) (g.B.Shelf.calls c.refuse.new.bench)) (sym (refused_calls c.args.engine.now.host c.args.line.now (rw c.in-Err-BadLine.field-0-is at c.in-Err-BadLine.ensures.fault) n calls))

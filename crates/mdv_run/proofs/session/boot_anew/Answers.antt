@@ -1,14 +1,13 @@
-use Rattle.mdv_run.proofs.Counting.{boot_calls, opened_took, over_calls}
-use Rattle.mdv_run.specs.Calls.{OpenedTook}
+use Rattle.mdv_run.proofs.Counting.{accepted_calls, over_calls}
+use Rattle.mdv_run.proofs.Whole.{ended_unread}
 use Rattle.mdv_engine_law.specs.declared.answer.Outcome.TheVariants as outcome
 use Rattle.std.proofs.Common.{◌≡◌, ◌≤◌, ◌+◌, ℕ, List, [], inl, inr, Option, refl, sym, ◌∙◌, ap, subst, arith}
 use Rattle.mdv_engine_law.specs.Line.{Nothing, ToBoot}
 use Rattle.std.proofs.lemmas.List.{append-nil}
 use Rattle.mdv_shelf.specs.Shelves.{DriveFailures, GivingFailed}
-use Rattle.mdv_run.specs.Below.{IsLine, LinesMoment, Memory, Script, line, OnReplies, Moments, Ends, told, Boot, Host, StaysHome, BootMoment, BootedTo, TurnMoment, Engine, IsWell, Knows, IsRebooted, Tale, kept_at}
+use Rattle.mdv_run.specs.Below.{IsLine, LinesMoment, Memory, Script, line, OnReplies, Moments, Ends, told, Boot, Host, StaysHome, BootMoment, BootedTo, TurnMoment, Engine, IsLostOnSite, IsWell, Knows, IsRebooted, Tale, kept_at, site_area}
 use Rattle.mdv_run.specs.Promise.{IsWorkOf, LineEnd}
-use Rattle.mdv_engine_law.specs.Line.{home_calls}
-use Rattle.mdv_run.proofs.Answering.{loud_ok, same_within, uncut_replied, line_executed, accepted_ok, accepted_turned, ended_reply, reply_more, told_reply, turn_writes}
+use Rattle.mdv_run.proofs.Answering.{said_reads, loud_ok, same_within, uncut_replied, line_executed, accepted_ok, accepted_turned, ended_reply, reply_more, told_reply, turn_writes}
 use Rattle.std.specs.Option.{option_map}
 use Rattle.mdv_shelf.specs.Shelves.{AtEachMoment}
 use Rattle.mdv_shelf.specs.Story.{OfTales, Story, tale_of}
@@ -27,9 +26,7 @@ use Rattle.mdv_shelf.specs.Made.{and_more, made_of}
 use Rattle.mdv_shelf.proofs.Made.{with_more}
 use Rattle.mdv_shelf.proofs.Settled.{synced_still}
 use Rattle.mdv_engine_law.specs.Line.{contents}
-use Rattle.mdv_engine_law.specs.Home.{site_of}
 use Rattle.mdv_shelf.specs.Area.{KeptOutside}
-use Rattle.mdv_store_law.specs.Site.{area_of}
 use Rattle.mdv_engine_law.proofs.Efforts.{boot_too}
 use Rattle.mdv_engine_law.proofs.Knowing.{knows_kept}
 use Rattle.mdv_engine_law.proofs.Staying.{both_stay, boot_stays, stays_still, turn_stays}
@@ -43,18 +40,18 @@ abbrev BootWorks : Engine → Tale → Tale → Type 0
 BootWorks engine s m = (text : List ℕ) → IsLine text Boot → IsWorkOf engine text s m
 
 -- a boot, and then the telling of it
-module _ (host other : Host) (same : other ≡ host) (old new : Memory) (a b c : Option Tale) (boots : Moments (BootMoment host) a b) (booted : Ends (BootedTo host new) a b) (turns : Moments (TurnMoment other Nothing new) b c) where
+module _ (host other : Host) (same : other ≡ host) (old new : Memory) (begun : new.begun ≡ old.begun) (a b c : Option Tale) (boots : Moments (BootMoment host) a b) (booted : Ends (BootedTo host new) a b) (turns : Moments (TurnMoment other Nothing new) b c) where
   both_turns : Moments (TurnMoment host ToBoot old) a c
   both_turns = moments_after (BootMoment host) (BootedTo host new) (TurnMoment other Nothing new) (TurnMoment host ToBoot old) a b c (λ t m moment. boot_turn host old t m moment)
-      (λ t u m up turn. booted_turn host old new t u up m (subst (λ (h : Host). TurnMoment h Nothing new u m) same turn)) boots booted turns
+      (λ t u m up turn. booted_turn host old new t u up begun m (subst (λ (h : Host). TurnMoment h Nothing new u m) same turn)) boots booted turns
 
   both_lines : (text : List ℕ) (more : Script) → IsLine text Boot → Moments (LinesMoment host (line text more) old) a c
   both_lines text more is = moments_after (BootMoment host) (BootedTo host new) (TurnMoment other Nothing new) (LinesMoment host (line text more) old) a b c (λ t m moment. boot_line host text more is old t m moment)
-      (λ t u m up turn. booted_line host old new t u up text more is m (subst (λ (h : Host). TurnMoment h Nothing new u m) same turn)) boots booted turns
+      (λ t u m up turn. booted_line host old new t u up begun text more is m (subst (λ (h : Host). TurnMoment h Nothing new u m) same turn)) boots booted turns
 
 pub returns-in-Ok-clause-moments : goal.returns-in-Ok-clause-moments
 returns-in-Ok-clause-moments g c = λ text more is.
-    both_lines c.args.engine.now.host c.reboot.new.self.host c.in-Ok.ensures.answer.host c.args.engine.now.state c.reboot.new.self.state _ _ _ c.reboot.ensures.moments
+    both_lines c.args.engine.now.host c.reboot.new.self.host c.in-Ok.ensures.answer.host c.args.engine.now.state c.reboot.new.self.state c.in-Ok.ensures.answer.begun _ _ _ c.reboot.ensures.moments
     (λ t start. (let up = c.in-Ok.ensures.end t start in (up.0, up.1, up.2.booted refl))) c.accept.ensures.moments.each text more is
 
 pub returns-in-Ok-clause-end : goal.returns-in-Ok-clause-end
@@ -76,13 +73,13 @@ returns-in-Ok-clause-end g c = λ text boots.
         answered = λ knows. line_executed text Boot boots outcomes replies made host old new c.accept.result t end.0
             (executed _ _ _ _ made host Boot old new accepted c.accept.result t up.0 end.0
             (λ drive. within_calm _ _ _ (c.accept.ensures.answer.calm drive))
-            (calm_before _ _ _ (c.reboot.ensures.kept.others OnReplies (replies_apart c.args.engine.now.host.own))).some
+            (calm_before _ _ _ (c.reboot.ensures.kept.others OnReplies (replies_apart c.args.engine.now.host.site.drives))).some
             (ap told (some_is _ up.0 quiet.0 up.1 quiet.1) ∙ quiet.2.quiet) up.2.rebooted end.2
             (boot_too (DriveFailures g.B.Shelf c.args.bench.now c.reboot.new.shelf) (DriveFailures g.B.Shelf c.args.bench.now c.reboot.new.shelf) (same_within (DriveFailures g.B.Shelf c.args.bench.now c.reboot.new.shelf)) (made_of g.B.Shelf c.args.bench.now c.reboot.new.shelf) (and_more 1 made) (with_more g.B.Shelf.calls g.B.Shelf.written _ _ _ 1 c.accept.ensures.counted.once) host accepted new (contents t) up.2.effort))
-            (turn_writes host ToBoot old _ _ (both_turns host c.reboot.new.self.host c.in-Ok.ensures.answer.host old new _ _ _ c.reboot.ensures.moments (λ s start. (let there = c.in-Ok.ensures.end s start in (there.0, there.1, there.2.booted refl))) c.accept.ensures.moments.each) t end.0 is end.1)
-            (λ quiet. absurd (loud_ok _ c.accept.result c.accept.ensures.answer.cause quiet)) (λ ok command same. absurd (cc (same)))
+            (turn_writes host ToBoot old _ _ (both_turns host c.reboot.new.self.host c.in-Ok.ensures.answer.host old new c.in-Ok.ensures.answer.begun _ _ _ c.reboot.ensures.moments (λ s start. (let there = c.in-Ok.ensures.end s start in (there.0, there.1, there.2.booted refl))) c.accept.ensures.moments.each) t end.0 is end.1)
+            (λ quiet. absurd (loud_ok _ c.accept.result c.accept.ensures.answer.cause quiet)) (λ reads. absurd (said_reads _ outcome.Ok c.accept.result c.accept.ensures.answer.cause reads)) (λ ok command same. absurd (cc (same)))
             (λ ok same drive own calm. synced_still drive.0 up.0 end.0 (λ block. end.2.kept drive.0 block refl) (up.2.synced refl drive own (λ once. calm ((within_calm _ _ _ (c.accept.ensures.answer.calm drive.0)).some once))));
-        ran = λ on more. booted_ran host old new t up.0 (up.2.booted refl) text more boots c.in-Ok.ensures.answer.fresh end.0 (accepted_turned host new _ c.accept.result up.0 end.0 end.2 on) (stays_still host up.0 end.0 end.2.kept) (accepted_ok host new _ c.accept.result up.0 end.0 end.2 on);
+        ran = λ on more. booted_ran host old new t up.0 (up.2.booted refl) c.in-Ok.ensures.answer.begun text more boots c.in-Ok.ensures.answer.fresh end.0 (accepted_turned host new _ c.accept.result up.0 end.0 end.2 on) (stays_still host up.0 end.0 end.2.kept) (accepted_ok host new _ c.accept.result up.0 end.0 end.2 on);
         knows = λ kept known. knows_kept host up.0 end.0 end.2.kept new (up.2.booted refl).knows;
       },
     )))
@@ -95,11 +92,11 @@ returns-in-Ok-clause-stays g c =
     let quiet = moments_weaker (BootMoment host) (λ t m. told m ≡ told t) _ _ (λ t m moment. moment.quiet) c.reboot.ensures.moments in record {
       home = both_stay host _ _ _ (boot_stays host _ _ c.reboot.ensures.moments)
           (subst (λ (h : Host). Moments (StaysHome h) (g.B.Shelf.tale c.reboot.new.shelf) (g.B.Shelf.tale c.accept.new.bench)) c.in-Ok.ensures.answer.host (turn_stays c.reboot.new.self.host Nothing c.reboot.new.self.state _ _ c.accept.ensures.moments.each));
-      given = λ uncut. c.accept.ensures.counted.given (uncut_replied _ outcome.Ok c.accept.result c.accept.ensures.answer.cause uncut) ∙ c.reboot.ensures.kept.others OnReplies (replies_apart c.args.engine.now.host.own);
+      given = λ uncut. c.accept.ensures.counted.given (uncut_replied _ outcome.Ok c.accept.result c.accept.ensures.answer.cause uncut) ∙ c.reboot.ensures.kept.others OnReplies (replies_apart c.args.engine.now.host.site.drives);
       told = λ on. told_behind g.B.Shelf g.met.B.Shelf.telling _ _ _ c.reboot.ensures.kept.goes quiet (c.accept.ensures.counted.told on);
       rests = rests_behind g.B.Shelf g.met.B.Shelf.telling _ _ _ c.reboot.ensures.kept.goes quiet c.accept.ensures.moments.rests;
       writes = moments_weaker (TurnMoment host ToBoot old) (BootWorks c.args.engine.now) _ _ (λ s m turn text boots more. inr (text, more, refl, Boot, boots, turn.within))
-          (both_turns host c.reboot.new.self.host c.in-Ok.ensures.answer.host old new _ _ _ c.reboot.ensures.moments (λ s start. (let there = c.in-Ok.ensures.end s start in (there.0, there.1, there.2.booted refl))) c.accept.ensures.moments.each);
+          (both_turns host c.reboot.new.self.host c.in-Ok.ensures.answer.host old new c.in-Ok.ensures.answer.begun _ _ _ c.reboot.ensures.moments (λ s start. (let there = c.in-Ok.ensures.end s start in (there.0, there.1, there.2.booted refl))) c.accept.ensures.moments.each);
       tells = λ text boots. each_joined (OfTales (λ t m. told m ≡ told t)) (AnswerFront host accepted new) (LineFront host text old) _ _ _ _ _ _
           (λ s u v first mid last turn there ahead m here within knows. inl here)
           (λ s u v first mid last turn m here within ahead knows.
@@ -125,8 +122,9 @@ returns-in-Err-clause-end g c = λ text boots t is.
           done = inr (inl (Boot, boots, done.2.rebooted));
           calls = inr (inl (Boot, boots, done.2.effort));
           unwritten = λ on quiet. absurd quiet;
+          unread = ended_unread c.in-Err.end done.2;
           leaves = λ on ok. absurd (cc (ok));
-          writes = inr (Boot, boots, subst (KeptOutside (area_of (site_of host)) t) (some_is _ quiet.0 done.0 quiet.1 done.1) quiet.2.kept);
+          writes = inr (Boot, boots, subst (KeptOutside (site_area host.site) t) (some_is _ quiet.0 done.0 quiet.1 done.1) quiet.2.kept);
           replied = record { piece = []; is_told = ap told (some_is _ done.0 quiet.0 done.1 quiet.1) ∙ quiet.2.quiet ∙ sym (append-nil (told t)); as_told = (c.reply_at.ensures, refl) };
         };
         ran = λ on more. absurd (never_ended c.in-Err.end (subst IsReplied c.reply_at.ensures on));
@@ -144,7 +142,7 @@ pub returns-in-Err-clause-stays : goal.returns-in-Err-clause-stays
 returns-in-Err-clause-stays g c = record {
   home = boot_stays c.args.engine.now.host _ _ c.reboot.ensures.moments;
   told = λ on. absurd (never_ended c.in-Err.end (subst IsReplied c.reply_at.ensures on));
-  given = λ uncut. c.reboot.ensures.kept.others OnReplies (replies_apart c.args.engine.now.host.own);
+  given = λ uncut. c.reboot.ensures.kept.others OnReplies (replies_apart c.args.engine.now.host.site.drives);
   rests = rests_quiet g.B.Shelf g.met.B.Shelf.telling _ _ c.reboot.ensures.kept.goes (moments_weaker (BootMoment c.args.engine.now.host) (λ t m. told m ≡ told t) _ _ (λ t m moment. moment.quiet) c.reboot.ensures.moments);
   writes = moments_weaker (BootMoment c.args.engine.now.host) (BootWorks c.args.engine.now) _ _ (λ s m moment text boots more. inr (text, more, refl, Boot, boots, moment.kept)) c.reboot.ensures.moments;
   tells = λ text boots. moment_weaker g.B.Shelf (OfTales (λ t m. told m ≡ told t)) (LineFront c.args.engine.now.host text c.args.engine.now.state) _ _ (λ t m up below here known. inl here) (moments_of_tales g.B.Shelf g.met.B.Shelf.telling _ _ (λ t m. told m ≡ told t) c.reboot.ensures.kept.goes
@@ -154,10 +152,10 @@ returns-in-Err-clause-stays g c = record {
 pub returns-in-Err-clause-answer : goal.returns-in-Err-clause-answer
 returns-in-Err-clause-answer g c = record {
   line = record {
-    counted = λ n calls. over_calls g.B.Shelf _ _ c.args.engine.now.host.own c.in-Err.end c.reboot.new.self.state c.in-Err.ensures.counted n calls;
-    cause = subst (HasReplyCause (home_calls c.args.engine.now.host (DriveFailures g.B.Shelf c.args.bench.now c.reboot.new.shelf)).some _) (sym c.reply_at.ensures) (ended_reply c.args.engine.now.host (DriveFailures g.B.Shelf c.args.bench.now c.reboot.new.shelf) _ c.in-Err.end c.in-Err.ensures.answer.cause.cause);
+    counted = λ n calls. over_calls g.B.Shelf c.args.engine.now.host _ _ c.in-Err.end c.reboot.new.self.state c.in-Err.ensures.counted n calls;
+    cause = subst (HasReplyCause (IsLostOnSite (DriveFailures g.B.Shelf c.args.bench.now c.reboot.new.shelf) c.args.engine.now.host) _) (sym c.reply_at.ensures) (ended_reply c.args.engine.now.host (DriveFailures g.B.Shelf c.args.bench.now c.reboot.new.shelf) _ c.in-Err.end c.in-Err.ensures.answer.cause.cause);
     same = c.in-Err.ensures.answer.host;
-    well = c.in-Err.ensures.answer.well;
+    well = λ on. c.in-Err.ensures.answer.well;
     begun = (let same = c.in-Err.ensures.answer.begun in omega arith);
   };
   kept = in_time_of_among c.reboot.ensures.kept;
@@ -166,20 +164,12 @@ returns-in-Err-clause-answer g c = record {
 pub returns-in-Ok-clause-answer : goal.returns-in-Ok-clause-answer
 returns-in-Ok-clause-answer g c = record {
   line = record {
-    counted = λ n calls. boot_calls g.B.Shelf _ _ _ c.args.engine.now.host.own c.reboot.new.self.state c.in-Ok.ensures.counted c.accept.ensures.counted.once n calls;
-    cause = told_reply (home_calls c.args.engine.now.host (DriveFailures g.B.Shelf c.args.bench.now c.accept.new.bench)).some (GivingFailed g.B.Shelf c.args.bench.now c.accept.new.bench) outcome.Ok c.accept.result
-        (reply_more _ _ (calm_before _ _ _ (c.reboot.ensures.kept.others OnReplies (replies_apart c.args.engine.now.host.own))).some outcome.Ok c.accept.result c.accept.ensures.answer.cause);
+    counted = λ n calls. accepted_calls g.B.Shelf c.args.engine.now.host _ _ _ c.reboot.new.self.state c.in-Ok.ensures.counted c.accept.ensures.counted.once n calls;
+    cause = told_reply (IsLostOnSite (DriveFailures g.B.Shelf c.args.bench.now c.accept.new.bench) c.args.engine.now.host) (GivingFailed g.B.Shelf c.args.bench.now c.accept.new.bench) outcome.Ok c.accept.result
+        (reply_more _ _ (calm_before _ _ _ (c.reboot.ensures.kept.others OnReplies (replies_apart c.args.engine.now.host.site.drives))).some outcome.Ok c.accept.result c.accept.ensures.answer.cause);
     same = ap (λ (e : Engine). e.host) c.accept.ensures.answer.same ∙ c.in-Ok.ensures.answer.host;
-    well = subst (λ (e : Engine). IsWell c.args.engine.now.host e.state) (sym c.accept.ensures.answer.same) c.in-Ok.ensures.answer.well;
+    well = λ on. subst (λ (e : Engine). IsWell c.args.engine.now.host e.state) (sym c.accept.ensures.answer.same) c.in-Ok.ensures.answer.well;
     begun = subst (λ (e : Engine). e.state.begun ≤ c.args.engine.now.state.begun + 1) (sym c.accept.ensures.answer.same) (let same = c.in-Ok.ensures.answer.begun in omega arith);
   };
   kept = in_time_replied c.reboot.ensures.kept c.accept.ensures.kept;
 }
-
--- the database that the boot opened is the one that is open, as its calls tell
-pub returns-in-Ok-clause-opens : goal.returns-in-Ok-clause-opens
-returns-in-Ok-clause-opens g c = λ on. subst (λ (e : Engine). OpenedTook c.args.engine.now.host (made_of g.B.Shelf c.args.bench.now c.accept.new.bench) e.state) (sym c.accept.ensures.answer.same)
-    (opened_took g.B.Shelf _ _ _ c.args.engine.now.host c.reboot.new.self.state c.in-Ok.ensures.counted c.accept.ensures.counted.once)
-
-pub returns-in-Err-clause-opens : goal.returns-in-Err-clause-opens
-returns-in-Err-clause-opens g c = λ on. absurd (never_ended c.in-Err.end (subst IsReplied c.reply_at.ensures on))

@@ -50,6 +50,7 @@ returns-clause-end g c = λ lines many.
           calls = inr (inl (words.Tab lines, refl, between_of g.B.Shelf.calls g.B.Shelf.written _ _ 1 0 1 1 0 (omega arith) (omega arith) (omega arith) c.refuse.ensures.counted.once));
           writes = inl end.2.kept;
           unwritten = λ on quiet. end.2.kept;
+          unread = λ reads. absurd reads;
           leaves = λ on ok. absurd (cc (ok));
           replied = end.2.replied;
         };
@@ -74,7 +75,7 @@ pub returns-clause-answer : goal.returns-clause-answer
 returns-clause-answer g c = record {
   cause = told_reply _ _ (outcome.Refused TooMany) c.refuse.result c.refuse.ensures.answer.cause;
   same = ap (λ (e : Engine). e.host) c.refuse.ensures.answer.same;
-  well = subst (λ (e : Engine). IsWell c.args.engine.now.host e.state) (sym c.refuse.ensures.answer.same) c.requires;
+  well = λ on. subst (λ (e : Engine). IsWell c.args.engine.now.host e.state) (sym c.refuse.ensures.answer.same) c.requires;
   begun = subst (λ (e : Engine). e.state.begun ≤ c.args.engine.now.state.begun + 1) (sym c.refuse.ensures.answer.same) (omega arith);
   counted = λ n some. wider (g.B.Shelf.calls c.args.bench.now) (g.B.Shelf.calls c.refuse.new.bench) 1 n some (rose_at_most 1 1 (g.B.Shelf.calls c.args.bench.now) (g.B.Shelf.calls c.refuse.new.bench) (omega arith) c.refuse.ensures.counted.once.in_calls);
 }

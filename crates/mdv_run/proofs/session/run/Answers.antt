@@ -1,13 +1,12 @@
 use Rattle.mdv_run.proofs.Counting.{none_took}
-use Rattle.std.proofs.Common.{◌+◌, ◌*◌, length, ◌≡◌, ◌≢◌, refl, ap, subst, inl, inr, Err}
-use Rattle.mdv_run.specs.Below.{counts, asked_of, HasStatusCause, Host, NoMemory, RunMoment, RunStatus, Usage, host_of}
+use Rattle.std.proofs.Common.{◌+◌, ◌≡◌, ◌≢◌, refl, ap, subst, inl, inr, Err}
+use Rattle.mdv_run.specs.Below.{counts, asked_of, HasStatusCause, Host, NoMemory, RunMoment, RunStatus, Usage, host_of, site_area}
+use Rattle.mdv_run.specs.Calls.{boot_calls}
 use Rattle.mdv_run.specs.Promise.{HasRun, between, by}
 use Rattle.mdv_port.specs.declared.source.Source.{Ghosts as Source}
 use Rattle.mdv_shelf.specs.declared.shelf.Shelf.{Ghosts as Shelf}
 use Rattle.mdv_run.proofs.Fronting.{IsBooting, fronts_quiet}
-use Rattle.mdv_engine_law.specs.Home.{site_of}
 use Rattle.mdv_shelf.proofs.Frame.{kept_outside_same}
-use Rattle.mdv_store_law.specs.Site.{area_of}
 use Rattle.mdv_shelf.proofs.Moments.{moments_none}
 use Rattle.mdv_engine_law.proofs.Kept.{kept_itself}
 use Rattle.mdv_engine_law.proofs.Staying.{nothing_stays}
@@ -25,7 +24,7 @@ never_usage shelf source host old from new to status run known is = elim run.cau
 
 pub run_host-requires : goal.run_host-requires
 run_host-requires g c =
-    ready_host _ _ _ c.args.fresh c.in-Ok.start.drives c.in-Ok.start.own c.in-Ok.start.home c.in-Ok.ensures.value c.ranges.fresh.fits
+    ready_host _ _ _ c.args.fresh c.in-Ok.start.drives c.in-Ok.start.site c.in-Ok.ensures.value c.ranges.fresh.fits
 
 pub returns-in-Ok-clause-usage : goal.returns-in-Ok-clause-usage
 returns-in-Ok-clause-usage g c =
@@ -33,15 +32,15 @@ returns-in-Ok-clause-usage g c =
     record {
       exactly = λ known. (
         λ is. absurd (never_usage g.B.Shelf g.I.Source _ _ _ _ _ _ c.run_host.ensures.has_run known is),
-        λ none. absurd (none start.table c.in-Ok.start.home start.used),
+        λ none. absurd (none start.table start.name start.used),
       );
-      untouched = λ none. absurd (none start.table c.in-Ok.start.home start.used);
+      untouched = λ none. absurd (none start.table start.name start.used);
     }
 
 pub returns-in-Ok-clause-used : goal.returns-in-Ok-clause-used
-returns-in-Ok-clause-used g c = λ drives home used.
+returns-in-Ok-clause-used g c = λ drives name used.
     subst (λ (h : Host). HasRun g.B.Shelf g.I.Source h c.args.bench.now c.args.script.now c.run_host.new.bench c.run_host.new.script c.run_host.result)
-    (one_host _ _ _ c.args.fresh c.in-Ok.start.drives c.in-Ok.start.own c.in-Ok.start.home c.in-Ok.ensures.value drives home used)
+    (one_host _ _ _ c.args.fresh c.in-Ok.start.drives c.in-Ok.start.site c.in-Ok.ensures.value drives name used)
     c.run_host.ensures.has_run
 
 pub returns-in-Err-Usage-clause-usage : goal.returns-in-Err-Usage-clause-usage
@@ -51,16 +50,16 @@ returns-in-Err-Usage-clause-usage g c = record {
 }
 
 pub returns-in-Err-Usage-clause-used : goal.returns-in-Err-Usage-clause-used
-returns-in-Err-Usage-clause-used g c = λ drives home used. absurd (c.in-Err-Usage.ensures.none (ap Err c.in-Err-Usage.field-0-is) drives home used)
+returns-in-Err-Usage-clause-used g c = λ drives name used. absurd (c.in-Err-Usage.ensures.none (ap Err c.in-Err-Usage.field-0-is) drives name used)
 
 pub returns-in-Err-Memory-clause-used : goal.returns-in-Err-Memory-clause-used
-returns-in-Err-Memory-clause-used g c = λ drives home used.
-    let host : Host = host_of drives home c.args.fresh in record {
+returns-in-Err-Memory-clause-used g c = λ drives name used.
+    let host : Host = host_of drives name c.args.fresh in record {
       runs = λ t is input left. inl (record { wanting = refl; untouched = (refl, refl) });
       stands = λ input left. moments_of_tales g.B.Shelf g.met.B.Shelf.telling _ _ (RunMoment host (asked_of input)) (kept_itself g.B.Shelf c.args.bench.now).goes
           (moments_none (RunMoment host (asked_of input)) _ _ refl (λ t. nothing_run host (asked_of input) t));
-      tells = λ input left. fronts_quiet g.B.Shelf g.met.B.Shelf.telling host (counts (g.B.Shelf.faults c.args.bench.now) (g.I.Source.faults c.args.script.now)) (asked_of input) (between g.B.Shelf c.args.bench.now c.args.bench.now) _ _ (kept_itself g.B.Shelf c.args.bench.now).goes (moments_none (IsBooting host) _ _ refl (λ t. (refl, kept_outside_same (area_of (site_of host)) t)));
+      tells = λ input left. fronts_quiet g.B.Shelf g.met.B.Shelf.telling host (counts (g.B.Shelf.faults c.args.bench.now) (g.I.Source.faults c.args.script.now)) (asked_of input) (between g.B.Shelf c.args.bench.now c.args.bench.now) _ _ (kept_itself g.B.Shelf c.args.bench.now).goes (moments_none (IsBooting host) _ _ refl (λ t. (refl, kept_outside_same (site_area host.site) t)));
       home = nothing_stays host _ _ refl;
-      counted = λ input left n calls. none_took _ (2 * length host.own + 11 + n);
+      counted = λ input left n calls. none_took _ (boot_calls host + n);
       causes = inl refl;
     }

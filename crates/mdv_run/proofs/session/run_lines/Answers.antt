@@ -36,8 +36,8 @@ loop-refused-preserved g c =
     let before = c.loop-refused.invariant in record {
       host = answer.same ∙ before.host;
       ready = subst (λ (h : Host). IsReady h (g.B.Shelf.sizes c.take_turn.new.bench)) (sym answer.same)
-          (record { table = before.ready.table; home = before.ready.home; view = before.ready.view; own = before.ready.own; sound = before.ready.sound; small = before.ready.small; fresh = before.ready.fresh; drives = c.in-On.ensures.kept.keeps.same_sizes ∙ before.ready.drives });
-      well = subst (λ (h : Host). IsWell h c.take_turn.new.engine.state) (sym answer.same) answer.well;
+          (subst (IsReady c.loop-refused.engine.host) (sym c.in-On.ensures.kept.keeps.same_sizes) before.ready);
+      well = subst (λ (h : Host). IsWell h c.take_turn.new.engine.state) (sym answer.same) (answer.well tt);
       begun = answer.begun;
       limit = (answer.on tt).1;
       kept = kept_more before.kept (kept_of_time c.in-On.ensures.kept);

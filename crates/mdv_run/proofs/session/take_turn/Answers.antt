@@ -73,7 +73,7 @@ returns-in-Ok-Item-clause-answer g c = record {
   cause = subst (HasTurnCause c.args.engine.now.host (counts (g.B.Shelf.faults c.args.bench.now) (g.I.Source.faults c.args.script.now)) (counts (g.B.Shelf.faults c.answer_item.new.bench) (g.I.Source.faults c.next.new.source))) (sym c.turn_of.ensures) (turn_cause c.args.engine.now.host (counts (g.B.Shelf.faults c.args.bench.now) (g.I.Source.faults c.args.script.now)) (counts (g.B.Shelf.faults c.answer_item.new.bench) (g.I.Source.faults c.next.new.source)) c.answer_item.result c.args.any_refused c.answer_item.ensures.answer.cause);
   source = c.next.ensures.cause.later;
   same = c.answer_item.ensures.answer.same;
-  well = c.answer_item.ensures.answer.well;
+  well = λ on. c.answer_item.ensures.answer.well (on_replied c.answer_item.result c.args.any_refused _ c.turn_of.ensures on);
   begun = let up = (rw c.in-Ok-Item.field-0-is at c.in-Ok-Item.ensures.passed).lines in let more = c.answer_item.ensures.answer.begun in let before = c.requires.begun in omega arith;
   on = λ on. (let up = (rw c.in-Ok-Item.field-0-is at c.in-Ok-Item.ensures.passed).lines in omega arith, (rw c.in-Ok-Item.field-0-is at c.in-Ok-Item.ensures.passed).limit);
   counted = λ lines before n calls.
@@ -147,7 +147,7 @@ returns-in-Ok-TooLong-clause-answer g c = record {
   cause = subst (HasTurnCause c.args.engine.now.host (counts (g.B.Shelf.faults c.args.bench.now) (g.I.Source.faults c.args.script.now)) (counts (g.B.Shelf.faults c.refuse.new.bench) (g.I.Source.faults c.next.new.source))) (sym c.turn_of-in-Ok-TooLong.ensures) (turn_cause c.args.engine.now.host (counts (g.B.Shelf.faults c.args.bench.now) (g.I.Source.faults c.args.script.now)) (counts (g.B.Shelf.faults c.refuse.new.bench) (g.I.Source.faults c.next.new.source)) c.refuse.result c.args.any_refused (told_reply _ _ (outcome.Refused LineTooLong) c.refuse.result c.refuse.ensures.answer.cause));
   source = c.next.ensures.cause.later;
   same = ap (λ (e : Engine). e.host) c.refuse.ensures.answer.same;
-  well = subst (λ (e : Engine). IsWell c.args.engine.now.host e.state) (sym c.refuse.ensures.answer.same) c.requires.well;
+  well = λ on. subst (λ (e : Engine). IsWell c.args.engine.now.host e.state) (sym c.refuse.ensures.answer.same) c.requires.well;
   begun = subst (λ (e : Engine). e.state.begun ≤ c.next.new.self.reader.lines) (sym c.refuse.ensures.answer.same) (let up = (rw c.in-Ok-TooLong.field-0-is at c.in-Ok-TooLong.ensures.passed).lines in let before = c.requires.begun in omega arith);
   on = λ on. (let up = (rw c.in-Ok-TooLong.field-0-is at c.in-Ok-TooLong.ensures.passed).lines in omega arith, (rw c.in-Ok-TooLong.field-0-is at c.in-Ok-TooLong.ensures.passed).limit);
   counted = λ lines before n calls.

@@ -1,11 +1,11 @@
-use Rattle.mdv_run_law.proofs.Living.{lives_stand, runs_have_home, database_is_found, blocks_hold}
+use Rattle.mdv_run_law.proofs.Living.{lives_stand, hosts_see, database_is_found, blocks_hold}
 use Rattle.mdv_run_law.proofs.law.lives_stand.Goals as goal
 
 pub returns-clause-stand : goal.returns-clause-stand
 returns-clause-stand c = lives_stand
 
-pub returns-clause-home : goal.returns-clause-home
-returns-clause-home c = runs_have_home
+pub returns-clause-see : goal.returns-clause-see
+returns-clause-see c = hosts_see
 
 pub returns-clause-found : goal.returns-clause-found
 returns-clause-found c = database_is_found

@@ -1,6 +1,6 @@
 use Rattle.std.proofs.Common.{false, refl}
 use Rattle.mdv_store.specs.declared.booting.BootEnd.TheVariants as end
-use Rattle.mdv_store.proofs.Boots.{all_counted, all_ends, all_kept, all_moments, booted, is_up_where, look_kept, wanting, wanting_counted, wanting_ends, wanting_moments}
+use Rattle.mdv_store.proofs.Boots.{all_counted, all_ends, all_kept, all_moments, booted, look_kept, wanting, wanting_counted, wanting_ends, wanting_moments}
 use Rattle.mdv_store.proofs.booting.boot.Goals as goal
 
 pub returns-in-Ok-clause-answer : goal.returns-in-Ok-clause-answer
@@ -86,7 +86,7 @@ returns-in-Err-clause-end g c =
     let counted = rw c.as_slice-drives.ensures at e.counted in
     let kept = rw c.as_slice-drives.ensures at e.kept in
     wanting_ends g.S.Shelf c.args.site.now c.args.shelf.now c.bring_up-up.new.shelf c.bring_up-up.result ups e.moments brought counted kept g.met.S.Shelf.telling c.args.geometry.now c.look.new.shelf c.look.ensures.looked.same c.look.ensures.counted.few c.look.ensures.kept
-    (record { end = end.Memory; up = c.bring_up-up.result; clean = false }) refl refl refl (is_up_where g.S.Shelf c.args.site.now c.args.shelf.now c.bring_up-up.new.shelf c.bring_up-up.result ups e.moments brought counted kept g.met.S.Shelf.telling c.args.geometry.now c.look.new.shelf c.look.ensures.looked.same c.look.ensures.counted.few c.look.ensures.kept)
+    (record { end = end.Memory; up = c.bring_up-up.result; clean = false }) refl refl refl
 
 pub returns-in-Err-clause-counted : goal.returns-in-Err-clause-counted
 returns-in-Err-clause-counted g c =

@@ -1,10 +1,11 @@
 use Rattle.std.proofs.Common.{◌≡◌, ◌∙◌, ◌+◌, ◌^◌, ℕ, List, length, slice_index_or, refl, ap, arith}
+use Rattle.std.proofs.lemmas.List.{length-map}
 use Rattle.std.proofs.lemmas.Option.{slice_get-get_or}
 use Rattle.mdv_store.specs.Below.{Identity, Place, record_text}
-use Rattle.mdv_store.specs.Boot.{seats_of}
+use Rattle.mdv_store.specs.Boot.{seat_for, seats_of}
 use Rattle.mdv_store.specs.Opened.{least_room}
 use Rattle.mdv_store.specs.Text.{blocks_for}
-use Rattle.mdv_store.proofs.Seating.{greatest_less, max_is, seats_count}
+use Rattle.mdv_store.proofs.Seating.{greatest_less, max_is}
 use Rattle.mdv_store.proofs.booting.in_hand.Goals as goal
 
 pub overflow_add-result : goal.overflow_add-result
@@ -25,6 +26,6 @@ returns c =
       identity_is = refl;
       number_is = ap (λ (n : ℕ). n + 1) c.greatest_number.ensures;
       seats_are = seats ∙ ap (λ (n : ℕ). seats_of rs identity n c.places-places.result.now) text ∙ ap (λ (ps : List Place). seats_of rs identity (blocks_for (length (record_text c.args.newest.now.table))) ps) c.places-places.ensures.value;
-      few = omega (arith, ap length seats, seats_count rs identity c.blocks_for-text.result c.places-places.result.now, c.places-places.ensures.few);
-      room_is = omega (arith, c.in_ok-room_for.field-0.ok.0, c.in_ok-room_for.ensures, c.max.ensures, max_is c.least_room.result c.blocks_for-text.result, text, c.least_room.ensures, ap least_room c.places-places.ensures.value);
+      few = omega (arith, ap length seats, length-map c.places-places.result.now (seat_for rs identity c.blocks_for-text.result), c.places-places.ensures.few);
+      room_is = omega (arith, c.in_ok-room_for.field-0.ok.0, c.in_ok-room_for.ensures, c.max.ensures, max_is c.least_room.result c.blocks_for-text.result, text, c.least_room.ensures.value, ap least_room c.places-places.ensures.value);
     }

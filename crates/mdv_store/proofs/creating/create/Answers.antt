@@ -16,7 +16,7 @@ use Rattle.mdv_store.specs.declared.seats.Seat.{Seat}
 use Rattle.mdv_store.proofs.Acting.{gone_then, stopped_front, stopped_then}
 use Rattle.mdv_store.proofs.Given.{IsOwner}
 use Rattle.mdv_store.proofs.Making.{all_kept, few_new, lost_counted, lost_created, lost_end, made_counted, made_created, made_end, made_open, memory_created, memory_moments, stopped_counted, stopped_created, stopped_end, stopped_moments, written_moments}
-use Rattle.mdv_store.proofs.Rooms.{room_most}
+use Rattle.mdv_record.proofs.Rooms.{room_most}
 use Rattle.mdv_store.proofs.Seated.{room_asked, room_for_text, seats_laid, seats_of_table, text_asked}
 use Rattle.mdv_store.proofs.creating.create.Goals as goal
 use Rattle.mdv_store.proofs.creating.create.Goals.{After-check_owner, After-clear_all, After-format_all, After-deref_mut}
@@ -109,7 +109,7 @@ as_made : (g : _) (c : After-deref_mut g) (P : List Seat → Table → Type 0) �
 as_made g c P is = subst (λ (l : List Seat). P l c.table_asked-table.result) (sym c.in_ok-seats.ensures) (subst (λ (u : Table). P (seats g c) u) (sym (table_is g c)) is)
 
 room_is : (g : _) (c : After-deref_mut g) → length c.in_ok-room.room.items ≡ least_room (map (λ (s : Seat). s.place) (seats g c))
-room_is g c = c.in_ok-room.ensures ∙ c.least_room.ensures ∙ ap least_room (c.places.ensures.value ∙ ap (λ (u : Table). places_of u.plan.lists) (table_is g c))
+room_is g c = c.in_ok-room.ensures ∙ c.least_room.ensures.value ∙ ap least_room (c.places.ensures.value ∙ ap (λ (u : Table). places_of u.plan.lists) (table_is g c))
 
 room_now : (g : _) (c : After-deref_mut g) → length c.deref_mut.result.now ≡ least_room (map (λ (s : Seat). s.place) (seats g c))
 room_now g c = ap length c.deref_mut.ensures.value ∙ room_is g c
@@ -167,7 +167,7 @@ returns-then-not-is_half_active-clause-answer g c =
     let own = owner g (goal.at.returns-then-not-is_half_active-clause-answer g c).After-check_owner in
     let left = as_asked g d (λ l u. AreLeft (DriveFailures g.S.Shelf c.format_all.new.shelf c.write_all.new.shelf) (TakesSlot first_mark (text_size u)) l c.write_all.new.seats) c.write_all.ensures.left in
     subst (λ (f : CreateFault). IsCreated g.S.Shelf c.args.shelf.now c.write_all.new.shelf c.args.key.now c.args.identity c.args.lines.now c.args.count c.args.blocks (Err f)) (sym c.lost.ensures)
-    (lost_created g.S.Shelf c.args.key.now c.args.identity c.args.lines.now c.args.count c.args.blocks c.args.shelf.now c.requires.asked own c.format_all.new.shelf c.write_all.new.shelf c.write_all.new.seats (gone g d) left (active_of c.as_slice-then-not-is_half_active.result.now) (length c.as_slice-then-not-is_half_active.result.now) (ap is_half_active (sym c.as_slice-2.ensures) ∙ (sym c.is_half_active.ensures ∙ c.if-not-is_half_active.true)) (ap active_of c.as_slice-then-not-is_half_active.ensures) (ap length c.as_slice-then-not-is_half_active.ensures) (as_asked g d (λ l u. KeptAmong g.S.Shelf c.format_all.new.shelf c.write_all.new.shelf (drives_of l)) c.write_all.ensures.kept) (as_asked g d (λ l u. AtEachTale g.S.Shelf (WritingMoment l first_mark u) c.format_all.new.shelf c.write_all.new.shelf) c.write_all.ensures.moments) (as_asked g d (λ l u. AtEnd g.S.Shelf (WritingEnds l c.write_all.new.seats first_mark u) c.format_all.new.shelf c.write_all.new.shelf) c.write_all.ensures.end))
+    (lost_created g.S.Shelf c.args.key.now c.args.identity c.args.lines.now c.args.count c.args.blocks c.args.shelf.now c.requires.asked own c.format_all.new.shelf c.write_all.new.shelf c.write_all.new.seats (gone g d) left (active_of c.as_slice-then-not-is_half_active.result.now) (length c.as_slice-then-not-is_half_active.result.now) (ap is_half_active (sym c.as_slice-2.ensures) ∙ (sym c.is_half_active.ensures ∙ c.if-not-is_half_active.true)) (ap active_of c.as_slice-then-not-is_half_active.ensures) (ap length c.as_slice-then-not-is_half_active.ensures) (as_asked g d (λ l u. ArePassCounted g.S.Shelf c.format_all.new.shelf c.write_all.new.shelf 6 (2 + blocks_for (text_size u)) l c.write_all.new.seats) c.write_all.ensures.counted) (as_asked g d (λ l u. KeptAmong g.S.Shelf c.format_all.new.shelf c.write_all.new.shelf (drives_of l)) c.write_all.ensures.kept) (as_asked g d (λ l u. AtEachTale g.S.Shelf (WritingMoment l first_mark u) c.format_all.new.shelf c.write_all.new.shelf) c.write_all.ensures.moments) (as_asked g d (λ l u. AtEnd g.S.Shelf (WritingEnds l c.write_all.new.seats first_mark u) c.format_all.new.shelf c.write_all.new.shelf) c.write_all.ensures.end))
 
 pub returns-then-not-is_half_active-clause-moments : goal.returns-then-not-is_half_active-clause-moments
 returns-then-not-is_half_active-clause-moments g c =
@@ -211,7 +211,7 @@ returns-clause-answer g c =
     let d = (goal.at.returns-clause-answer g c).After-deref_mut in
     let own = owner g (goal.at.returns-clause-answer g c).After-check_owner in
     let left = as_asked g d (λ l u. AreLeft (DriveFailures g.S.Shelf c.format_all.new.shelf c.write_all.new.shelf) (TakesSlot first_mark (text_size u)) l c.write_all.new.seats) c.write_all.ensures.left in
-    subst (λ (u : Table). IsCreated g.S.Shelf c.args.shelf.now c.write_all.new.shelf c.args.key.now c.args.identity c.args.lines.now c.args.count c.args.blocks (Ok (record { key = c.args.key.now; identity = c.args.identity; mark = first_mark; table = u; seats = c.write_all.new.seats }))) (sym (table_is g d)) (made_created g.S.Shelf c.args.key.now c.args.identity c.args.lines.now c.args.count c.args.blocks c.args.shelf.now c.requires.asked own c.format_all.new.shelf c.write_all.new.shelf c.write_all.new.seats (gone g d) left (ap is_half_active (sym c.as_slice-2.ensures) ∙ (sym c.is_half_active.ensures ∙ c.if-not-is_half_active.false)) (as_asked g d (λ l u. KeptAmong g.S.Shelf c.format_all.new.shelf c.write_all.new.shelf (drives_of l)) c.write_all.ensures.kept) (as_asked g d (λ l u. AtEachTale g.S.Shelf (WritingMoment l first_mark u) c.format_all.new.shelf c.write_all.new.shelf) c.write_all.ensures.moments) (as_asked g d (λ l u. AtEnd g.S.Shelf (WritingEnds l c.write_all.new.seats first_mark u) c.format_all.new.shelf c.write_all.new.shelf) c.write_all.ensures.end))
+    subst (λ (u : Table). IsCreated g.S.Shelf c.args.shelf.now c.write_all.new.shelf c.args.key.now c.args.identity c.args.lines.now c.args.count c.args.blocks (Ok (record { key = c.args.key.now; identity = c.args.identity; mark = first_mark; table = u; seats = c.write_all.new.seats }))) (sym (table_is g d)) (made_created g.S.Shelf c.args.key.now c.args.identity c.args.lines.now c.args.count c.args.blocks c.args.shelf.now c.requires.asked own c.format_all.new.shelf c.write_all.new.shelf c.write_all.new.seats (gone g d) left (ap is_half_active (sym c.as_slice-2.ensures) ∙ (sym c.is_half_active.ensures ∙ c.if-not-is_half_active.false)) (as_asked g d (λ l u. ArePassCounted g.S.Shelf c.format_all.new.shelf c.write_all.new.shelf 6 (2 + blocks_for (text_size u)) l c.write_all.new.seats) c.write_all.ensures.counted) (as_asked g d (λ l u. KeptAmong g.S.Shelf c.format_all.new.shelf c.write_all.new.shelf (drives_of l)) c.write_all.ensures.kept) (as_asked g d (λ l u. AtEachTale g.S.Shelf (WritingMoment l first_mark u) c.format_all.new.shelf c.write_all.new.shelf) c.write_all.ensures.moments) (as_asked g d (λ l u. AtEnd g.S.Shelf (WritingEnds l c.write_all.new.seats first_mark u) c.format_all.new.shelf c.write_all.new.shelf) c.write_all.ensures.end))
 
 pub returns-clause-moments : goal.returns-clause-moments
 returns-clause-moments g c =

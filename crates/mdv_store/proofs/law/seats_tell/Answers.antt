@@ -1,4 +1,3 @@
-use Rattle.std.proofs.Common.{[], refl}
 use Rattle.mdv_store.proofs.Meaning.{greatest_reached, seat_there}
 use Rattle.mdv_store.proofs.Seating.{greatest_most, seat_of_replica, seats_places}
 use Rattle.mdv_store.proofs.law.seats_tell.Goals as goal
@@ -8,7 +7,7 @@ returns-clause-numbers c = record { most = λ identity replicas r has own. great
 
 pub returns-clause-seats : goal.returns-clause-seats
 returns-clause-seats c = record {
-  places = λ replicas identity text places. seats_places replicas identity text [] places;
-  seated = λ replicas identity text places s r has is. (let one = seat_of_replica replicas identity text [] places s r has is in (one.found, one.seated));
-  all = λ replicas identity text places p r has has_r seated. (_, seat_there replicas identity text p r has_r seated [] places has refl);
+  places = λ replicas identity text places. seats_places replicas identity text places;
+  seated = λ replicas identity text places s r has is. (let one = seat_of_replica replicas identity text places s r has is in (one.found, one.seated));
+  all = λ replicas identity text places p r has has_r seated. (_, seat_there replicas identity text p r has_r seated places has);
 }

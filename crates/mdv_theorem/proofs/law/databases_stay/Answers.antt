@@ -1,5 +1,9 @@
+use Rattle.mdv_theorem.proofs.Alone.{runs_find_one}
 use Rattle.mdv_theorem.proofs.Databases.{databases_stay}
 use Rattle.mdv_theorem.proofs.law.databases_stay.Goals as goal
 
-pub returns : goal.returns
-returns c = databases_stay
+pub returns-clause-stay : goal.returns-clause-stay
+returns-clause-stay c = databases_stay
+
+pub returns-clause-one : goal.returns-clause-one
+returns-clause-one c = runs_find_one

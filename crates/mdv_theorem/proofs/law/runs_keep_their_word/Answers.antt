@@ -2,7 +2,7 @@ use Rattle.mdv_theorem.proofs.Agreeing.{reads_agree}
 use Rattle.mdv_theorem.proofs.Ending.{runs_end}
 use Rattle.mdv_theorem.proofs.Lasting.{writes_last}
 use Rattle.mdv_theorem.proofs.Reading.{reads_are_told}
-use Rattle.mdv_theorem.proofs.Staying.{volumes_stay}
+use Rattle.mdv_theorem.proofs.Enduring.{volumes_stay}
 use Rattle.mdv_theorem.proofs.law.runs_keep_their_word.Goals as goal
 
 pub returns-clause-ends : goal.returns-clause-ends

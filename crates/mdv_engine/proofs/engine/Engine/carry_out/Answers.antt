@@ -11,7 +11,7 @@ use Rattle.mdv_engine.proofs.Printing.{print_answer, print_counted, print_ends}
 use Rattle.mdv_engine.proofs.engine.Engine.carry_out.Goals as goal
 
 pub returns-in-Create-clause-end : goal.returns-in-Create-clause-end
-returns-in-Create-clause-end g c = rw (c.in-Create.is) c.make.ensures.end
+returns-in-Create-clause-end g c = rw (c.in-Create.is) (rw (← c.as_slice.ensures) c.make.ensures.end)
 
 pub returns-in-MakeStripe-clause-end : goal.returns-in-MakeStripe-clause-end
 returns-in-MakeStripe-clause-end g c = rw (c.in-MakeStripe.is) c.make_stripe.ensures.end
@@ -23,7 +23,7 @@ pub returns-in-Write-clause-end : goal.returns-in-Write-clause-end
 returns-in-Write-clause-end g c = rw (c.in-Write.is) c.write.ensures.end
 
 pub returns-in-Create-clause-counted : goal.returns-in-Create-clause-counted
-returns-in-Create-clause-counted g c = rw (c.in-Create.is) c.make.ensures.counted
+returns-in-Create-clause-counted g c = rw (c.in-Create.is) (rw (← c.as_slice.ensures) c.make.ensures.counted)
 
 pub returns-in-MakeStripe-clause-counted : goal.returns-in-MakeStripe-clause-counted
 returns-in-MakeStripe-clause-counted g c = rw (c.in-MakeStripe.is) c.make_stripe.ensures.counted
@@ -35,7 +35,7 @@ pub returns-in-Write-clause-counted : goal.returns-in-Write-clause-counted
 returns-in-Write-clause-counted g c = rw (c.in-Write.is) c.write.ensures.counted
 
 pub returns-in-Create-clause-answer : goal.returns-in-Create-clause-answer
-returns-in-Create-clause-answer g c = rw (c.in-Create.is) c.make.ensures.answer
+returns-in-Create-clause-answer g c = rw (c.in-Create.is) (rw (← c.as_slice.ensures) c.make.ensures.answer)
 
 pub returns-in-MakeStripe-clause-answer : goal.returns-in-MakeStripe-clause-answer
 returns-in-MakeStripe-clause-answer g c = rw (c.in-MakeStripe.is) c.make_stripe.ensures.answer
@@ -51,16 +51,16 @@ returns-in-Print-clause-moments g c = rw (c.in-Print.is) (moments_still c.args.s
 
 pub returns-in-Print-clause-end : goal.returns-in-Print-clause-end
 returns-in-Print-clause-end g c =
-    let has = subst (λ (names : List Named). HasPrinted c.args.self.now.state names c.print.result) c.as_slice.ensures c.print.ensures in
+    let has = subst (λ (names : List Named). HasPrinted c.args.self.now.state names c.print.result) c.as_slice-in-Print.ensures c.print.ensures in
     rw (c.in-Print.is) (print_ends c.args.self.now c.in-Print.names c.print.result has (DriveFailures g.S.Shelf c.args.shelf.now c.args.shelf.now) (λ drive. refl) _)
 
 pub returns-in-Print-clause-answer : goal.returns-in-Print-clause-answer
 returns-in-Print-clause-answer g c =
-    let has = subst (λ (names : List Named). HasPrinted c.args.self.now.state names c.print.result) c.as_slice.ensures c.print.ensures in
+    let has = subst (λ (names : List Named). HasPrinted c.args.self.now.state names c.print.result) c.as_slice-in-Print.ensures c.print.ensures in
     rw (c.in-Print.is) (print_answer c.args.self.now c.in-Print.names c.print.result has (DriveFailures g.S.Shelf c.args.shelf.now c.args.shelf.now) (λ drive. refl) c.requires.well)
 
 pub returns-in-Print-clause-counted : goal.returns-in-Print-clause-counted
 returns-in-Print-clause-counted g c =
-    let has = subst (λ (names : List Named). HasPrinted c.args.self.now.state names c.print.result) c.as_slice.ensures c.print.ensures in
-    subst (λ (x : Command). IsCommandCounted g.S.Shelf.tale g.S.Shelf.calls g.S.Shelf.written c.args.shelf.now c.args.shelf.now x (Said c.print.result) c.args.self.now.state.opened) (sym c.in-Print.is)
-    (print_counted g.S.Shelf.tale g.S.Shelf.calls g.S.Shelf.written c.args.shelf.now c.in-Print.names c.args.self.now.state c.print.result has c.args.self.now.state.opened)
+    let has = subst (λ (names : List Named). HasPrinted c.args.self.now.state names c.print.result) c.as_slice-in-Print.ensures c.print.ensures in
+    subst (λ (x : Command). IsCommandCounted g.S.Shelf c.args.shelf.now c.args.shelf.now c.args.self.now.host x (Said c.print.result) c.args.self.now.state.opened c.args.self.now.state.opened) (sym c.in-Print.is)
+    (print_counted g.S.Shelf c.args.shelf.now c.args.self.now.host c.in-Print.names c.args.self.now.state c.print.result has c.args.self.now.state.opened)

@@ -1,32 +1,31 @@
-use Rattle.std.proofs.Common.{rules, true, false, refl, sym, subst}
-use Rattle.mdv_engine.proofs.Judging.{not_there, there}
-use Rattle.mdv_engine.specs.declared.engine.Engine.{Engine}
-use Rattle.mdv_table.specs.Slices.{IsSound}
+use Rattle.std.proofs.Common.{true, false, refl, sym, ◌∙◌, rules}
+use Rattle.mdv_engine.specs.Engine.{case_at}
+use Rattle.mdv_engine.proofs.Judging.{told_of_cause, told_of_checks}
 use Rattle.mdv_engine.proofs.engine.Engine.creation_refusal.Goals as goal
 
-pub returns-in_default : goal.returns-in_default
-returns-in_default c = not_there _ _ c.self.view_is c.args.slice c.args.force c.args.blocks c.in_default.ensures.none
+pub returns-then-lack_one : goal.returns-then-lack_one
+returns-then-lack_one c = told_of_cause (case_at c.args.self.now) c.args.slices.now c.args.force c.args.count c.args.blocks true _ _ _ _ _ _ (sym c.lack_one.ensures ∙ c.if-lack_one.true) refl refl refl refl refl refl _ refl
 
-pub returns-then-not-at : goal.returns-then-not-at
-returns-then-not-at c =
-    there _ _ c.self.view_is c.args.slice c.args.force c.args.blocks (subst (λ (x : Engine). IsSound x.host.drives) (sym c.self.view_is) c.requires.sound) c.in-Some.at c.in-Some.ensures.value false _ _ _ _ (search rules) refl refl refl refl
+pub returns-then-have_plain : goal.returns-then-have_plain
+returns-then-have_plain c = told_of_cause (case_at c.args.self.now) c.args.slices.now c.args.force c.args.count c.args.blocks false true _ _ _ _ _ (sym c.lack_one.ensures ∙ c.if-lack_one.false) (sym c.have_plain.ensures ∙ c.if-have_plain.true) refl refl refl refl refl _ refl
 
-pub returns-then-not-self : goal.returns-then-not-self
-returns-then-not-self c =
-    there _ _ c.self.view_is c.args.slice c.args.force c.args.blocks (subst (λ (x : Engine). IsSound x.host.drives) (sym c.self.view_is) c.requires.sound) c.in-Some.at c.in-Some.ensures.value true true _ _ _ (search rules) (search rules) refl refl refl
+pub returns-then-is_down : goal.returns-then-is_down
+returns-then-is_down c = told_of_cause (case_at c.args.self.now) c.args.slices.now c.args.force c.args.count c.args.blocks false false true _ _ _ _ (sym c.lack_one.ensures ∙ c.if-lack_one.false) (sym c.have_plain.ensures ∙ c.if-have_plain.false) (sym c.is_down.ensures ∙ c.if-is_down.true) refl refl refl refl _ refl
+
+pub returns-then-are_too_many : goal.returns-then-are_too_many
+returns-then-are_too_many c = told_of_cause (case_at c.args.self.now) c.args.slices.now c.args.force c.args.count c.args.blocks false false false true _ _ _ (sym c.lack_one.ensures ∙ c.if-lack_one.false) (sym c.have_plain.ensures ∙ c.if-have_plain.false) (sym c.is_down.ensures ∙ c.if-is_down.false) (sym c.are_too_many.ensures ∙ c.if-are_too_many.true) refl refl refl _ refl
+
+pub returns-then-needs_force : goal.returns-then-needs_force
+returns-then-needs_force c = told_of_cause (case_at c.args.self.now) c.args.slices.now c.args.force c.args.count c.args.blocks false false false false true _ _ (sym c.lack_one.ensures ∙ c.if-lack_one.false) (sym c.have_plain.ensures ∙ c.if-have_plain.false) (sym c.is_down.ensures ∙ c.if-is_down.false) (sym c.are_too_many.ensures ∙ c.if-are_too_many.false) (sym c.needs_force.ensures ∙ c.if-needs_force.true) refl refl _ refl
+
+pub returns-then-are_taken : goal.returns-then-are_taken
+returns-then-are_taken c = told_of_cause (case_at c.args.self.now) c.args.slices.now c.args.force c.args.count c.args.blocks false false false false false true _ (sym c.lack_one.ensures ∙ c.if-lack_one.false) (sym c.have_plain.ensures ∙ c.if-have_plain.false) (sym c.is_down.ensures ∙ c.if-is_down.false) (sym c.are_too_many.ensures ∙ c.if-are_too_many.false) (sym c.needs_force.ensures ∙ c.if-needs_force.false) (sym c.are_taken.ensures ∙ c.if-are_taken.true) refl _ refl
+
+pub returns-then-are_short : goal.returns-then-are_short
+returns-then-are_short c = told_of_cause (case_at c.args.self.now) c.args.slices.now c.args.force c.args.count c.args.blocks false false false false false false true (sym c.lack_one.ensures ∙ c.if-lack_one.false) (sym c.have_plain.ensures ∙ c.if-have_plain.false) (sym c.is_down.ensures ∙ c.if-is_down.false) (sym c.are_too_many.ensures ∙ c.if-are_too_many.false) (sym c.needs_force.ensures ∙ c.if-needs_force.false) (sym c.are_taken.ensures ∙ c.if-are_taken.false) (sym c.are_short.ensures ∙ c.if-are_short.true) _ refl
 
 pub returns-then-is_some : goal.returns-then-is_some
-returns-then-is_some c =
-    there _ _ c.self.view_is c.args.slice c.args.force c.args.blocks (subst (λ (x : Engine). IsSound x.host.drives) (sym c.self.view_is) c.requires.sound) c.in-Some.at c.in-Some.ensures.value true false true _ _ (search rules) (search rules) (search rules) refl refl
-
-pub returns-then-not-force : goal.returns-then-not-force
-returns-then-not-force c =
-    there _ _ c.self.view_is c.args.slice c.args.force c.args.blocks (subst (λ (x : Engine). IsSound x.host.drives) (sym c.self.view_is) c.requires.sound) c.in-Some.at c.in-Some.ensures.value true false false false _ (search rules) (search rules) (search rules) (search rules) refl
-
-pub returns-then-self-from : goal.returns-then-self-from
-returns-then-self-from c =
-    there _ _ c.self.view_is c.args.slice c.args.force c.args.blocks (subst (λ (x : Engine). IsSound x.host.drives) (sym c.self.view_is) c.requires.sound) c.in-Some.at c.in-Some.ensures.value true false false true true (search rules) (search rules) (search rules) (search rules) (search rules)
+returns-then-is_some c = told_of_checks (case_at c.args.self.now) c.args.slices.now c.args.force c.args.count c.args.blocks false false false false false false false true (sym c.lack_one.ensures ∙ c.if-lack_one.false) (sym c.have_plain.ensures ∙ c.if-have_plain.false) (sym c.is_down.ensures ∙ c.if-is_down.false) (sym c.are_too_many.ensures ∙ c.if-are_too_many.false) (sym c.needs_force.ensures ∙ c.if-needs_force.false) (sym c.are_taken.ensures ∙ c.if-are_taken.false) (sym c.are_short.ensures ∙ c.if-are_short.false) (search rules)
 
 pub returns : goal.returns
-returns c =
-    there _ _ c.self.view_is c.args.slice c.args.force c.args.blocks (subst (λ (x : Engine). IsSound x.host.drives) (sym c.self.view_is) c.requires.sound) c.in-Some.at c.in-Some.ensures.value true false false true false (search rules) (search rules) (search rules) (search rules) (search rules)
+returns c = told_of_checks (case_at c.args.self.now) c.args.slices.now c.args.force c.args.count c.args.blocks false false false false false false false false (sym c.lack_one.ensures ∙ c.if-lack_one.false) (sym c.have_plain.ensures ∙ c.if-have_plain.false) (sym c.is_down.ensures ∙ c.if-is_down.false) (sym c.are_too_many.ensures ∙ c.if-are_too_many.false) (sym c.needs_force.ensures ∙ c.if-needs_force.false) (sym c.are_taken.ensures ∙ c.if-are_taken.false) (sym c.are_short.ensures ∙ c.if-are_short.false) (search rules)

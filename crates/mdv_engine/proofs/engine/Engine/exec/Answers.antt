@@ -1,24 +1,25 @@
-use Rattle.std.proofs.Common.{◌≡◌, inl, inr, ◌∙◌, ap, subst, sym, arith}
+use Rattle.std.proofs.Common.{◌≡◌, inl, inr, ◌∙◌, ap, subst, sym}
 use Rattle.mdv_engine.specs.Below.{told, KeptOutside, nowhere, OnReplies, Ends, Tale, asked_by, text_of, CarriedTo, CarryMoment, TellMoment, TurnMoment}
 use Rattle.mdv_shelf.proofs.Moments.{moments_after, moments_end, moments_weaker, some_is}
 use Rattle.mdv_shelf.proofs.Telling.{rests_behind, told_behind, told_once}
-use Rattle.mdv_shelf.proofs.InTime.{in_time_both}
-use Rattle.mdv_shelf.proofs.Counts.{at_most_then}
 use Rattle.mdv_words.specs.Line as words
 use Rattle.mdv_engine_law.proofs.Executing.{came_more, command_cause, executed}
 use Rattle.mdv_base.proofs.Causes.{calm_before, within_calm}
-use Rattle.mdv_engine_law.proofs.Widening.{AreWithin, blamed_more, lose_more}
+use Rattle.mdv_engine_law.proofs.Widening.{AreWithin, blamed_more}
 use Rattle.mdv_engine_law.proofs.Longer.{replied_more}
 use Rattle.mdv_engine_law.proofs.Fronts.{fronts_then, telling_rests}
 use Rattle.mdv_engine_law.proofs.Writing.{done_still}
 use Rattle.mdv_engine_law.proofs.Turning.{Carried, carried_ends, turn_carry, turn_tell, turned, knows_after}
 use Rattle.mdv_engine.specs.Ends.{CarriesOut, LeavesMade}
-use Rattle.mdv_engine_law.specs.Efforts.{LossCalls, blocks_of, calls_of, wanting_calls}
+use Rattle.mdv_engine_law.specs.Efforts.{LossCalls}
 use Rattle.mdv_shelf.specs.Made.{made_of}
 use Rattle.mdv_engine_law.specs.Replies.{IsLost}
-use Rattle.mdv_engine_law.specs.Commands.{MayLose, MaySpend, blamed}
+use Rattle.mdv_engine_law.specs.Commands.{MaySpend, blame_of}
 use Rattle.mdv_shelf.specs.Shelves.{DriveFailures}
-use Rattle.mdv_engine.proofs.Counting.{calm_given, command_calls, command_most, done_told, replied_calls, telling_most, done_then, fault_then, fault_told, lost_told, none_at_most, not_lost, quiet_answer, quiet_told, spent_told, told_lost, told_ok, unlooked_told, unwritten_told, wanting_told, whole_or_lost}
+use Rattle.mdv_engine.proofs.Asked.{asked_goes, asked_replies, asked_then}
+use Rattle.mdv_engine.proofs.Counting.{calm_given, command_calls, command_most, done_told, replied_calls, then_told, done_then, fault_then, fault_told, lost_told, none_within, not_lost, quiet_answer, quiet_told, said_of, spent_told, told_lost, told_ok, unlooked_told, unwritten_told, wanting_told, whole_or_lost, wrote_then}
+use Rattle.mdv_engine.proofs.Ending.{leaves_more}
+use Rattle.mdv_engine.proofs.Losing.{site_more}
 use Rattle.mdv_engine.proofs.engine.Engine.exec.Goals as goal
 
 pub returns-clause-moments : goal.returns-clause-moments
@@ -29,6 +30,7 @@ returns-clause-moments g c =
     let new = c.carry_out-answer.new.self.state in
     let answer = c.carry_out-answer.result in
     let says = c.carry_out-answer.ensures.answer in
+    let goes = asked_goes g.B.Shelf host old _ _ c.args.command.now c.carry_out-answer.ensures.kept in
     let carried : Ends (CarriedTo host asked old answer new) _ _ = λ t is. (let end = c.carry_out-answer.ensures.end t is in (end.0, end.1, end.2.carry.carried)) in
     record {
       each = moments_after (CarryMoment host asked old) (Carried host asked old new answer) (TellMoment (text_of answer)) (TurnMoment host asked old) _ _ _
@@ -37,12 +39,12 @@ returns-clause-moments g c =
           c.carry_out-answer.ensures.moments (carried_ends host asked old new answer _ _ c.carry_out-answer.ensures.moments carried) c.tell.ensures.fronts;
       fronts = fronts_then g.B.Shelf g.met.B.Shelf.telling _ _ _ (CarriesOut host c.args.command.now) host old answer new
           (λ failed more cause kept next is. came_more failed more cause host kept next answer c.args.command.now is)
-          c.carry_out-answer.ensures.kept.1.goes
+          goes
           (moments_weaker (CarryMoment host asked old) (λ t m. told m ≡ told t) _ _ (λ t m moment. moment.quiet) c.carry_out-answer.ensures.moments)
           (λ t is. (let end = c.carry_out-answer.ensures.end t is in (end.0, end.1, end.2.carry.answered)))
-          (λ is. quiet_answer g.B.Shelf.tale g.B.Shelf.calls g.B.Shelf.written _ _ c.args.command.now new.opened answer is c.carry_out-answer.ensures.counted)
+          (λ is. quiet_answer g.B.Shelf _ _ host c.args.command.now old.opened new.opened answer is c.carry_out-answer.ensures.counted)
           c.tell.ensures.kept.goes c.tell.ensures.counted.drives c.tell.ensures.fronts;
-      rests = rests_behind g.B.Shelf g.met.B.Shelf.telling _ _ _ c.carry_out-answer.ensures.kept.1.goes
+      rests = rests_behind g.B.Shelf g.met.B.Shelf.telling _ _ _ goes
           (moments_weaker (CarryMoment host asked old) (λ t m. told m ≡ told t) _ _ (λ t m moment. moment.quiet) c.carry_out-answer.ensures.moments)
           (telling_rests g.B.Shelf g.met.B.Shelf.telling _ _ (text_of answer) c.tell.ensures.kept.goes c.tell.ensures.fronts c.tell.ensures.counted.drives);
     }
@@ -55,6 +57,7 @@ returns-clause-end g c = λ t is.
     let new = c.carry_out-answer.new.self.state in
     let answer = c.carry_out-answer.result in
     let says = c.carry_out-answer.ensures.answer in
+    let unfailed = asked_replies g.B.Shelf host old _ _ c.args.command.now c.carry_out-answer.ensures.kept in
     let carry = moments_end (CarryMoment host asked old) _ _ c.carry_out-answer.ensures.moments t is in
     let done = c.carry_out-answer.ensures.end t is in
     let end = c.tell.ensures.told done.0 done.1 in
@@ -64,19 +67,21 @@ returns-clause-end g c = λ t is.
       record {
         answered = λ known. executed _ _ _ _ _ host (words.Exec c.args.command.now) old new answer c.tell.result t done.0 end.0
             (λ drive. within_calm _ _ _ (c.tell.ensures.counted.drives drive))
-            (calm_before _ _ _ (c.carry_out-answer.ensures.kept.1.others OnReplies (λ is. absurd (cc (is))))).some
+            (calm_before _ _ _ unfailed).some
             quiet (done.2.carry.answered known) end.2
-            (replied_calls g.B.Shelf.calls g.B.Shelf.written _ _ _ _ c.args.command.now new.opened answer c.tell.result _ c.tell.ensures.answers.1 c.tell.ensures.counted.once c.tell.ensures.counted.silent
-            (command_calls g.B.Shelf.tale g.B.Shelf.calls g.B.Shelf.written _ _ c.args.command.now new.opened answer c.carry_out-answer.ensures.counted));
+            (replied_calls g.B.Shelf _ _ _ _ host c.args.command.now old.opened new.opened answer c.tell.result _ c.tell.ensures.answers.1 c.tell.ensures.counted.once c.tell.ensures.counted.silent
+            (command_calls g.B.Shelf _ _ host c.args.command.now old.opened new.opened answer c.carry_out-answer.ensures.counted));
         turned = λ on. turned host asked old new _ t done.0 end.0 quiet answer says.plain says.free done.2.carry.carried c.tell.result on end.2;
         knows = λ on. knows_after host asked old new _ t done.0 end.0 quiet answer done.2.carry.carried c.tell.result on end.2;
         quiet = λ still.
-            let same = quiet_told g.B.Shelf.tale g.B.Shelf.calls g.B.Shelf.written _ _ c.args.command.now new.opened _ answer c.tell.result _ c.tell.ensures.answers.1 still c.carry_out-answer.ensures.counted in
+            let same = quiet_told g.B.Shelf _ _ host c.args.command.now old.opened new.opened _ answer c.tell.result _ c.tell.ensures.answers.1 still c.carry_out-answer.ensures.counted in
             subst (λ (x : Tale). KeptOutside nowhere x end.0) (some_is _ done.0 t done.1 (same ∙ is)) end.2.kept;
         done = λ ok. done_still host old c.args.command.now done.0 end.0 end.2.kept (done.2.done (told_ok _ answer _ (rw ok at c.tell.ensures.answers.1)));
         lost = λ active listed is.
             let same = ap g.B.Shelf.tale (c.tell.ensures.counted.silent (subst IsLost (sym is) tt)) in
-            subst (LeavesMade host old c.args.command.now) (some_is _ done.0 end.0 (same ∙ done.1) end.1) (done.2.lost active listed (told_lost _ answer active listed c.tell.ensures.answers.0 (rw is at c.tell.ensures.answers.1)));
+            let within : AreWithin (DriveFailures g.B.Shelf c.args.bench.now c.carry_out-answer.new.shelf) (DriveFailures g.B.Shelf c.args.bench.now c.tell.new.bench) = λ drive. within_calm _ _ _ (c.tell.ensures.counted.drives drive) in
+            leaves_more _ _ within host old c.args.command.now active listed end.0
+            (subst (LeavesMade _ host old c.args.command.now active listed) (some_is _ done.0 end.0 (same ∙ done.1) end.1) (done.2.lost active listed (told_lost _ answer active listed c.tell.ensures.answers.0 (rw is at c.tell.ensures.answers.1))));
       },
     )
 
@@ -87,54 +92,52 @@ returns-clause-answer g c = record {
       let calls = DriveFailures g.B.Shelf c.args.bench.now c.carry_out-answer.new.shelf in
       let all = DriveFailures g.B.Shelf c.args.bench.now c.tell.new.bench in
       let within : AreWithin calls all = λ drive. within_calm _ _ _ (c.tell.ensures.counted.drives drive) in
-      command_cause (blamed calls host c.args.self.now.state c.args.command.now) (blamed all host c.args.self.now.state c.args.command.now) (MayLose calls host c.args.command.now) (MayLose all host c.args.command.now) (MaySpend c.args.command.now) _ _ c.tell.ensures.answers.0
-      (blamed_more calls all within host c.args.self.now.state c.args.command.now) (lose_more calls all within host c.args.command.now)
-      (calm_before _ _ _ (c.carry_out-answer.ensures.kept.1.others OnReplies (λ is. absurd (cc (is))))).some
+      let unfailed = asked_replies g.B.Shelf host c.args.self.now.state _ _ c.args.command.now c.carry_out-answer.ensures.kept in
+      command_cause (blame_of calls host c.args.self.now.state c.args.command.now) (blame_of all host c.args.self.now.state c.args.command.now) (blamed_more calls all within host c.args.self.now.state c.args.command.now) (MaySpend c.args.command.now) _ _ c.tell.ensures.answers.0
+      (calm_before _ _ _ unfailed).some
       c.carry_out-answer.result c.tell.result c.carry_out-answer.ensures.answer.cause c.tell.ensures.answers.1;
+  lost = λ active listed is.
+      let within : AreWithin (DriveFailures g.B.Shelf c.args.bench.now c.carry_out-answer.new.shelf) (DriveFailures g.B.Shelf c.args.bench.now c.tell.new.bench) = λ drive. within_calm _ _ _ (c.tell.ensures.counted.drives drive) in
+      site_more _ _ within c.args.self.now.host active listed (c.carry_out-answer.ensures.answer.lost active listed (told_lost _ c.carry_out-answer.result active listed c.tell.ensures.answers.0 (rw is at c.tell.ensures.answers.1)));
   host = c.carry_out-answer.ensures.answer.host;
-  well = c.carry_out-answer.ensures.answer.well;
+  well = λ on. c.carry_out-answer.ensures.answer.well (said_of _ c.carry_out-answer.result c.tell.result _ c.tell.ensures.answers.1 on);
   begun = c.carry_out-answer.ensures.answer.begun;
 }
 
 pub returns-clause-counted : goal.returns-clause-counted
 returns-clause-counted g c =
-    let count = calls_of c.args.command.now in
-    let blocks = blocks_of c.args.command.now in
-    let opened = c.carry_out-answer.new.self.state.opened in
+    let host = c.args.self.now.host in
+    let command = c.args.command.now in
+    let before = c.args.self.now.state.opened in
+    let now = c.carry_out-answer.new.self.state.opened in
+    let answer = c.carry_out-answer.result in
     let by = c.carry_out-answer.ensures.counted in
+    let piece = c.tell.ensures.answers.0 in
     let answers = c.tell.ensures.answers.1 in
+    let goes = asked_goes g.B.Shelf host c.args.self.now.state _ _ command c.carry_out-answer.ensures.kept in
+    let unfailed = asked_replies g.B.Shelf host c.args.self.now.state _ _ command c.carry_out-answer.ensures.kept in
     record {
-      most = at_most_then g.B.Shelf.calls g.B.Shelf.written _ _ _ count 1 blocks 0 _ _ (omega arith) (omega arith)
-          (command_most g.B.Shelf.tale g.B.Shelf.calls g.B.Shelf.written _ _ c.args.command.now opened c.carry_out-answer.result by) (telling_most g.B.Shelf _ _ c.tell.result c.tell.ensures.counted);
-      done = λ is. done_then g.B.Shelf.tale g.B.Shelf.calls g.B.Shelf.written _ _ _ c.args.command.now opened
-          (done_told g.B.Shelf.tale g.B.Shelf.calls g.B.Shelf.written _ _ c.args.command.now opened _ c.carry_out-answer.result c.tell.ensures.answers.0 (rw is at answers) by)
-          (c.tell.ensures.counted.once (λ lost. subst IsLost is lost));
-      unlooked = λ is.
-          let same = unlooked_told g.B.Shelf.tale g.B.Shelf.calls g.B.Shelf.written _ _ c.args.command.now opened _ c.carry_out-answer.result c.tell.result _ answers is by in
-          rw same at (telling_most g.B.Shelf _ _ c.tell.result c.tell.ensures.counted);
-      unwritten = λ is. at_most_then g.B.Shelf.calls g.B.Shelf.written _ _ _ count 1 0 0 _ _ (omega arith) (omega arith)
-          (unwritten_told g.B.Shelf.tale g.B.Shelf.calls g.B.Shelf.written _ _ c.args.command.now opened _ c.carry_out-answer.result c.tell.result _ answers is by) (telling_most g.B.Shelf _ _ c.tell.result c.tell.ensures.counted);
-      wanting = λ is. at_most_then g.B.Shelf.calls g.B.Shelf.written _ _ _ (wanting_calls c.args.command.now) 1 0 0 _ _ (omega arith) (omega arith)
-          (wanting_told g.B.Shelf.tale g.B.Shelf.calls g.B.Shelf.written _ _ c.args.command.now opened _ c.carry_out-answer.result c.tell.ensures.answers.0 (rw is at answers) by) (telling_most g.B.Shelf _ _ c.tell.result c.tell.ensures.counted);
-      faulted = λ is. fault_then g.B.Shelf.tale g.B.Shelf.calls g.B.Shelf.written _ _ _ c.args.command.now
-          (fault_told g.B.Shelf.tale g.B.Shelf.calls g.B.Shelf.written _ _ c.args.command.now opened _ c.carry_out-answer.result c.tell.ensures.answers.0 (rw is at answers) by)
-          (c.tell.ensures.counted.once (λ lost. subst IsLost is lost));
+      most = then_told g.B.Shelf _ _ _ c.tell.result _ _ (command_most g.B.Shelf _ _ host command before now answer by) c.tell.ensures.counted;
+      done = λ is. done_then g.B.Shelf _ _ _ host command before now (done_told g.B.Shelf _ _ host command before now _ answer piece (rw is at answers) by).exactly (c.tell.ensures.counted.once (λ lost. subst IsLost is lost));
+      wrote = λ is. wrote_then g.B.Shelf _ _ _ command before now (done_told g.B.Shelf _ _ host command before now _ answer piece (rw is at answers) by).wrote (c.tell.ensures.counted.once (λ lost. subst IsLost is lost));
+      unlooked = λ is. then_told g.B.Shelf _ _ _ c.tell.result 0 0 (none_within g.B.Shelf _ _ 0 0 (unlooked_told g.B.Shelf _ _ host command before now _ answer c.tell.result _ answers is by)) c.tell.ensures.counted;
+      unwritten = λ is. then_told g.B.Shelf _ _ _ c.tell.result _ 0 (unwritten_told g.B.Shelf _ _ host command before now _ answer c.tell.result _ answers is by) c.tell.ensures.counted;
+      wanting = λ is. then_told g.B.Shelf _ _ _ c.tell.result _ 0 (wanting_told g.B.Shelf _ _ host command before now _ answer piece (rw is at answers) by) c.tell.ensures.counted;
+      faulted = λ is. fault_then g.B.Shelf _ _ _ host command (fault_told g.B.Shelf _ _ host command before now _ answer piece (rw is at answers) by) (c.tell.ensures.counted.once (λ lost. subst IsLost is lost));
       lost = λ active listed is.
           let same = c.tell.ensures.counted.silent (subst IsLost (sym is) tt) in
-          subst (λ (x : g.row.B.Denot). LossCalls (made_of g.B.Shelf c.args.bench.now x) c.args.command.now) (sym same)
-          (lost_told g.B.Shelf.tale g.B.Shelf.calls g.B.Shelf.written _ _ c.args.command.now opened _ c.carry_out-answer.result active listed c.tell.ensures.answers.0 (rw is at answers) by);
+          subst (λ (x : g.row.B.Denot). LossCalls (made_of g.B.Shelf c.args.bench.now x) command host before) (sym same) (lost_told g.B.Shelf _ _ host command before now _ answer active listed piece (rw is at answers) by);
       spent = λ is.
           let same = c.tell.ensures.counted.silent (subst IsLost (sym is) tt) in
-          none_at_most g.B.Shelf.tale g.B.Shelf.calls g.B.Shelf.written _ _ 0 0
-          (same ∙ spent_told g.B.Shelf.tale g.B.Shelf.calls g.B.Shelf.written _ _ c.args.command.now opened _ c.carry_out-answer.result c.tell.ensures.answers.0 (rw is at answers) by);
-      told = λ on. told_behind g.B.Shelf g.met.B.Shelf.telling _ _ _ c.carry_out-answer.ensures.kept.1.goes
-          (moments_weaker (CarryMoment c.args.self.now.host (asked_by c.args.self.now.host c.args.command.now) c.args.self.now.state) (λ t m. told m ≡ told t) _ _ (λ t m moment. moment.quiet) c.carry_out-answer.ensures.moments)
+          none_within g.B.Shelf _ _ 0 0 (same ∙ spent_told g.B.Shelf _ _ host command before now _ answer piece (rw is at answers) by);
+      told = λ on. told_behind g.B.Shelf g.met.B.Shelf.telling _ _ _ goes
+          (moments_weaker (CarryMoment host (asked_by host command) c.args.self.now.state) (λ t m. told m ≡ told t) _ _ (λ t m moment. moment.quiet) c.carry_out-answer.ensures.moments)
           (told_once g.B.Shelf _ _ c.tell.ensures.kept.goes c.tell.ensures.counted.one (c.tell.ensures.counted.once (not_lost c.tell.result on)) (replied_more _ _ c.carry_out-answer.ensures.answer.plain c.tell.result on _ _ c.tell.ensures.told) (c.tell.ensures.counted.calm on));
       given = λ uncut. elim (whole_or_lost c.tell.result uncut) [
-        | inl on ↦ calm_given g.B.Shelf.faults _ _ _ (c.carry_out-answer.ensures.kept.1.others OnReplies (λ is. absurd (cc (is)))) (c.tell.ensures.kept.keeps.no_fewer_faults OnReplies) (c.tell.ensures.counted.calm on OnReplies)
-        | inr lost ↦ ap (λ (x : g.row.B.Denot). g.B.Shelf.faults x OnReplies) (c.tell.ensures.counted.silent lost) ∙ c.carry_out-answer.ensures.kept.1.others OnReplies (λ is. absurd (cc (is)))
+        | inl on ↦ calm_given g.B.Shelf.faults _ _ _ unfailed (c.tell.ensures.kept.keeps.no_fewer_faults OnReplies) (c.tell.ensures.counted.calm on OnReplies)
+        | inr lost ↦ ap (λ (x : g.row.B.Denot). g.B.Shelf.faults x OnReplies) (c.tell.ensures.counted.silent lost) ∙ unfailed
       ];
     }
 
 pub returns-clause-kept : goal.returns-clause-kept
-returns-clause-kept g c = in_time_both (λ is. absurd (cc (is))) c.carry_out-answer.ensures.kept.1 c.tell.ensures.kept
+returns-clause-kept g c = asked_then g.B.Shelf c.args.self.now.host c.args.self.now.state _ _ _ c.args.command.now c.carry_out-answer.ensures.kept c.tell.ensures.kept

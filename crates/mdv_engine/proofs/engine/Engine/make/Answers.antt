@@ -1,8 +1,7 @@
 use Rattle.std.proofs.Common.{◌∙◌, refl, subst, sym}
 use Rattle.mdv_engine_law.specs.Commands as came
-use Rattle.mdv_engine_law.specs.Commands.{MayLose, MaySpend, blamed}
-use Rattle.mdv_engine.specs.Below.{Create, key_of}
-use Rattle.mdv_engine_law.proofs.Allowed.{allowed_none, allowed_room, allowed_clean}
+use Rattle.mdv_engine_law.specs.Commands.{MaySpend, blame_of}
+use Rattle.mdv_engine.specs.Below.{Create, key_of, lines_asked}
 use Rattle.mdv_engine_law.proofs.Plain.{refusal_plain}
 use Rattle.mdv_engine_law.specs.declared.answer.Outcome.TheVariants as outcome
 use Rattle.mdv_engine_law.specs.Line.{ToMake}
@@ -14,41 +13,46 @@ use Rattle.mdv_engine.proofs.Ending.{command_ends, refused_answer}
 use Rattle.mdv_engine.specs.Engine.{case_at}
 use Rattle.mdv_engine.proofs.engine.Engine.make.Goals as goal
 
-pub make_database-requires-clause-room : goal.make_database-requires-clause-room
-make_database-requires-clause-room g c = allowed_room (case_at c.args.self.now) c.args.slice c.args.force c.args.blocks (sym c.creation_refusal.ensures ∙ c.in-None.is)
+pub make_database-requires-clause-form : goal.make_database-requires-clause-form
+make_database-requires-clause-form g c = c.requires.form
 
-pub make_database-requires-clause-none : goal.make_database-requires-clause-none
-make_database-requires-clause-none g c = allowed_none (case_at c.args.self.now) c.args.slice c.args.force c.args.blocks (sym c.creation_refusal.ensures ∙ c.in-None.is)
-
-pub make_database-requires-clause-clean : goal.make_database-requires-clause-clean
-make_database-requires-clause-clean g c = allowed_clean (case_at c.args.self.now) c.args.slice c.args.force c.args.blocks (sym c.creation_refusal.ensures ∙ c.in-None.is)
+pub make_database-requires-clause-allowed : goal.make_database-requires-clause-allowed
+make_database-requires-clause-allowed g c = (c.args.force, sym c.creation_refusal.ensures ∙ c.in-None.is)
 
 pub returns-in-Some-clause-end : goal.returns-in-Some-clause-end
 returns-in-Some-clause-end g c =
-    command_ends _ c.args.self.now (Create c.args.slice c.args.force c.args.blocks) (outcome.Refused c.in-Some.refusal) c.args.self.now _ _
+    let v = c.args.self.now in
+    command_ends _ v (Create c.args.slices.now c.args.force c.args.count c.args.blocks) (outcome.Refused c.in-Some.refusal) v _ _
     (λ t start. (t, start, λ known. came.refused (λ drive. refl) c.in-Some.refusal (sym c.creation_refusal.ensures ∙ c.in-Some.is) (refl, record { memory = refl; content = λ drive block. refl })))
-    (refused_carried c.args.self.now.host (ToMake (key_of c.args.self.now.host) c.args.blocks) c.args.self.now.state _ _ refl c.in-Some.refusal)
+    (refused_carried v.host (ToMake (key_of v.host) (lines_asked v.host c.args.slices.now) c.args.count c.args.blocks) v.state _ _ refl c.in-Some.refusal)
     (λ on u. tt)
 
 pub returns-in-Some-clause-answer : goal.returns-in-Some-clause-answer
 returns-in-Some-clause-answer g c =
+    let v = c.args.self.now in
     let calls = DriveFailures g.S.Shelf c.args.shelf.now c.args.shelf.now in
-    let asked = Create c.args.slice c.args.force c.args.blocks in
-    refused_answer calls asked c.args.self.now c.requires.well c.in-Some.refusal (judged_said (blamed calls c.args.self.now.host c.args.self.now.state asked) (MayLose calls c.args.self.now.host asked) (MaySpend asked) c.in-Some.refusal (creation_judged (case_at c.args.self.now) c.args.slice c.args.force c.args.blocks c.in-Some.refusal (sym c.creation_refusal.ensures ∙ c.in-Some.is)) (λ drive. refl)) (refusal_plain (case_at c.args.self.now) (Create c.args.slice c.args.force c.args.blocks) c.in-Some.refusal (sym c.creation_refusal.ensures ∙ c.in-Some.is))
+    let asked = Create c.args.slices.now c.args.force c.args.count c.args.blocks in
+    let is = sym c.creation_refusal.ensures ∙ c.in-Some.is in
+    refused_answer calls asked v c.requires.well c.in-Some.refusal
+    (judged_said (blame_of calls v.host v.state asked) (MaySpend asked) c.in-Some.refusal (creation_judged (case_at v) c.args.slices.now c.args.force c.args.count c.args.blocks c.in-Some.refusal is) (λ drive. refl))
+    (refusal_plain (case_at v) asked c.in-Some.refusal is)
 
 pub returns-in-None-clause-end : goal.returns-in-None-clause-end
-returns-in-None-clause-end g c = c.make_database.ensures.end c.args.slice c.args.force (sym c.creation_refusal.ensures ∙ c.in-None.is)
+returns-in-None-clause-end g c = c.make_database.ensures.end c.args.force (sym c.creation_refusal.ensures ∙ c.in-None.is)
 
 pub returns-in-None-clause-answer : goal.returns-in-None-clause-answer
-returns-in-None-clause-answer g c = c.make_database.ensures.answer c.args.slice c.args.force
+returns-in-None-clause-answer g c = c.make_database.ensures.answer c.args.force
 
 pub returns-in-Some-clause-counted : goal.returns-in-Some-clause-counted
 returns-in-Some-clause-counted g c =
-    refused_counted g.S.Shelf.tale g.S.Shelf.calls g.S.Shelf.written _ _ (Create c.args.slice c.args.force c.args.blocks) c.in-Some.refusal _
-    (λ fault. absurd (subst IsJudged fault (creation_judged (case_at c.args.self.now) c.args.slice c.args.force c.args.blocks c.in-Some.refusal (sym c.creation_refusal.ensures ∙ c.in-Some.is)))) refl
+    let v = c.args.self.now in
+    refused_counted g.S.Shelf _ _ v.host (Create c.args.slices.now c.args.force c.args.count c.args.blocks) c.in-Some.refusal _ _
+    (λ fault. absurd (subst IsJudged fault (creation_judged (case_at v) c.args.slices.now c.args.force c.args.count c.args.blocks c.in-Some.refusal (sym c.creation_refusal.ensures ∙ c.in-Some.is)))) refl
 
 pub returns-in-Some-clause-moments : goal.returns-in-Some-clause-moments
-returns-in-Some-clause-moments g c = moments_still c.args.self.now.host (ToMake (key_of c.args.self.now.host) c.args.blocks) c.args.self.now.state _ _ refl
+returns-in-Some-clause-moments g c =
+    let v = c.args.self.now in
+    moments_still v.host (ToMake (key_of v.host) (lines_asked v.host c.args.slices.now) c.args.count c.args.blocks) v.state _ _ refl
 
 pub returns-in-None-clause-counted : goal.returns-in-None-clause-counted
-returns-in-None-clause-counted g c = c.make_database.ensures.counted c.args.slice c.args.force
+returns-in-None-clause-counted g c = c.make_database.ensures.counted c.args.force

@@ -1,4 +1,4 @@
-use Rattle.std.proofs.Common.{◌≡◌, ◌∙◌, List, Option, Some, None, ap, rules, subst, sym}
+use Rattle.std.proofs.Common.{◌≡◌, ◌∙◌, Option, Some, None, ap, rules, subst, sym}
 use Rattle.mdv_base.specs.Order.{first_refusal}
 use Rattle.mdv_base.specs.declared.refusal.Refusal.{Refusal}
 use Rattle.mdv_engine_law.specs.Refusals.{held_of_names}
@@ -13,11 +13,11 @@ returns-in_default c = printed_shut c.args.self.now.state c.args.names.now (sear
 
 pub returns-in-Some-missing : goal.returns-in-Some-missing
 returns-in-Some-missing c =
-    turned_down_open c.args.self.now.state c.in-Some.database c.args.names.now c.in-Some-missing.refusal (ap (λ (e : Engine). e.state.opened) (sym c.self.view_is) ∙ c.in-Some.is)
+    turned_down_open c.args.self.now.state c.in-Some.store c.args.names.now c.in-Some-missing.refusal (ap (λ (e : Engine). e.state.opened) (sym c.self.view_is) ∙ c.in-Some.is)
     (subst (λ (t : Table). Some c.in-Some-missing.refusal ≡ first_refusal (held_of_names t.plan.volumes c.args.names.now)) c.table-table.ensures (sym c.in-Some-missing.is ∙ c.missing.ensures))
 
 pub returns-in-None : goal.returns-in-None
 returns-in-None c =
-    printed_open c.args.self.now.state c.in-Some.database c.args.names.now c.printed.result (ap (λ (e : Engine). e.state.opened) (sym c.self.view_is) ∙ c.in-Some.is)
+    printed_open c.args.self.now.state c.in-Some.store c.args.names.now c.printed.result (ap (λ (e : Engine). e.state.opened) (sym c.self.view_is) ∙ c.in-Some.is)
     (subst (λ (t : Table). ◌≡◌ {A = Option Refusal} None (first_refusal (held_of_names t.plan.volumes c.args.names.now))) c.table-table.ensures (sym c.in-None.is ∙ c.missing.ensures))
     (subst (λ (t : Table). IsPrint t.plan c.args.names.now c.printed.result) c.table-table.ensures c.printed.ensures)

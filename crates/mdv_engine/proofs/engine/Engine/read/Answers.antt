@@ -8,6 +8,7 @@ use Rattle.mdv_engine_law.specs.Answers.{telling}
 use Rattle.mdv_engine_law.specs.declared.answer.Outcome.TheVariants as outcome
 use Rattle.mdv_engine_law.proofs.Transfer.{saw}
 use Rattle.mdv_engine.proofs.Blocks.{moments_still, refused_carried, unread_line, unread_cause, unread_plain}
+use Rattle.mdv_engine.proofs.Counting.{exactly_most}
 use Rattle.mdv_engine.proofs.Ending.{command_ends, refused_answer}
 use Rattle.mdv_engine.proofs.engine.Engine.read.Goals as goal
 
@@ -18,7 +19,7 @@ pub returns-in-Ok-clause-end : goal.returns-in-Ok-clause-end
 returns-in-Ok-clause-end g c =
     let read = c.in-Ok.ensures.ok in
     command_ends _ c.args.self.now (command.Read c.args.volume c.args.at c.args.count) (outcome.Values c.in-Ok.text) c.args.self.now _ _
-    (λ t start. (t, c.values.ensures.same ∙ start, λ known. came.done read.calm read.allowed (read.place, read.there, ap telling (read.as_told ∙ ap (values_reply c.args.at) (read.as_there t start)), record { memory = refl; content = λ drive block. refl })))
+    (λ t start. (t, c.values.ensures.same ∙ start, λ known. came.done read.allowed (read.calm, read.place, read.there, ap telling (read.as_told ∙ ap (values_reply c.args.at) (read.as_there t start)), record { memory = refl; content = λ drive block. refl })))
     (λ t start. (t, c.values.ensures.same ∙ start, saw c.args.self.now.host (g.S.Shelf.sizes c.args.shelf.now) c.requires.ready c.args.self.now.state c.args.volume c.args.at c.args.count read.place (omega arith) read.there t c.in-Ok.text (read.as_told ∙ ap (values_reply c.args.at) (read.as_there t start))))
     (λ on u. tt)
 
@@ -26,9 +27,10 @@ pub returns-in-Ok-clause-answer : goal.returns-in-Ok-clause-answer
 returns-in-Ok-clause-answer g c = record {
   plain = inl (record { at = c.args.at; blocks = c.in-Ok.ensures.ok.blocks; is = c.in-Ok.ensures.ok.as_told });
   cause = c.in-Ok.ensures.ok.calm;
+  lost = λ active listed is. absurd (cc (is));
   free = λ on has. absurd (omega (arith, has.1));
   host = refl;
-  well = c.requires.well;
+  well = λ on. c.requires.well;
   begun = omega arith;
 }
 
@@ -38,7 +40,7 @@ returns-in-Err-clause-moments g c = moments_still c.args.self.now.host (ToSee (k
 pub returns-in-Err-clause-answer : goal.returns-in-Err-clause-answer
 returns-in-Err-clause-answer g c =
     refused_answer (DriveFailures g.S.Shelf c.args.shelf.now c.values.new.shelf) (command.Read c.args.volume c.args.at c.args.count) c.args.self.now c.requires.well c.in-Err.refusal
-    (unread_cause c.args.self.now.host c.args.self.now.state c.args.volume c.args.at c.args.count (DriveFailures g.S.Shelf c.args.shelf.now c.values.new.shelf) ⊥ ⊥ c.in-Err.refusal c.in-Err.ensures.err)
+    (unread_cause c.args.self.now.host c.args.self.now.state c.args.volume c.args.at c.args.count (DriveFailures g.S.Shelf c.args.shelf.now c.values.new.shelf) ⊥ c.in-Err.refusal c.in-Err.ensures.err)
     (unread_plain c.args.self.now.host c.args.self.now.state c.args.volume c.args.at c.args.count (DriveFailures g.S.Shelf c.args.shelf.now c.values.new.shelf) c.in-Err.refusal c.in-Err.ensures.err)
 
 pub returns-in-Err-clause-end : goal.returns-in-Err-clause-end
@@ -50,4 +52,4 @@ returns-in-Err-clause-end g c =
     (λ on u. tt)
 
 pub returns-in-Ok-clause-counted : goal.returns-in-Ok-clause-counted
-returns-in-Ok-clause-counted g c = record { exactly = c.in-Ok.ensures.counted; few = omega arith }
+returns-in-Ok-clause-counted g c = record { exactly = c.in-Ok.ensures.counted; most = exactly_most g.S.Shelf _ _ c.args.self.now.host 1 0 c.in-Ok.ensures.counted; wrote = tt }

@@ -15,3 +15,6 @@ returns-in-None-clause-lies c = absurd (not_none c.args.self.now.host c.requires
 
 pub returns-in-None-clause-sized : goal.returns-in-None-clause-sized
 returns-in-None-clause-sized c = absurd (not_none c.args.self.now.host c.requires.sound c.args.volume.now c.stripe_of.result c.slice_of.result c.stripe_of.ensures c.slice_of.ensures c.requires.kind c.in-None.ensures.none)
+
+pub returns-in-None-clause-within : goal.returns-in-None-clause-within
+returns-in-None-clause-within c = absurd (not_none c.args.self.now.host c.requires.sound c.args.volume.now c.stripe_of.result c.slice_of.result c.stripe_of.ensures c.slice_of.ensures c.requires.kind c.in-None.ensures.none)

@@ -44,7 +44,7 @@ new-requires g c =
 
 pub returns-in-Err-clause-counted : goal.returns-in-Err-clause-counted
 returns-in-Err-clause-counted g c =
-    blocks_counted g.S.Shelf.tale g.S.Shelf.calls g.S.Shelf.written _ _ (Read c.args.volume c.args.at c.args.count) _ c.args.self.now.host c.args.self.now.state c.args.volume c.args.at _ c.in-Err.refusal _ c.in-Err.ensures.err c.in-Err.ensures.counted.refused (λ is. c.in-Err.ensures.counted.failed (ap Err is))
+    blocks_counted g.S.Shelf _ _ c.args.self.now.host (Read c.args.volume c.args.at c.args.count) _ c.args.self.now.state c.args.volume c.args.at _ c.in-Err.refusal _ _ c.in-Err.ensures.err c.in-Err.ensures.counted.refused (λ is. c.in-Err.ensures.counted.failed (ap Err is))
 
 -- the text of the blocks that were read had no room
 pub returns-clause-counted : goal.returns-clause-counted

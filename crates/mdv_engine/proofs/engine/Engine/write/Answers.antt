@@ -4,6 +4,7 @@ use Rattle.mdv_shelf.specs.Shelves.{DriveFailures}
 use Rattle.mdv_engine.specs.Below.{Wrote, key_of}
 use Rattle.mdv_engine_law.specs.declared.answer.Outcome.TheVariants as outcome
 use Rattle.mdv_engine.proofs.Blocks.{torn_of, unwritten, unwritten_cause, unwritten_plain, write_moments, written_carried, written_line}
+use Rattle.mdv_engine.proofs.Counting.{exactly_most}
 use Rattle.mdv_engine.proofs.Ending.{command_ends, done_ends, no_creation, refused_answer}
 use Rattle.mdv_engine_law.specs.Answers.{accepted}
 use Rattle.mdv_engine.proofs.engine.Engine.write.Goals as goal
@@ -23,9 +24,10 @@ pub returns-in-Ok-clause-answer : goal.returns-in-Ok-clause-answer
 returns-in-Ok-clause-answer g c = rw (c.write_blocks.ensures.same.0) (record {
   plain = tt;
   cause = c.in-Ok.ensures.put.calm;
+  lost = λ active listed is. absurd (cc (is));
   free = λ on has. absurd (no_creation (key_of c.args.self.now.host) (Wrote (key_of c.args.self.now.host) c.args.volume c.args.at (c.args.block.now ∷ [])) (λ is. absurd (cc (is))) has);
   host = refl;
-  well = c.requires.well;
+  well = λ on. c.requires.well;
   begun = omega arith;
 })
 
@@ -41,7 +43,7 @@ returns-in-Err-clause-end g c =
 
 pub returns-in-Err-clause-answer : goal.returns-in-Err-clause-answer
 returns-in-Err-clause-answer g c =
-    rw (c.write_blocks.ensures.same.0) (refused_answer (DriveFailures g.S.Shelf c.args.shelf.now c.write_blocks.new.shelf) (command.Write c.args.volume c.args.at c.args.block.now) c.args.self.now c.requires.well c.in-Err.refusal (unwritten_cause c.args.self.now.host c.args.self.now.state c.args.volume c.args.at 1 (DriveFailures g.S.Shelf c.args.shelf.now c.write_blocks.new.shelf) ⊥ ⊥ c.in-Err.refusal c.in-Err.ensures.err) (unwritten_plain c.args.self.now.host c.args.self.now.state c.args.volume c.args.at 1 (DriveFailures g.S.Shelf c.args.shelf.now c.write_blocks.new.shelf) c.in-Err.refusal c.in-Err.ensures.err))
+    rw (c.write_blocks.ensures.same.0) (refused_answer (DriveFailures g.S.Shelf c.args.shelf.now c.write_blocks.new.shelf) (command.Write c.args.volume c.args.at c.args.block.now) c.args.self.now c.requires.well c.in-Err.refusal (unwritten_cause c.args.self.now.host c.args.self.now.state c.args.volume c.args.at 1 (DriveFailures g.S.Shelf c.args.shelf.now c.write_blocks.new.shelf) ⊥ c.in-Err.refusal c.in-Err.ensures.err) (unwritten_plain c.args.self.now.host c.args.self.now.state c.args.volume c.args.at 1 (DriveFailures g.S.Shelf c.args.shelf.now c.write_blocks.new.shelf) c.in-Err.refusal c.in-Err.ensures.err))
 
 pub returns-in-Ok-clause-counted : goal.returns-in-Ok-clause-counted
-returns-in-Ok-clause-counted g c = record { exactly = c.in-Ok.ensures.counted.done; few = omega arith }
+returns-in-Ok-clause-counted g c = record { exactly = c.in-Ok.ensures.counted.done; most = exactly_most g.S.Shelf _ _ c.args.self.now.host 2 1 c.in-Ok.ensures.counted.done; wrote = tt }

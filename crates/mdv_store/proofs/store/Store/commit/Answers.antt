@@ -1,14 +1,15 @@
 use Rattle.std.proofs.Common.{◌≡◌, inl, ℕ, List, ◌≤◌, ◌∙◌, true, Err, ap, arith, length, refl, subst, sym, vec_len}
 use Rattle.mdv_shelf.specs.Moments.{Ends, Moments}
-use Rattle.mdv_shelf.specs.Shelves.{DriveFailures}
-use Rattle.mdv_store.specs.Below.{Failures, record_text}
+use Rattle.mdv_shelf.specs.Shelves.{AtEnd, DriveFailures}
+use Rattle.mdv_store.specs.Below.{Failures, Geometry, IsOfGeometry, record_text}
 use Rattle.mdv_store.specs.Commit.{CameOfCommit, CommitDone, CommitMoment, IsCommitted, IsLostNow, next_mark, room_in}
-use Rattle.mdv_store.specs.Opened.{Opened}
+use Rattle.mdv_store.specs.Opened.{IsOpenedAt, Opened}
 use Rattle.mdv_store.specs.Seats.{AreLaid, TakesSlot, active_of, is_half_active}
+use Rattle.mdv_store.specs.Writing.{WritingEnds}
 use Rattle.mdv_store.specs.declared.seats.Seat.{Seat}
 use Rattle.mdv_store.specs.declared.store.CommitFault.{CommitFault}
 use Rattle.mdv_store.specs.declared.store.CommitFault.TheVariants.{Lost}
-use Rattle.mdv_store.proofs.Committing.{IsCommitting, commit_ends, commit_moments, committed, lost_now, lost_open, new_open, none_moments}
+use Rattle.mdv_store.proofs.Committing.{IsCommitting, commit_ends, commit_moments, committed, left_ends, lost_now, lost_open, new_open, none_moments}
 use Rattle.mdv_store.proofs.Marks.{slot_laid}
 use Rattle.mdv_store.proofs.Rooms.{have_room}
 use Rattle.mdv_store.proofs.Sitting.{left_count, left_laid}
@@ -79,6 +80,18 @@ laid g c =
     left_laid (failed g c) (TakesSlot mark bytes) (g.S.Shelf.sizes c.write_all.new.shelf) c.self.inside.seats c.write_all.new.seats (slot_laid mark bytes (g.S.Shelf.sizes c.write_all.new.shelf)) c.write_all.ensures.left
     (subst (λ (sizes : List ℕ). AreLaid sizes c.self.inside.seats) (sym c.write_all.ensures.kept.keeps.same_sizes) before)
 
+-- what was written, and of that these are left
+written : (g : _) (c : After-write_all g) → AtEnd g.S.Shelf (WritingEnds c.args.self.now.seats c.write_all.new.seats (next_mark c.args.self.now.mark) c.args.next) c.args.shelf.now c.write_all.new.shelf
+written g c =
+    subst (λ (o : Opened). AtEnd g.S.Shelf (WritingEnds o.seats c.write_all.new.seats (next_mark o.mark) c.args.next) c.args.shelf.now c.write_all.new.shelf) c.self.view_is c.write_all.ensures.end
+
+-- and these show it
+left_show : (g : _) (c : After-write_all g) → AtEnd g.S.Shelf (λ t u. (geometry : Geometry) → IsOfGeometry geometry c.args.next → IsOpenedAt geometry c.args.self.now t → IsOpenedAt geometry (record (opened g c) { mark = next_mark c.args.self.now.mark; table = c.args.next; seats = c.write_all.new.seats }) u)
+    c.args.shelf.now c.write_all.new.shelf
+left_show g c =
+    subst (λ (o : Opened). Ends (λ t u. (geometry : Geometry) → IsOfGeometry geometry c.args.next → IsOpenedAt geometry o t → IsOpenedAt geometry (record (opened g c) { mark = next_mark o.mark; table = c.args.next; seats = c.write_all.new.seats }) u) (g.S.Shelf.tale c.args.shelf.now) (g.S.Shelf.tale c.write_all.new.shelf)) c.self.view_is
+    (left_ends (opened g c) c.args.next (committing g c) (failed g c) c.write_all.new.seats c.write_all.ensures.left _ _ c.write_all.ensures.end)
+
 pub returns-then-not-is_half_active-2-clause-answer : goal.returns-then-not-is_half_active-2-clause-answer
 returns-then-not-is_half_active-2-clause-answer g c =
     let w = (goal.at.returns-then-not-is_half_active-2-clause-answer g c).After-write_all in
@@ -86,7 +99,7 @@ returns-then-not-is_half_active-2-clause-answer g c =
     let new : Opened = record (opened g w) { seats = c.write_all.new.seats } in
     let now = subst (λ (o : Opened). IsLostNow (failed g w) o new c.args.next) c.self.view_is (lost_now (opened g w) c.args.next (committing g w) (failed g w) c.write_all.new.seats c.write_all.ensures.left few) in
     let told = subst (λ (l : List Seat). c.lost-then-not-is_half_active-2.result ≡ Lost (active_of l) (length l)) c.as_slice-then-not-is_half_active-2.ensures c.lost-then-not-is_half_active-2.ensures in
-    record { came = subst (λ (fault : CommitFault). CameOfCommit (failed g w) c.args.self.now new c.args.next (Err fault)) (sym told) (refl, refl, inl now); laid = laid g w }
+    record { came = subst (λ (fault : CommitFault). CameOfCommit (failed g w) c.args.self.now new c.args.next (Err fault)) (sym told) (refl, refl, inl now); laid = laid g w; passed = λ tried. written g w; shown = λ tried. left_show g w }
 
 pub returns-clause-answer : goal.returns-clause-answer
 returns-clause-answer g c =
@@ -96,6 +109,8 @@ returns-clause-answer g c =
     record {
       came = subst (λ (o : Opened). IsCommitted (failed g w) o new c.args.next) c.self.view_is (committed (opened g w) c.args.next (committing g w) (failed g w) c.write_all.new.seats c.write_all.ensures.left half);
       laid = laid g w;
+      passed = λ tried. written g w;
+      shown = λ tried. left_show g w;
     }
 
 -- at each moment

@@ -8,8 +8,9 @@ use Rattle.mdv_table.specs.Change.{refusal_of}
 use Rattle.mdv_table.specs.Plan.{used_slices}
 use Rattle.mdv_table.specs.Slices.{IsSound}
 use Rattle.mdv_table.specs.Volumes.{HasVolume, HasNoVolume}
-use Rattle.mdv_table.proofs.Causes.{no_slice, name_taken, wrong_kind, in_use}
+use Rattle.mdv_table.proofs.Causes.{no_slice, name_taken, wrong_kind, in_use, near_db}
 use Rattle.mdv_table.proofs.plan.Plan.check_stripe.Goals as goal
+use Rattle.mdv_table.proofs.plan.Plan.check_stripe.Goals.{then-has-via-then-has, then-has-via-else-has+then-meets_db}
 
 at_none : {A : Type 0} (o : Option A) (P : Type 0) → is_some o ≡ false → IfNone o P → P
 at_none None P none here = here
@@ -46,8 +47,13 @@ pub returns-then-has : goal.returns-then-has
 returns-then-has c =
     let has : HasSlice c.args.geometry.now.slices c.args.slice c.in_ok-at.at = search rules in
     let free : HasNoVolume c.args.self.now.volumes c.args.number = at_none c.find-2.result _ (sym c.is_some.ensures ∙ c.if-is_some.false) c.find-2.ensures.none in
-    let used = (c.if-has.ensures (used_slices c.args.self.now) c.of_plan.ensures).0 refl in
-    in_use c.args.geometry.now c.requires c.args.self.now c.args.number c.args.slice c.in_ok-at.at has free c.if-at.false used
+    elim c.then-has.branch [
+      | then-has-via-then-has w ↦
+          let used = (w.if-has.ensures (used_slices c.args.self.now) c.of_plan.ensures).0 refl in
+          in_use c.args.geometry.now c.requires c.args.self.now c.args.number c.args.slice c.in_ok-at.at has free c.if-at.false used
+      | then-has-via-else-has+then-meets_db w ↦
+          near_db c.args.geometry.now c.requires c.args.self.now c.args.number c.args.slice c.in_ok-at.at has free c.if-at.false (sym w.meets_db.ensures ∙ w.if-meets_db.true)
+    ]
 
 pub returns : goal.returns
 returns c =
@@ -57,4 +63,5 @@ returns c =
       free = at_none c.find-2.result _ (sym c.is_some.ensures ∙ c.if-is_some.false) c.find-2.ensures.none;
       plain = search rules;
       unused = λ it. cc (unused it);
+      clear = sym c.meets_db.ensures ∙ c.if-meets_db.false;
     }

@@ -1,5 +1,0 @@
-use Rattle.mdv_database.proofs.Counting.{read_for}
-use Rattle.mdv_database.proofs.body.Body.read.Goals as goal
-
-pub returns-clause-counted : goal.returns-clause-counted
-returns-clause-counted g c = read_for g.S.Shelf _ _ 1 c.read_table.result c.read_table.ensures.counted

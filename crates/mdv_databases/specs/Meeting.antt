@@ -1,0 +1,26 @@
+-- Of more than half of the places that the tables of a database list, one has a replica that shows a table.
+use Rattle.std.specs.Prelude.{◌≡◌, ◌*◌, ◌<◌, ℕ, Bool, true, false, List, length, count_by, Option, None, Some, Contains}
+use Rattle.mdv_replica.specs.Form.{shows}
+use Rattle.mdv_survey.specs.Replica.{IsFoundIn}
+use Rattle.mdv_store_law.specs.Log.{IsNotOlder, Version, is_firm}
+use Rattle.mdv_databases.specs.Below.{Database, Geometry, Key, One, Place, Replica, SliceAt, Tale, last, log_of, site_of, slice_at}
+use Rattle.mdv_databases.specs.Standing.{Stand}
+
+-- a boot may find this version: none whose write was answered is above it
+abbrev pub MayBeFound : List Version → Version → Type 0
+MayBeFound family version = Contains family version × IsNotOlder version.mark family
+
+-- the slice is there, on a drive that passes the test
+abbrev pub is_on : (ℕ → Bool) → Option SliceAt → Bool
+is_on up None = false
+is_on up (Some at) = up at.drive.0
+
+-- more than half of these places lie on slices on which the key's boots look, on drives that pass the test
+abbrev pub MostOn : Geometry → Key → (ℕ → Bool) → List Place → Type 0
+MostOn g key up places = length places < 2 * count_by (λ (place : Place). is_on up (slice_at (site_of g key).lines place.slice)) places
+
+pub record DatabasesMeet : Type 0 where
+  -- once a write of the key's current database was answered, and each table that a boot may find lists these places: a replica that shows a table is found on such a drive
+  pub shown : (g : Geometry) (all : List Database) (key : Key) (places : List Place) (up : ℕ → Bool) (t : Tale) → Stand g all t → is_firm (log_of all key) ≡ true
+      → ((v : Version) → MayBeFound (log_of all key).family v → v.table.plan.lists ≡ One places) → MostOn g key up places
+      → (r : Replica) × IsFoundIn g (site_of g key) (last t) r × (up r.line.at.drive.0 ≡ true) × (shows r.head ≡ true)

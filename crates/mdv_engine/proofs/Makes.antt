@@ -1,0 +1,195 @@
+-- A creation that the engine makes of its store, put together: its moments, its end, its answer and its calls.
+use Rattle.std.proofs.Common.{◌≡◌, ◌≤◌, ◌<◌, ◌+◌, ◌^◌, ℕ, Bool, List, length, Option, Some, None, Ok, Err, refl, sym, subst, ap, ◌∙◌, arith}
+use Rattle.std.specs.Prelude.{IfSome}
+use Rattle.mdv_shelf.proofs.Moments.{ends_both, moments_end, moments_weaker}
+use Rattle.mdv_shelf.specs.Drives.{KeptAmong}
+use Rattle.mdv_shelf.specs.Shelves.{AtEachTale, AtEnd, DriveFailures}
+use Rattle.mdv_shelf.specs.declared.shelf.Shelf.{Ghosts}
+use Rattle.mdv_store.specs.Create.{AreAsked, CreateEnds, CreateMoment, IsCreated, IsCreationCounted, WereFormed, drives_asked, seats_asked}
+use Rattle.mdv_store.specs.Seats.{AreTheirs}
+use Rattle.mdv_store.specs.declared.creating.CreateFault.TheVariants as unmade
+use Rattle.mdv_words.specs.Line.{IsCount, IsLength}
+use Rattle.mdv_engine_law.specs.Answers.{accepted, refusing}
+use Rattle.mdv_engine_law.specs.Line.{AreCalmBeside, ToMake}
+use Rattle.mdv_engine_law.specs.declared.answer.Answer.TheVariants.{Over}
+use Rattle.mdv_engine_law.specs.declared.answer.Ended.TheVariants as ended
+use Rattle.mdv_engine_law.specs.declared.answer.Outcome.TheVariants as outcome
+use Rattle.mdv_engine_law.proofs.Plain.{fault_plain, memory_plain}
+use Rattle.mdv_engine.specs.Below.{Answer, AreLaid, CameTo, CarriedTo, CarryMoment, Create, CreateFault, Identity, IoFault, IsAllowed, IsOpenedAt, IsReady, Key, Knows, Memory, Opened, OutOfMemory, SliceLine, SliceName, Tale, identity_of, kept_at, key_of, lines_asked}
+use Rattle.mdv_engine.specs.Counts.{IsCommandCounted}
+use Rattle.mdv_engine.specs.Ends.{CreationEnds, HasAnswered, LeavesMade, made_at}
+use Rattle.mdv_engine.specs.Engine.{IsHeldBy, IsLostOnSite, IsWell, answer_of, case_at}
+use Rattle.mdv_engine.specs.declared.engine.Engine.{Engine}
+use Rattle.mdv_engine.proofs.Counting as counting
+use Rattle.mdv_engine.proofs.Creating as creating
+use Rattle.mdv_engine.proofs.Creating.{begun, with_new}
+use Rattle.mdv_engine.proofs.Ending.{command_ends, lost_ends}
+
+-- what is told of the engine as it stands is so of the one before
+pub to_old : (v e : Engine) → e ≡ v → (lines : List SliceLine) (slices : List SliceName) → lines ≡ lines_asked e.host slices → (P : Key → Identity → List SliceLine → Type 0)
+    → P (key_of e.host) (identity_of e.host e.state.begun) lines → P (key_of v.host) (identity_of v.host v.state.begun) (lines_asked v.host slices)
+to_old v e is lines slices lines_is P it =
+    subst (λ (x : Engine). P (key_of x.host) (identity_of x.host x.state.begun) (lines_asked x.host slices)) is (subst (λ (ls : List SliceLine). P (key_of e.host) (identity_of e.host e.state.begun) ls) lines_is it)
+
+-- and the other way
+pub asked_now : (v e : Engine) → e ≡ v → (lines : List SliceLine) (slices : List SliceName) → lines ≡ lines_asked e.host slices → (sizes : List ℕ) (count blocks : ℕ) → AreAsked sizes (lines_asked v.host slices) count blocks → AreAsked sizes lines count blocks
+asked_now v e is lines slices lines_is sizes count blocks asked = subst (λ (ls : List SliceLine). AreAsked sizes ls count blocks) (sym (lines_is ∙ ap (λ (x : Engine). lines_asked x.host slices) is)) asked
+
+-- the numbers of two answers are the same
+pub moved : (P : ℕ → ℕ → Type 0) (a b c d : ℕ) → Over (ended.Lost a b) ≡ Over (ended.Lost c d) → P a b → P c d
+moved P a b c d is it =
+    let one : a ≡ c = cc (is) in
+    let two : b ≡ d = cc (is) in
+    subst (λ (n : ℕ). P n d) one (subst (λ (n : ℕ). P a n) two it)
+
+same_most : (n : ℕ) → n ≤ n
+same_most n = omega arith
+
+within_one : (n : ℕ) → n + 1 < 2 ^ 32 → n < 2 ^ 32
+within_one n small = omega (arith, small)
+
+module _ {S : Type 0} (shelf : Ghosts S) (a b : S) (v : Engine) (ready : IsReady v.host (shelf.sizes a)) (slices : List SliceName) (count blocks : ℕ) (form : (1 ≤ length slices) × IsCount count × IsLength blocks) (small : v.state.begun + 1 < 2 ^ 32) where
+  abbrev key : Key
+  key = key_of v.host
+
+  abbrev identity : Identity
+  identity = identity_of v.host v.state.begun
+
+  abbrev lines : List SliceLine
+  lines = lines_asked v.host slices
+
+  abbrev Free : Bool → Type 0
+  Free force = IsAllowed (case_at v) (Create slices force count blocks)
+
+  abbrev now : Memory → Engine
+  now memory = record { host = v.host; state = memory }
+
+  -- memory was wanting before anything was done
+  pub wanting_ends : (force : Bool) → Free force → shelf.tale b ≡ shelf.tale a → ((drive : ℕ) → (DriveFailures shelf a b drive).none) → CreationEnds shelf a b v slices force count blocks (refusing OutOfMemory) (now (begun v.state))
+  wanting_ends force free same calm = command_ends (DriveFailures shelf a b) v (Create slices force count blocks) (outcome.Refused OutOfMemory) (now (begun v.state)) (shelf.tale a) (shelf.tale b)
+      (creating.unbegun_line v.host v.state slices force count blocks (shelf.tale a) (shelf.tale b) same free (DriveFailures shelf a b) calm)
+      (creating.unbegun_carried v.host v.state slices force count blocks (shelf.tale a) (shelf.tale b) same)
+      (λ on u. tt)
+
+  module _ (held : (force : Bool) × Free force) where
+    nothing_open : v.state.opened ≡ None
+    nothing_open = creating.none v.host (shelf.sizes a) ready v.state slices held.0 count blocks held.1 form.0 form.1 form.2
+
+    well_begun : IsWell v.host (begun v.state)
+    well_begun = record { database = subst (λ (o : Option Opened). IfSome o (IsHeldBy v.host)) (sym nothing_open) tt }
+
+    pub wanting_answer : ((drive : ℕ) → (DriveFailures shelf a b drive).none) → (force : Bool) → HasAnswered (DriveFailures shelf a b) (Create slices force count blocks) v (refusing OutOfMemory) (now (begun v.state))
+    wanting_answer calm force = record { plain = memory_plain; cause = calm; lost = λ one two is. absurd (cc (is)); free = λ on has. absurd on; host = refl; well = λ on. well_begun; begun = same_most (v.state.begun + 1) }
+
+    pub creation_moments : AtEachTale shelf (CreateMoment key identity lines count blocks) a b → AtEachTale shelf (CarryMoment v.host (ToMake key lines count blocks) v.state) a b
+    creation_moments moments = moments_weaker (CreateMoment key identity lines count blocks) (CarryMoment v.host (ToMake key lines count blocks) v.state) (shelf.tale a) (shelf.tale b)
+        (λ t m. creating.making_moment v.host (shelf.sizes a) ready v.state slices held.0 count blocks held.1 form.0 form.1 form.2 t m) moments
+
+    -- it was made
+    module _ (kept : KeptAmong shelf a b (drives_asked lines)) (o : Opened) (created : IsCreated shelf a b key identity lines count blocks (Ok o)) where
+      pub made_answer : (force : Bool) → HasAnswered (DriveFailures shelf a b) (Create slices force count blocks) v accepted (now (with_new v.state o))
+      made_answer force = record {
+        plain = tt;
+        cause = creating.calm_beside shelf a b (drives_asked lines) kept;
+        lost = λ one two is. absurd (cc (is));
+        free = λ on has. (nothing_open, creating.clean v.host (shelf.sizes a) ready v.state slices held.0 count blocks held.1 form.0 form.1 form.2);
+        host = refl;
+        well = λ on. record { database = creating.made_held v.host (shelf.sizes a) ready v.state slices held.0 count blocks held.1 form.0 form.1 form.2 (DriveFailures shelf a b) o created.came (subst (λ (s : List ℕ). AreLaid s o.seats) kept.keeps.same_sizes created.formed.2) };
+        begun = same_most (v.state.begun + 1);
+      }
+
+  module _ (force : Bool) (free : Free force) (kept : KeptAmong shelf a b (drives_asked lines)) (moments : AtEachTale shelf (CreateMoment key identity lines count blocks) a b) where
+    calm : AreCalmBeside (drives_asked lines) (DriveFailures shelf a b)
+    calm = creating.calm_beside shelf a b (drives_asked lines) kept
+
+    -- with the last moment
+    with_moment : (E R : Tale → Tale → Type 0) → ((t u : Tale) → CreateMoment key identity lines count blocks t u → E t u → R t u) → AtEnd shelf E a b → AtEnd shelf R a b
+    with_moment E R join ends = ends_both (CreateMoment key identity lines count blocks) E R (shelf.tale a) (shelf.tale b) join (moments_end (CreateMoment key identity lines count blocks) (shelf.tale a) (shelf.tale b) moments) ends
+
+    -- with each place formatted
+    abbrev Formed : Tale → Type 0
+    Formed u = AreTheirs v.host.drives key identity (seats_asked key identity lines count blocks) u
+
+    with_formed : (E : Tale → Tale → Type 0) → WereFormed shelf a b key identity lines count blocks → AtEnd shelf E a b → AtEnd shelf (λ t u. E t u × Formed u) a b
+    with_formed E formed ends = ends_both E (λ t u. Formed u) (λ t u. E t u × Formed u) (shelf.tale a) (shelf.tale b) (λ t u end its. (end, its)) ends
+        (creating.formed_end v.host (shelf.sizes a) ready v.state slices force count blocks free form.0 form.1 form.2 shelf a b (within_one v.state.begun small) formed)
+
+    pub made_ends : (o : Opened) → IsCreated shelf a b key identity lines count blocks (Ok o) → AtEnd shelf (CreateEnds key identity lines count blocks (Ok o)) a b → CreationEnds shelf a b v slices force count blocks accepted (now (with_new v.state o))
+    made_ends o created ends =
+        let all = with_formed (CreateEnds key identity lines count blocks (Ok o)) created.formed.0 ends in
+        command_ends (DriveFailures shelf a b) v (Create slices force count blocks) outcome.Ok (now (with_new v.state o)) (shelf.tale a) (shelf.tale b)
+        (with_moment (λ t u. CreateEnds key identity lines count blocks (Ok o) t u × Formed u) (λ t u. Knows v.host v.state t → CameTo (DriveFailures shelf a b) v.host (kept_at v.state t) (Create slices force count blocks) accepted (kept_at (with_new v.state o) u))
+        (λ t u moment end known. creating.made_line v.host (shelf.sizes a) ready v.state slices force count blocks free form.0 form.1 form.2 t u moment (DriveFailures shelf a b) o created.came calm end.0 end.1) all)
+        (with_moment (λ t u. CreateEnds key identity lines count blocks (Ok o) t u × Formed u) (CarriedTo v.host (ToMake key lines count blocks) v.state accepted (with_new v.state o))
+        (λ t u moment end. creating.made_carried v.host (shelf.sizes a) ready v.state slices force count blocks free form.0 form.1 form.2 t u moment (DriveFailures shelf a b) o created.came calm end.0 end.1) all)
+        (λ on u. tt)
+
+    failed_ends : IsCreated shelf a b key identity lines count blocks (Err unmade.Failed) → AtEnd shelf (CreateEnds key identity lines count blocks (Err unmade.Failed)) a b → CreationEnds shelf a b v slices force count blocks (refusing IoFault) (now (begun v.state))
+    failed_ends created ends = command_ends (DriveFailures shelf a b) v (Create slices force count blocks) (outcome.Refused IoFault) (now (begun v.state)) (shelf.tale a) (shelf.tale b)
+        (with_moment (CreateEnds key identity lines count blocks (Err unmade.Failed)) (λ t u. Knows v.host v.state t → CameTo (DriveFailures shelf a b) v.host (kept_at v.state t) (Create slices force count blocks) (refusing IoFault) (kept_at (begun v.state) u))
+        (λ t u moment end. creating.failed_line v.host (shelf.sizes a) ready v.state slices force count blocks free form.0 form.1 form.2 t u moment (DriveFailures shelf a b) created.came end) ends)
+        (with_moment (CreateEnds key identity lines count blocks (Err unmade.Failed)) (CarriedTo v.host (ToMake key lines count blocks) v.state (refusing IoFault) (begun v.state))
+        (λ t u moment end. creating.failed_carried v.host (shelf.sizes a) ready v.state slices force count blocks free form.0 form.1 form.2 t u moment (DriveFailures shelf a b) created.came end) ends)
+        (λ on u. tt)
+
+    given_up : (active listed : ℕ) → IsCreated shelf a b key identity lines count blocks (Err (unmade.Lost active listed)) → CreationEnds shelf a b v slices force count blocks (Over (ended.Lost active listed)) (now (begun v.state))
+    given_up active listed created =
+        let found = creating.leaves v.host (shelf.sizes a) ready v.state slices force count blocks free form.0 form.1 form.2 shelf a b (within_one v.state.begun small) created.formed.0 active listed created.came created.formed.1 created.formed.2 in
+        let open_at = λ (t u : Tale). IsOpenedAt v.host.drives (made_at v.host v.state.begun lines count blocks found.0.now) u in
+        let all = with_formed open_at created.formed.0 found.1 in
+        let both = λ (t u : Tale). open_at t u × Formed u in
+        lost_ends (DriveFailures shelf a b) v (Create slices force count blocks) (Over (ended.Lost active listed)) (now (begun v.state)) (shelf.tale a) (shelf.tale b)
+        (with_moment both (λ t u. Knows v.host v.state t → CameTo (DriveFailures shelf a b) v.host (kept_at v.state t) (Create slices force count blocks) (Over (ended.Lost active listed)) (kept_at (begun v.state) u))
+        (λ t u moment left known. creating.lost_line v.host (shelf.sizes a) ready v.state slices force count blocks free form.0 form.1 form.2 t u moment (DriveFailures shelf a b) active listed found.0 calm left.1 left.0) all)
+        (moments_end (CarriedTo v.host (ToMake key lines count blocks) v.state (Over (ended.Lost active listed)) (begun v.state)) (shelf.tale a) (shelf.tale b)
+        (moments_weaker (CreateMoment key identity lines count blocks) (CarriedTo v.host (ToMake key lines count blocks) v.state (Over (ended.Lost active listed)) (begun v.state)) (shelf.tale a) (shelf.tale b)
+        (λ t m moment. creating.lost_carried v.host (shelf.sizes a) ready v.state slices force count blocks free form.0 form.1 form.2 t m moment active listed (begun v.state)) moments))
+        (λ on. on)
+        (with_moment both (λ t u. (one two : ℕ) → Over (ended.Lost active listed) ≡ Over (ended.Lost one two) → LeavesMade (DriveFailures shelf a b) v.host v.state (Create slices force count blocks) one two u)
+        (λ t u moment left one two is. moved (λ (x y : ℕ). LeavesMade (DriveFailures shelf a b) v.host v.state (Create slices force count blocks) x y u) active listed one two is (record { lost = found.0; formed = left.1; left = left.0 })) all)
+
+    -- what became of it where it isn't made
+    unmade_by : (fault : CreateFault) → IsCreated shelf a b key identity lines count blocks (Err fault) → AtEnd shelf (CreateEnds key identity lines count blocks (Err fault)) a b → IsCreationCounted shelf a b lines count blocks (Err fault)
+        → CreationEnds shelf a b v slices force count blocks (answer_of fault) (now (begun v.state))
+    unmade_by unmade.Failed created ends counted = failed_ends created ends
+    unmade_by (unmade.Lost active listed) created ends counted = given_up active listed created
+    unmade_by unmade.Memory created ends counted = wanting_ends force free (ap shelf.tale counted) created.came
+
+    pub unmade_ends : (fault : CreateFault) (answer : Answer) → answer ≡ answer_of fault → IsCreated shelf a b key identity lines count blocks (Err fault) → AtEnd shelf (CreateEnds key identity lines count blocks (Err fault)) a b → IsCreationCounted shelf a b lines count blocks (Err fault)
+        → CreationEnds shelf a b v slices force count blocks answer (now (begun v.state))
+    unmade_ends fault answer is created ends counted = subst (λ (x : Answer). CreationEnds shelf a b v slices force count blocks x (now (begun v.state))) (sym is) (unmade_by fault created ends counted)
+
+  module _ (held : (force : Bool) × Free force) (kept : KeptAmong shelf a b (drives_asked lines)) where
+    abbrev Answered : Bool → Answer → Type 0
+    Answered force answer = HasAnswered (DriveFailures shelf a b) (Create slices force count blocks) v answer (now (begun v.state))
+
+    unmade_said : (fault : CreateFault) → IsCreated shelf a b key identity lines count blocks (Err fault) → (force : Bool) → Answered force (answer_of fault)
+    unmade_said unmade.Failed created force = record { plain = fault_plain; cause = created.came; lost = λ one two is. absurd (cc (is)); free = λ on has. absurd on; host = refl; well = λ on. well_begun held; begun = same_most (v.state.begun + 1) }
+    unmade_said (unmade.Lost active listed) created force = record {
+      plain = tt;
+      cause = (created.came, creating.calm_beside shelf a b (drives_asked lines) kept);
+      lost = λ one two is. moved (λ (x y : ℕ). IsLostOnSite (DriveFailures shelf a b) v.host x y) active listed one two is
+          (creating.lost_on v.host (shelf.sizes a) ready v.state slices held.0 count blocks held.1 form.0 form.1 form.2 (DriveFailures shelf a b) active listed created.came);
+      free = λ on has. absurd on;
+      host = refl;
+      well = λ on. absurd on;
+      begun = same_most (v.state.begun + 1);
+    }
+    unmade_said unmade.Memory created force = wanting_answer held created.came force
+
+    pub unmade_answer : (fault : CreateFault) (answer : Answer) → answer ≡ answer_of fault → IsCreated shelf a b key identity lines count blocks (Err fault) → (force : Bool) → Answered force answer
+    unmade_answer fault answer is created force = subst (Answered force) (sym is) (unmade_said fault created force)
+
+  abbrev Counted : Bool → Answer → Option Opened → Type 0
+  Counted force answer opened = IsCommandCounted shelf a b v.host (Create slices force count blocks) answer v.state.opened opened
+
+  unmade_calls : (fault : CreateFault) → IsCreationCounted shelf a b lines count blocks (Err fault) → (force : Bool) (opened : Option Opened) → Counted force (answer_of fault) opened
+  unmade_calls unmade.Failed counted force opened = counted
+  unmade_calls (unmade.Lost active listed) counted force opened = counted
+  unmade_calls unmade.Memory counted force opened = (counting.none_within shelf a b 0 0 counted, ap shelf.tale counted)
+
+  pub unmade_counted : (fault : CreateFault) (answer : Answer) → answer ≡ answer_of fault → IsCreationCounted shelf a b lines count blocks (Err fault) → (force : Bool) (opened : Option Opened) → Counted force answer opened
+  unmade_counted fault answer is counted force opened = subst (λ (x : Answer). Counted force x opened) (sym is) (unmade_calls fault counted force opened)
+
+  pub made_counted : (o : Opened) → IsCreationCounted shelf a b lines count blocks (Ok o) → (force : Bool) → Counted force accepted (Some o)
+  made_counted o counted force = record { exactly = record { all = counted.0; some = counted.1 }; most = counting.creation_most shelf a b v.host slices count _ counted.1; wrote = tt }

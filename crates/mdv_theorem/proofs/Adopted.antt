@@ -1,0 +1,333 @@
+-- Which table a boot may adopt, by what it read: one that a boot may find by the history with which the drives stand.
+use Rattle.std.proofs.Common.{◌≡◌, ℕ, ◌+◌, ◌*◌, ◌<◌, ◌^◌, max, Bool, true, List, [], ◌∷◌, length, Option, Some, None, Contains, refl, sym, ◌∙◌, ap, subst, arith, ◌⊎◌, inl, inr, false, not, ◌&&◌, MatchOption, ◌≤◌, replicate}
+use Rattle.std.proofs.lemmas.Bool.{or_left, or_right}
+use Rattle.std.proofs.lemmas.List.{length-map, length-replicate}
+use Rattle.mdv_base.specs.declared.block.TheConstants.{ZERO_BLOCK}
+use Rattle.mdv_record.specs.Record.{IsRecordOf}
+use Rattle.mdv_record.proofs.Rooms.{room_most}
+use Rattle.mdv_base.specs.DriveSet.{Drives, has_drive}
+use Rattle.mdv_base.specs.declared.drive.DriveNo.{DriveNo}
+use Rattle.mdv_base.specs.declared.mark.Identity.{Identity}
+use Rattle.mdv_base.specs.declared.mark.Mark.{Mark}
+use Rattle.mdv_base.specs.declared.name.Key.{Key}
+use Rattle.mdv_databases.specs.Going.{IsCurrentOf}
+use Rattle.mdv_databases.specs.Standing.{Stand}
+use Rattle.mdv_databases.proofs.Booting.{shown_current}
+use Rattle.mdv_databases.proofs.Lists.{current_in, current_key}
+use Rattle.mdv_name.specs.Sound.{IsSound}
+use Rattle.mdv_name.specs.declared.geometry.Geometry.{Geometry}
+use Rattle.mdv_quorum.specs.World.{after_all}
+use Rattle.mdv_quorum.specs.declared.machine.Core.{Core}
+use Rattle.mdv_replica.specs.Form.{gate_of, is_open, shows}
+use Rattle.mdv_replica.specs.declared.forms.Gate.TheVariants.{Open}
+use Rattle.mdv_replica.specs.declared.replica.Head.{Head}
+use Rattle.mdv_replica.specs.declared.replica.Slot.{Slot}
+use Rattle.mdv_replica.specs.declared.replica.Slot.TheVariants.{First, Second}
+use Rattle.mdv_shelf.specs.Everywhere.{Image}
+use Rattle.mdv_shelf.specs.Settle.{IsSynced}
+use Rattle.mdv_shelf.specs.Tale.{MayLeave, Tale, last, values, IsImage}
+use Rattle.mdv_shelf.proofs.Everywhere.{last_image, everywhere_begun}
+use Rattle.mdv_shown.specs.Choice.{IsChosen, greatest_seen, spots_seen}
+use Rattle.mdv_shown.specs.Site.{place_on}
+use Rattle.mdv_shown.specs.declared.site.Site.{Site}
+use Rattle.mdv_shown.specs.Sites.{site_of}
+use Rattle.mdv_shown.proofs.Sites.{site_is, law_sites}
+use Rattle.mdv_shown.proofs.Slots.{reads_one, shows_one}
+use Rattle.mdv_standing.specs.Databases.{Database, log_in, log_of}
+use Rattle.mdv_standing.specs.Laws.{FoundHolds, ShowsNoTable}
+use Rattle.mdv_standing.specs.Matching.{spots_of}
+use Rattle.mdv_standing.specs.Worlds.{IsWorld}
+use Rattle.mdv_standing.proofs.Adopting.{finds}
+use Rattle.mdv_standing.proofs.Lawful.{found_holds}
+use Rattle.mdv_standing.proofs.Looking.{looks}
+use Rattle.mdv_store.specs.Adopting.{WasReadOf}
+use Rattle.mdv_store.specs.Boot.{IsAdopted, IsDrawn, IsWrittenTo, greatest_number, seat_for, seats_of}
+use Rattle.mdv_store.specs.Opened.{Opened, least_room}
+use Rattle.mdv_store.specs.Records.{Spells}
+use Rattle.mdv_store.specs.Seats.{active_of}
+use Rattle.mdv_store.specs.Taking.{IsToAdopt}
+use Rattle.mdv_store.specs.Text.{blocks_for}
+use Rattle.mdv_store.proofs.Adoptions.{got_contains, same_identity_self}
+use Rattle.mdv_store.proofs.Reading.{to_adopt}
+use Rattle.mdv_store.proofs.Records.{spelled_of}
+use Rattle.mdv_store_law.specs.Laws.{restarted}
+use Rattle.mdv_store_law.specs.Log.{Log, Version, is_firm}
+use Rattle.mdv_survey.specs.declared.choosing.Choice.TheVariants as chosen
+use Rattle.mdv_survey.specs.Choice.{is_of, same_identity, IsChoice, IsChoiceAmong}
+use Rattle.mdv_survey.specs.Newest.{HasTable, IsGreatest, IsMarked, IsTableIn}
+use Rattle.mdv_survey.specs.Replica.{Contents, IsFoundIn}
+use Rattle.mdv_survey.specs.Survey.{IsSurvey, IsSurveyOf}
+use Rattle.mdv_survey.specs.declared.replica.Newest.{Newest}
+use Rattle.mdv_survey.specs.declared.replica.Replica.{Replica}
+use Rattle.mdv_survey.specs.declared.replica.Survey.{Survey}
+use Rattle.mdv_record.specs.Text.{record_text}
+use Rattle.mdv_table.specs.Plan.{places_of}
+use Rattle.mdv_table.specs.Table.{IsListsOf, IsOfGeometry}
+use Rattle.mdv_table.specs.declared.plan.Lists.{Lists}
+use Rattle.mdv_table.specs.declared.plan.Lists.TheVariants.{One}
+use Rattle.mdv_table.specs.declared.table.Table.{Table}
+use Rattle.mdv_databases.specs.Lasting.{HasNoTable}
+use Rattle.mdv_databases.proofs.Lasting.{stand_crashed}
+use Rattle.mdv_databases.proofs.Nothing.{nothing_told}
+use Rattle.mdv_engine_law.specs.Hosts.{key_of}
+use Rattle.mdv_engine_law.specs.Line.{HasNoTableOn, IsReadOf, IsSame, contents, WritesTo}
+use Rattle.mdv_engine_law.specs.Standing.{StandsAt}
+use Rattle.mdv_engine_law.specs.declared.host.Host.{Host}
+use Rattle.mdv_volumes.specs.History.{History}
+use Rattle.mdv_shelf.specs.Failing.{Outcomes}
+use Rattle.mdv_store.specs.declared.seats.Seat.{Seat}
+use Rattle.mdv_run_law.proofs.Extents.{SeesOwn}
+use Rattle.mdv_name.specs.declared.slice_lines.SliceLine.{SliceLine}
+use Rattle.mdv_volumes.proofs.Lists.{contains_behind, contains_first, first_or_behind}
+use Rattle.mdv_votes.specs.Spots.{covers, is_in, is_majority}
+use Rattle.mdv_theorem.proofs.Lines.{never_in}
+use Rattle.mdv_record.specs.Parsing.{read_of}
+
+-- a head with an open gate shows a table
+pub open_shows : (head : Head) (slot : Slot) (mark : Mark) (bytes : ℕ) → gate_of head slot ≡ Open mark bytes → shows head ≡ true
+open_shows head First mark bytes is = or_left (is_open head.first) (is_open head.second) (ap is_open is)
+open_shows head Second mark bytes is = or_right (is_open head.first) (is_open head.second) (ap is_open is)
+
+-- a table of these drives lists few places
+few_listed : (g : Geometry) (lists : Lists) → IsListsOf g lists → length (places_of lists) ≤ 50
+few_listed g (One places) is = is.few
+
+-- drives that begin with an image read as it, and no crash leaves anything else
+begun_last : (image : Image) (told : List ℕ) → last (restarted image told) ≡ image
+unfolding last
+begun_last image told = refl
+
+begun_synced : (image : Image) (told : List ℕ) (drive : ℕ) → IsSynced drive (restarted image told)
+unfolding MayLeave values last
+begun_synced image told drive block x (inl is) = is
+begun_synced image told drive block x (inr none) = absurd none
+
+-- The newest table of a survey may be adopted: it is in hand, with more than half of its places, under a number in its limit.
+pub record IsAdoptable (survey : Survey) (newest : Newest) : Type 0 where
+  pub replica : Replica
+  pub seats : List Seat
+  pub number : ℕ
+  pub drawn : IsDrawn survey newest replica seats number
+  pub written : IsWrittenTo (λ hand of. Unit {0}) newest replica seats number
+
+-- a boot may adopt the table, where the drives hold this
+pub record Adopts (g : Geometry) (site : Site) (content : Image) (table : Table) : Type 0 where
+  pub calm : Drives
+  pub survey : Survey
+  pub survey_is : IsSurvey site calm survey
+  pub of : IsSurveyOf g site calm content survey
+  pub newest : Newest
+  pub by : IsAdoptable survey newest
+  pub is_table : newest.table ≡ table
+
+-- what a boot has adopted it might adopt
+pub adopts_of : (calls : Outcomes) (host : Host) (content new : Image) (up : Drives) (survey : Survey) (o : Opened) → IsReadOf calls host content up survey → IsAdopted calls (λ hand of. WritesTo content new hand.seats) host.site survey o → Adopts host.drives host.site content o.table
+adopts_of calls host content new up survey o read a = record {
+  calm = read.calm;
+  survey = survey;
+  survey_is = read.survey_is;
+  of = read.of;
+  newest = a.newest;
+  by = record { replica = a.replica; seats = a.seats; number = a.number; drawn = a.drawn; written = record { hand = a.written.hand; identity_is = a.written.identity_is; number_is = a.written.number_is; seats_are = a.written.seats_are; wrote = tt } };
+  is_table = sym (ap (λ (x : Opened). x.table) a.is);
+}
+
+-- the replica of the newest table shows one
+adoptable_shows : (site : Site) (calm : Drives) (survey : Survey) (newest : Newest) → IsSurvey site calm survey → (a : IsAdoptable survey newest) → shows a.replica.head ≡ true
+adoptable_shows site calm survey newest is a =
+    let marks = subst (IsMarked survey.replicas) a.drawn.hand.newest_is is.marked in
+    let both : Some marks.replica ≡ Some a.replica = sym marks.one_of ∙ a.drawn.hand.the.one_of in
+    let one : marks.replica ≡ a.replica = cc (both) in
+    ap (λ (r : Replica). shows r.head) (sym one) ∙ open_shows marks.replica.head newest.slot newest.mark marks.bytes marks.gate
+
+-- where no replica shows a table there is nothing to adopt
+pub none_adopts : (host : Host) → SeesOwn host → (content : Image) (table : Table) → HasNoTableOn host.drives (key_of host) content → Adopts host.drives host.site content table → ⊥
+none_adopts host sees content table none a =
+    let r = a.by.replica in
+    let found = a.of.each r (got_contains a.survey.replicas a.newest.replica r a.by.drawn.hand.the.one_of) in
+    let never = none r.head.master.identity r.line r.number r.first r.head (record { found = subst (λ (s : Site). IsFoundIn host.drives s content r) sees found; of_identity = refl }) in
+    let shown = adoptable_shows host.site a.calm a.survey a.newest a.survey_is a.by in
+    cc (never, shown)
+
+-- a table that a boot may adopt is one of the drives
+pub adopts_geometry : (g : Geometry) (site : Site) (content : Image) (table : Table) → IsSound g → Adopts g site content table → IsOfGeometry g table
+adopts_geometry g site content table sound a =
+    let there = subst (HasTable g content a.survey.replicas) a.by.drawn.hand.newest_is a.of.table in
+    subst (IsOfGeometry g) a.is_table (spelled_of g _ a.newest.table sound there.shows.text).of_geometry
+
+-- a version of a log has the table, and a boot may find it
+pub record IsFoundBy (g : Geometry) (log : Log) (table : Table) : Type 0 where
+  pub version : Version
+  pub one_of : Contains log.family version
+  pub number : ℕ
+  pub holds : FoundHolds g log version number
+  pub is_table : version.table ≡ table
+
+module _ (g : Geometry) (key : Key) (all : List Database) (t : Tale) (sound : IsSound g) (stand : Stand g all t) (calm : Drives) (survey : Survey) (survey_is : IsSurvey (site_of g key) calm survey) (of : IsSurveyOf g (site_of g key) calm (last t) survey)
+    (newest : Newest) (a : IsAdoptable survey newest) where
+  abbrev site : Site
+  site = site_of g key
+
+  abbrev replicas : List Replica
+  replicas = survey.replicas
+
+  abbrev text : ℕ
+  text = blocks_for (length (record_text newest.table))
+
+  -- drives that hold just what was read
+  abbrev began : Tale
+  began = restarted (last t) []
+
+  marks : IsGreatest replicas newest
+  marks = subst (IsMarked replicas) a.drawn.hand.newest_is survey_is.marked
+
+  table_in : IsTableIn g (last t) replicas newest
+  table_in = subst (HasTable g (last t) replicas) a.drawn.hand.newest_is of.table
+
+  spelled : (bytes : List ℕ) × IsRecordOf g bytes newest.table
+  spelled = (_, spelled_of g _ newest.table sound table_in.shows.text)
+
+  of_geometry : IsOfGeometry g newest.table
+  of_geometry = spelled.1.of_geometry
+
+  abbrev room : ℕ
+  room = max (least_room (places_of newest.table.plan.lists)) text
+
+  short : room < 2 ^ 63
+  short = omega (arith, room_most (places_of newest.table.plan.lists), spelled.1.in_room)
+
+  -- what the boot had in hand, with room for the text, is in order
+  has_replica : Contains replicas a.replica
+  has_replica = got_contains replicas newest.replica a.replica a.drawn.hand.the.one_of
+
+  its : a.written.hand.identity ≡ a.replica.head.master.identity
+  its = a.written.identity_is
+
+  is_own : is_of a.written.hand.identity a.replica ≡ true
+  is_own = subst (λ (i : Identity). same_identity a.replica.head.master.identity i ≡ true) (sym its) (same_identity_self a.replica.head.master.identity)
+
+  was : WasReadOf g site replicas newest began
+  was =
+      let same = sym (begun_last (last t) []) in
+      record {
+        sound = sound;
+        site_is = refl;
+        each = λ r has. subst (λ (c : Contents). IsFoundIn g site c r) same (of.each r has);
+        table = subst (λ (c : Contents). IsTableIn g c replicas newest) same table_in;
+        synced = λ r has. begun_synced (last t) [] r.line.at.drive.0;
+      }
+
+  enough : length a.written.hand.seats < 2 * active_of a.written.hand.seats
+  enough = subst (λ (seats : List Seat). length seats < 2 * active_of seats) (sym a.written.seats_are) a.drawn.enough
+
+  to : IsToAdopt g key (record a.written.hand { room = record a.written.hand.room { len = room; cap = room; items = replicate room ZERO_BLOCK; ok = (sym (length-replicate room ZERO_BLOCK), omega arith); small = short } }) newest.table began
+  to =
+      let seats_are = a.written.seats_are ∙ a.drawn.hand.seats_are in
+      to_adopt g key replicas newest _
+      (record {
+        replica = a.replica;
+        one_of = a.drawn.hand.the.one_of;
+        identity_is = its;
+        number_is = a.written.number_is ∙ a.drawn.number_is ∙ ap (λ (i : Identity). greatest_number i replicas + 1) (sym its);
+        seats_are = subst (λ (i : Identity). a.written.hand.seats ≡ seats_of replicas i text (places_of newest.table.plan.lists)) (sym its) seats_are;
+        few = (let count = ap length seats_are ∙ length-map (places_of newest.table.plan.lists) (seat_for replicas a.replica.head.master.identity text) in let few = few_listed g newest.table.plan.lists of_geometry.lists in omega (arith, count, few));
+        room_is = refl;
+      })
+      (λ r has. (survey_is.each r has).seated) enough marks began was a.replica a.drawn.hand.the.one_of has_replica is_own
+
+  -- so the database is the key's current one
+  current : IsCurrentOf all key a.written.hand.identity
+  current = shown_current g all key a.written.hand.identity t stand (record { replica = a.replica; found = of.each a.replica has_replica; its = is_own; shown = adoptable_shows site calm survey newest survey_is a })
+
+  abbrev d : Database
+  d = current.database
+
+  same_log : log_of all key ≡ d.log
+  same_log = ap log_in current.current
+
+  world : (w : Core) × IsWorld (Spells g) site a.written.hand.identity d.log w (last t)
+  world =
+      let w = (stand.worlds (last t) (last_image t)).worlds d (current_in key all d current.current) in
+      (w.0, subst (λ (i : Identity). IsWorld (Spells g) site i d.log w.0 (last t)) current.as_begun (subst (λ (k : Key). IsWorld (Spells g) (site_of g k) d.identity d.log w.0 (last t)) (current_key key all d current.current) w.1))
+
+  -- and the version of its log that has this mark is found
+  pub adopted_found : IsFoundBy g (log_of all key) newest.table
+  adopted_found =
+      let image : Image = last t in
+      let is = subst (λ (i : Image). IsImage began i) (begun_last image []) (last_image began) in
+      let read = to.read in
+      let look = looks (Spells g) site a.written.hand.identity d.log world.0 image world.1 to.seen (read.own image is) in
+      let w = after_all world.0 look.events in
+      let found = finds (Spells g) site a.written.hand.identity d.log w image look.world to.seen look.known to.s to.slot to.mark read.chosen in
+      let v = found.version in
+      let same : v.table ≡ newest.table =
+      (shows_one (Spells g) (reads_one (read_of g)) (place_on to.s.line to.s.first.blocks to.s.first.count to.s.number) (image to.s.line.at.drive.0) to.s.head to.slot to.mark to.mark v.table newest.table found.shows (read.shows image is)).1 in
+      let small : greatest_seen to.seen + 1 < 2 ^ 63 = subst (λ (n : ℕ). n < 2 ^ 63) (sym (a.written.number_is) ∙ to.number_is) a.drawn.small in
+      let holds = found_holds (Spells g) g site a.written.hand.identity d.log w image to.seen to.s to.slot v (site_is g key sound) (stand.logs d (current_in key all d current.current)) look.world look.known
+      (subst (λ (m : Mark). IsChosen to.seen to.s to.slot m) (sym found.is.marked) read.chosen) found.is.one_of
+      (subst (λ (u : Table). covers (is_majority (is_in (spots_seen to.seen))) (spots_of site u.plan.lists) ≡ true) (sym same) read.quorum) small in
+      subst (λ (lg : Log). IsFoundBy g lg newest.table) (sym same_log) (record { version = v; one_of = found.is.one_of; number = greatest_seen to.seen + 1; holds = holds; is_table = same })
+
+-- So a table that a boot may adopt of drives that stand with a history is one of its versions.
+pub adopts_found : (host : Host) → IsSound host.drives → SeesOwn host → (h : History) (t : Tale) → StandsAt host h t → (content : Image) → IsSame content (contents t) → (table : Table) → Adopts host.drives host.site content table → IsFoundBy host.drives (log_of h.databases (key_of host)) table
+adopts_found host sound sees h t stands content reads table a =
+    let same : contents t ≡ content = λ i drive block. reads drive block i in
+    let survey_is = subst (λ (s : Site). IsSurvey s a.calm a.survey) sees a.survey_is in
+    let of = subst (λ (c : Image). IsSurveyOf host.drives (site_of host.drives (key_of host)) a.calm c a.survey) (sym same) (subst (λ (s : Site). IsSurveyOf host.drives s a.calm content a.survey) sees a.of) in
+    subst (IsFoundBy host.drives (log_of h.databases (key_of host))) a.is_table (adopted_found host.drives (key_of host) h.databases t sound stands.databases a.calm a.survey survey_is of a.newest a.by)
+
+-- of drives that stand with a firm log some replica shows a table
+pub firm_shows : (host : Host) (h : History) (t : Tale) → StandsAt host h t → is_firm (log_of h.databases (key_of host)) ≡ true → (content : Image) → IsSame content (contents t) → HasNoTableOn host.drives (key_of host) content → ⊥
+firm_shows host h t stands firm content reads none =
+    let same : contents t ≡ content = λ i drive block. reads drive block i in
+    let began = stand_crashed host.drives h.databases t (contents t) [] stands.databases (last_image t) in
+    let blank : HasNoTable host.drives (key_of host) (restarted (contents t) []) =
+    λ identity. everywhere_begun (ShowsNoTable (Spells host.drives) (site_of host.drives (key_of host)) identity) (record { block = contents t; told = [] }) (subst (HasNoTableOn host.drives (key_of host)) (sym same) none identity) in
+    let loose = (nothing_told host.drives h.databases (key_of host) (restarted (contents t) []) began blank).0 in
+    cc (firm, loose)
+
+-- A boot that found nothing: no replica that is found on these drives shows a table, and on each other one that it brings up a call failed.
+pub record IsBlind (host : Host) (calls : Outcomes) (content : Image) : Type 0 where
+  pub up : ℕ → Bool
+  pub failed : (drive : DriveNo) → Contains host.site.drives drive → up drive.0 ≡ false → (calls drive.0).some
+  pub none : (r : Replica) → IsFoundIn host.drives host.site content r → up r.line.at.drive.0 ≡ true → shows r.head ≡ false
+
+pub blind_boot : (calls : Outcomes) (host : Host) (content : Image) (up : Drives) (survey : Survey) → IsReadOf calls host content up survey → IsChoice survey chosen.Empty → IsBlind host calls content
+blind_boot calls host content up survey read empty = record {
+  up = λ n. has_drive read.calm (record { 0 = n });
+  failed = λ drive own off. read.failed drive own off;
+  none = λ r found calm. none_marked survey.newest read.survey_is.marked empty r (read.of.all r found (answering (has_drive read.calm r.line.at.drive) (has_drive survey.failed r.line.at.drive) calm (read.none r.line.at.drive calm)));
+}
+  where
+    answering : (a b : Bool) → a ≡ true → b ≡ false → (a && not b) ≡ true
+    answering a b one two = λ i. one i && not (two i)
+
+    none_marked : (newest : Option Newest) → IsMarked survey.replicas newest → MatchOption newest (chosen.Empty ≡ chosen.Empty) (λ n. IsChoiceAmong survey.replicas n chosen.Empty) → (r : Replica) → Contains survey.replicas r → shows r.head ≡ false
+    none_marked None marked is r has = marked r has
+    none_marked (Some n) marked is r has = absurd is
+
+-- a drive of these doesn't pass the test, or all do
+all_up : (up : ℕ → Bool) (lines : List SliceLine) → ((line : SliceLine) → Contains lines line → up line.at.drive.0 ≡ true) ⊎ ((line : SliceLine) × Contains lines line × (up line.at.drive.0 ≡ false))
+all_up up [] = inl (λ line has. absurd (never_in line has))
+all_up up (line ∷ lines) = by (up line.at.drive.0) refl (all_up up lines) where
+  by : (b : Bool) → up line.at.drive.0 ≡ b → ((other : SliceLine) → Contains lines other → up other.at.drive.0 ≡ true) ⊎ ((other : SliceLine) × Contains lines other × (up other.at.drive.0 ≡ false))
+      → ((other : SliceLine) → Contains (line ∷ lines) other → up other.at.drive.0 ≡ true) ⊎ ((other : SliceLine) × Contains (line ∷ lines) other × (up other.at.drive.0 ≡ false))
+  by false is rest = inr (line, contains_first line lines, is)
+  by true is (inl all) = inl (λ other has. elim (first_or_behind line other lines has) [ inl here ↦ subst (λ (l : SliceLine). up l.at.drive.0 ≡ true) here is | inr there ↦ all other there ])
+  by true is (inr one) = inr (one.0, contains_behind line one.0 lines one.1, one.2)
+
+-- a call failed on a drive on which replicas of the host's may lie
+abbrev pub HasFallen : Host → Outcomes → Type 0
+HasFallen host calls = (line : SliceLine) × Contains host.site.lines line × (calls line.at.drive.0).some
+
+-- Such a boot has read all drives with the site's lines, so that no replica shows a table, or a call failed on one.
+pub blind_bare : (host : Host) → SeesOwn host → (calls : Outcomes) (content : Image) → IsBlind host calls content → HasNoTableOn host.drives (key_of host) content ⊎ HasFallen host calls
+blind_bare host sees calls content blind = elim (all_up blind.up host.site.lines) [
+  | inl all ↦ inl (λ identity line k first head own.
+      let r : Replica = record { line = line; number = k; first = first; head = head } in
+      let found : IsFoundIn host.drives host.site content r = subst (λ (s : Site). IsFoundIn host.drives s content r) (sym sees) own.found in
+      blind.none r found (all line found.one_of))
+  | inr one ↦
+      let brought = subst (λ (s : Site). Contains s.drives one.0.at.drive) (sym sees) (law_sites.brought host.drives (key_of host) one.0 (subst (λ (s : Site). Contains s.lines one.0) sees one.1)) in
+      inr (one.0, one.1, blind.failed one.0.at.drive brought one.2)
+]

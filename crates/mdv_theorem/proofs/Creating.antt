@@ -1,0 +1,97 @@
+-- A line that was told to have made a database, on some slices: the table that is open then lists places on these slices, as many on each.
+use Rattle.std.proofs.Common.{◌≡◌, ℕ, ◌≤◌, ◌*◌, Bool, List, [], ◌∷◌, length, Some, Contains, sym, ap, subst, arith}
+use Rattle.mdv_base.specs.declared.drive.SliceName.{SliceName}
+use Rattle.mdv_base.specs.declared.place.Place.{Place}
+use Rattle.mdv_engine_law.specs.Hosts.{identity_of, key_of, lines_asked}
+use Rattle.mdv_engine_law.specs.Line.{Kept, Memory}
+use Rattle.mdv_engine_law.specs.Replies.{ok_line, text_of}
+use Rattle.mdv_engine_law.specs.declared.answer.Answer.{Answer}
+use Rattle.mdv_engine_law.specs.declared.host.Host.{Host}
+use Rattle.mdv_name.specs.declared.geometry.Geometry.{Geometry}
+use Rattle.mdv_name.specs.declared.slice_lines.SliceLine.{SliceLine}
+use Rattle.mdv_run_law.specs.Run.{IsAnswered, IsSaid}
+use Rattle.mdv_run_law.proofs.Extents.{SeesOwn}
+use Rattle.mdv_shelf.specs.Failing.{Outcomes}
+use Rattle.mdv_store.specs.Create.{seats_asked}
+use Rattle.mdv_store.specs.Opened.{Opened}
+use Rattle.mdv_table.specs.Slices.{IsSound}
+use Rattle.mdv_words.proofs.Form.{commands_are_in_form}
+use Rattle.mdv_words.specs.declared.command.Command.TheVariants.{Create}
+use Rattle.mdv_theorem.specs.Exchanges.{Asks, Exchange, IsTold}
+use Rattle.std.proofs.lemmas.Bool.{leb-true}
+use Rattle.mdv_base.specs.declared.name.Key.{Key}
+use Rattle.mdv_record.specs.Text.{record_text}
+use Rattle.mdv_replica.specs.declared.replica.Slot.{Slot}
+use Rattle.mdv_shelf.specs.Everywhere.{Image}
+use Rattle.mdv_shown.specs.Found.{IsOwn}
+use Rattle.mdv_shown.specs.Shown.{IsNewestOf}
+use Rattle.mdv_shown.specs.Sites.{site_of}
+use Rattle.mdv_shown.specs.declared.site.Site.{Site}
+use Rattle.mdv_standing.specs.Creating.{first_mark}
+use Rattle.mdv_store.proofs.Sitting.{left_count}
+use Rattle.mdv_store.specs.Create.{table_of}
+use Rattle.mdv_store.specs.Records.{Spells}
+use Rattle.mdv_store.specs.Seats.{TakesSlot, active_of, replicas_of}
+use Rattle.mdv_survey.specs.Replica.{at_of}
+use Rattle.mdv_survey.specs.declared.replica.Replica.{Replica}
+use Rattle.mdv_volumes.proofs.Lists.{contains_first}
+use Rattle.mdv_theorem.proofs.Counting.{AreMadeOn, asked_some, made_on, places_in}
+use Rattle.mdv_theorem.proofs.Seeing.{ListsThese}
+use Rattle.mdv_theorem.proofs.Tables.{granted_done}
+
+first_of : {X : Type 0} (xs : List X) → 1 ≤ length xs → (x : X) × Contains xs x
+first_of [] some = absurd (omega (arith, some))
+first_of (x ∷ xs) some = (x, contains_first x xs)
+
+-- a replica shows what is open
+pub record IsShownBy (g : Geometry) (key : Key) (o : Opened) (content : Image) : Type 0 where
+  pub replica : Replica
+  pub own : IsOwn (Spells g) (site_of g key) o.identity replica.line replica.number content replica.first replica.head
+  pub slot : Slot
+  pub newest : IsNewestOf (Spells g) (at_of replica) (content replica.line.at.drive.0) replica.head slot o.mark o.table
+
+-- what is open was made on these slices
+pub record IsMadeThere (lines : List SliceLine) (slices : List SliceName) (kept : Kept) : Type 0 where
+  pub places : List Place
+  pub made : AreMadeOn lines slices places
+  pub o : Opened
+  pub opened : kept.memory.opened ≡ Some o
+  pub lists : ListsThese places o.table
+  pub bare : o.table.plan.volumes ≡ []
+
+module _ (host : Host) (sound : IsSound host.drives) (sees : SeesOwn host) (calls : Outcomes) (kept next : Kept) (one : Exchange) (answer : Answer) (comes : IsAnswered calls host kept one.text answer next) (said : IsSaid answer) (told_it : IsTold one (text_of answer))
+    (slices : List SliceName) (force : Bool) (count blocks : ℕ) (asks : Asks one (Create slices force count blocks)) (told : IsTold one ok_line) where
+  pub made_there : IsMadeThere host.site.lines slices next
+  made_there =
+      let done = granted_done host calls kept next one answer comes said told_it (Create slices force count blocks) asks told in
+      let is = done.1.1 in
+      let form = commands_are_in_form one.text (Create slices force count blocks) asks.1 in
+      record {
+        places = places_in (seats_asked (key_of host) (identity_of host kept.memory.begun) (lines_asked host slices) count blocks);
+        made = made_on host sound sees (key_of host) (identity_of host kept.memory.begun) kept.memory slices force count blocks form.1.0 done.0 (λ r has. subst (λ (s : Site). Contains s.lines r.line) (sym sees) (is.formed r has).1.found.one_of);
+        o = is.opened;
+        opened = ap (λ (m : Memory). m.opened) is.memory;
+        lists = ap (λ (o : Opened). o.table.plan.lists) is.made.is;
+        bare = ap (λ (o : Opened). o.table.plan.volumes) is.made.is;
+      }
+
+  -- and a replica shows it
+  pub shown_there : IsShownBy host.drives (key_of host) made_there.o next.content
+  unfolding made_there
+  shown_there =
+      let done = granted_done host calls kept next one answer comes said told_it (Create slices force count blocks) asks told in
+      let is = done.1.1 in
+      let form = commands_are_in_form one.text (Create slices force count blocks) asks.1 in
+      let identity = identity_of host kept.memory.begun in
+      let seats = seats_asked (key_of host) identity (lines_asked host slices) count blocks in
+      let long = left_count calls (TakesSlot first_mark (length (record_text (table_of seats)))) seats is.opened.seats is.made.tried in
+      let some = asked_some host sound sees (key_of host) identity kept.memory slices force count blocks form.1.0 done.0 (λ r has. subst (λ (s : Site). Contains s.lines r.line) (sym sees) (is.formed r has).1.found.one_of) form.0 in
+      let half = leb-true (length is.opened.seats) (2 * active_of is.opened.seats) is.made.half in
+      let r = first_of (replicas_of is.opened.seats) (omega (arith, long, some, half)) in
+      let shown = is.content.shown r.0 r.1 in
+      record {
+        replica = r.0;
+        own = subst (λ (k : Key). IsOwn (Spells host.drives) (site_of host.drives k) is.opened.identity r.0.line r.0.number next.content r.0.first r.0.head) (ap (λ (o : Opened). o.key) is.made.is) (is.content.each r.0 r.1);
+        slot = shown.0;
+        newest = shown.1;
+      }

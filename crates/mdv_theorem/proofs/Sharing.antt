@@ -1,0 +1,128 @@
+-- All tables that were ever written for a database list the same places; so what a replica shows tells which these are.
+use Rattle.std.proofs.Common.{◌≡◌, inl, inr, ℕ, List, [], ◌∷◌, Option, None, Some, Contains, refl, sym, ◌∙◌, ap, subst, true, ◌⊎◌}
+use Rattle.mdv_base.specs.declared.mark.Identity.{Identity}
+use Rattle.mdv_base.specs.declared.mark.Mark.{Mark}
+use Rattle.mdv_base.specs.declared.name.Key.{Key}
+use Rattle.mdv_databases.specs.Going.{IsCurrentOf}
+use Rattle.mdv_databases.specs.Standing.{Stand}
+use Rattle.mdv_databases.proofs.Booting.{shown_current}
+use Rattle.mdv_databases.proofs.Lists.{current_in, current_key}
+use Rattle.mdv_name.specs.declared.geometry.Geometry.{Geometry}
+use Rattle.mdv_quorum.specs.Standing.{newest_at}
+use Rattle.mdv_quorum.specs.declared.machine.Core.{Core}
+use Rattle.mdv_shown.specs.Site.{spot_on}
+use Rattle.mdv_record.specs.Parsing.{read_of}
+use Rattle.mdv_replica.specs.declared.replica.Slot.{Slot}
+use Rattle.mdv_shelf.specs.Tale.{Tale, last}
+use Rattle.mdv_shelf.proofs.Everywhere.{last_image}
+use Rattle.mdv_shown.specs.Found.{IsOwn}
+use Rattle.mdv_shown.specs.Shown.{IsNewestOf, NewestIs}
+use Rattle.mdv_shown.specs.Sites.{site_of}
+use Rattle.mdv_shown.specs.declared.site.Site.{Site}
+use Rattle.mdv_shown.proofs.Slots.{newest_one, reads_one}
+use Rattle.mdv_standing.specs.Databases.{Database, log_in, log_of}
+use Rattle.mdv_standing.specs.Matching.{tables_of, version_at}
+use Rattle.mdv_standing.specs.Worlds.{IsWorld}
+use Rattle.mdv_standing.proofs.Reaching.{standing}
+use Rattle.mdv_standing.proofs.Versions.{version_has}
+use Rattle.mdv_standing.proofs.Voting.{in_log}
+use Rattle.mdv_store.specs.Records.{Spells}
+use Rattle.mdv_store_law.specs.Log as log
+use Rattle.mdv_store_law.specs.Log.{IsMade, Log, Version, answered, empty_log}
+use Rattle.mdv_survey.specs.Choice.{is_of}
+use Rattle.mdv_survey.specs.Replica.{at_of}
+use Rattle.mdv_survey.specs.declared.replica.Replica.{Replica}
+use Rattle.mdv_table.specs.declared.change.Change.{Change}
+use Rattle.mdv_table.specs.declared.change.Change.TheVariants.{MakeStripe}
+use Rattle.mdv_table.specs.declared.plan.Plan.{Plan}
+use Rattle.mdv_table.specs.declared.table.Table.{Table}
+use Rattle.mdv_volumes.specs.Happening.{IsCourse}
+use Rattle.mdv_volumes.specs.History.{Event, History, history_after_all}
+use Rattle.mdv_volumes.specs.HistoryLaws.{log_events_of, new_history}
+use Rattle.mdv_volumes.proofs.Keys.{databases_live}
+use Rattle.mdv_volumes.proofs.Lists.{contains_behind, contains_first, first_or_behind}
+use Rattle.mdv_theorem.proofs.Adopted.{open_shows}
+use Rattle.mdv_theorem.proofs.Lines.{never_in}
+
+-- a change makes volumes, and moves no place
+pub made_lists : (g : Geometry) (asked : Option Change) (old next : Table) → IsMade g asked old next → next.plan.lists ≡ old.plan.lists
+made_lists g None old next made = ap (λ (t : Table). t.plan.lists) made
+made_lists g (Some (MakeStripe volume slice)) old next made = ap (λ (p : Plan). p.lists) made.0.1
+
+-- all of these list the same places
+abbrev pub AreAlike : List Version → Type 0
+AreAlike family = (v w : Version) → Contains family v → Contains family w → v.table.plan.lists ≡ w.table.plan.lists
+
+more_alike : (new : Version) (family : List Version) → AreAlike family → ((w : Version) → Contains family w → new.table.plan.lists ≡ w.table.plan.lists) → AreAlike (new ∷ family)
+more_alike new family alike first v w has also = by (first_or_behind new v family has) (first_or_behind new w family also) where
+  by : (new ≡ v) ⊎ Contains family v → (new ≡ w) ⊎ Contains family w → v.table.plan.lists ≡ w.table.plan.lists
+  by (inl one) (inl other) = ap (λ (x : Version). x.table.plan.lists) (sym one ∙ other)
+  by (inl one) (inr behind) = ap (λ (x : Version). x.table.plan.lists) (sym one) ∙ first w behind
+  by (inr behind) (inl other) = sym (first v behind) ∙ ap (λ (x : Version). x.table.plan.lists) other
+  by (inr one) (inr other) = alike v w one other
+
+-- an answer changes no table
+answered_has : (family : List Version) (v : Version) → Contains (answered family) v → (w : Version) × Contains family w × (w.table ≡ v.table)
+answered_has [] v has = absurd (never_in v has)
+answered_has (newest ∷ older) v has = elim (first_or_behind (record newest { is_written = true }) v older has) [
+  | inl here ↦ (newest, contains_first newest older, ap (λ (x : Version). x.table) here)
+  | inr behind ↦ (v, contains_behind newest v older behind, refl)
+]
+
+module _ (g : Geometry) where
+  alike_step : (lg : Log) (e : log.Event) → log.MayHappen g lg e → AreAlike lg.family → AreAlike (log.log_after lg e).family
+  alike_step lg (log.Issued identity) may alike = λ v w has also. absurd (never_in v has)
+  alike_step lg (log.Writing mark asked before table) may alike = more_alike _ lg.family alike (first may.1) where
+    first : log.IsFirst lg.issued lg.family asked before table ⊎ log.IsNext g lg.family asked before table → (w : Version) → Contains lg.family w → table.plan.lists ≡ w.table.plan.lists
+    first (inl is) w has = absurd (never_in w (subst (λ (f : List Version). Contains f w) is.none has))
+    first (inr is) w has = made_lists g asked is.parent.table table is.made ∙ alike is.parent w is.one_of has
+  alike_step lg log.Written may alike = λ v w has also.
+      (let one = answered_has lg.family v has in let other = answered_has lg.family w also in
+      ap (λ (t : Table). t.plan.lists) (sym one.2) ∙ alike one.0 other.0 one.1 other.1 ∙ ap (λ (t : Table). t.plan.lists) other.2)
+  alike_step lg (log.Told which before) may alike = alike
+
+  alike_all : (lg : Log) (es : List log.Event) → log.IsCourse g lg es → AreAlike lg.family → AreAlike (log.log_after_all lg es).family
+  alike_all lg [] course alike = alike
+  alike_all lg (e ∷ es) course alike = alike_all (log.log_after lg e) es course.1 (alike_step lg e course.0 alike)
+
+  -- so it is of a key's tables, whatever happens
+  pub alike_on : (key : Key) (h : History) (es : List Event) → IsCourse g h es → AreAlike (log_of h.databases key).family → AreAlike (log_of (history_after_all h es).databases key).family
+  alike_on key h es course alike =
+      subst (λ (lg : Log). AreAlike lg.family) (sym (databases_live.is key g h es course)) (alike_all (log_of h.databases key) (log_events_of key es) (databases_live.may key g h es course) alike)
+
+  pub alike_from_new : (key : Key) (es : List Event) → IsCourse g new_history es → AreAlike (log_of (history_after_all new_history es).databases key).family
+  alike_from_new key es course = alike_on key new_history es course (λ v w has also. absurd (never_in v has))
+
+-- A table of the key's current database that a replica shows is one of its log's versions.
+pub record HasVersion (lg : Log) (table : Table) : Type 0 where
+  pub version : Version
+  pub one_of : Contains lg.family version
+  pub is_table : version.table ≡ table
+
+module _ (g : Geometry) (key : Key) (all : List Database) (t : Tale) (stand : Stand g all t) (identity : Identity) (r : Replica) (its : is_of identity r ≡ true) (own : IsOwn (Spells g) (site_of g key) identity r.line r.number (last t) r.first r.head)
+    (slot : Slot) (mark : Mark) (table : Table) (newest : IsNewestOf (Spells g) (at_of r) (last t r.line.at.drive.0) r.head slot mark table) where
+  abbrev site : Site
+  site = site_of g key
+
+  current : IsCurrentOf all key identity
+  current = shown_current g all key identity t stand (record { replica = r; found = own.found; its = its; shown = open_shows r.head slot mark newest.shows.bytes newest.shows.gate })
+
+  abbrev d : Database
+  d = current.database
+
+  world : (w : Core) × IsWorld (Spells g) site identity d.log w (last t)
+  world =
+      let w = (stand.worlds (last t) (last_image t)).worlds d (current_in key all d current.current) in
+      (w.0, subst (λ (i : Identity). IsWorld (Spells g) site i d.log w.0 (last t)) current.as_begun (subst (λ (k : Key). IsWorld (Spells g) (site_of g k) d.identity d.log w.0 (last t)) (current_key key all d current.current) w.1))
+
+  pub shown_version : HasVersion (log_of all key) table
+  shown_version =
+      let place = world.1.shows.each r.line r.number r.first r.head own in
+      subst (λ (lg : Log). HasVersion lg table) (sym (ap log_in current.current)) (by (newest_at world.0 (spot_on r.line r.first.blocks r.number)) refl place.newest)
+    where
+      by : (x : Option ℕ) → newest_at world.0 (spot_on r.line r.first.blocks r.number) ≡ x → NewestIs (Spells g) (tables_of d.log.family) world.0.family (at_of r) (last t r.line.at.drive.0) r.head x → HasVersion d.log table
+      by None is none = absurd (none slot mark table newest.shows)
+      by (Some i) is n =
+          let known = (standing site world.0 world.1.reached).family.shown (spot_on r.line r.first.blocks r.number) i is in
+          let same = newest_one (Spells g) (reads_one (read_of g)) (at_of r) (last t r.line.at.drive.0) r.head n.slot slot _ mark (tables_of d.log.family i) table n.is newest in
+          record { version = version_at d.log.family i; one_of = version_has d.log.family i (in_log site d.log world.0 world.1.reached world.1.matches i known); is_table = same.2 }
