@@ -33,9 +33,9 @@ drives.failed beside drives.tab remembers it: until the system starts anew, what
 has of it in memory may differ from the disk, so it is a lost drive. bin/metad drops what the
 system has in memory, takes the image out of drives.failed, and starts this program.
 
-The host boots: it takes the database whose newest table is found at more than half of its
-places, and none where no replica shows a table. Then SCRIPT is read, on standard input, with a
-command on each line:
+The host boots: it takes the newest table that it finds, if more than half of the places which
+that lists are readable, and none where no replica shows a table. Then SCRIPT is read, on
+standard input, with a command on each line:
 
     metadb -a -f c0t0d0s7    makes a state database, of a replica on each slice that is named; the
                              first ones need the -f; -c COUNT, 1 to 50, puts so many on each slice,
