@@ -19,7 +19,7 @@ use Rattle.mdv_standing.specs.Worlds.{IsWorld}
 use Rattle.mdv_standing.proofs.Reaching.{standing}
 use Rattle.mdv_standing.proofs.Versions.{version_has}
 use Rattle.mdv_standing.proofs.Voting.{all_that, in_log, numbered}
-use Rattle.mdv_store.proofs.Bringing.{count_cons}
+use Rattle.mdv_look.proofs.Bringing.{count_cons}
 use Rattle.mdv_store.proofs.Sitting.{contains_behind, contains_first}
 use Rattle.mdv_store_law.specs.Log.{Version, is_firm}
 use Rattle.mdv_survey.specs.Replica.{IsFoundIn}

@@ -9,13 +9,13 @@ use Rattle.mdv_shelf.specs.Failing.{Outcomes}
 use Rattle.mdv_shelf.specs.Made.{made_of}
 use Rattle.mdv_shelf.specs.Shelves.{DriveFailures}
 use Rattle.mdv_shelf.specs.declared.shelf.Shelf.{Ghosts}
-use Rattle.mdv_store.proofs.Among.{is_one_of}
+use Rattle.mdv_look.proofs.Among.{is_one_of}
 use Rattle.mdv_store.proofs.Few.{reads_between}
 use Rattle.mdv_store.specs.BootCounts.{IsBootCounted, IsEndCounted}
 use Rattle.mdv_store.specs.Boot.{IfAdopted, IsEndBy, IsOnce, is_memory}
 use Rattle.mdv_store.specs.Booted.{IsBooted, IsReadAt}
 use Rattle.mdv_store.specs.Booting.{BootEnds, BootMoment, IsBootedTo, boot_area, has_written}
-use Rattle.mdv_store.specs.Quiet.{IsUnwritten}
+use Rattle.mdv_look.specs.Quiet.{IsUnwritten}
 use Rattle.mdv_store.specs.Taking.{RewriteMoment, Rewrites}
 use Rattle.mdv_store.specs.declared.booting.BootEnd.TheVariants as end
 use Rattle.mdv_store.specs.declared.booting.Booted.{Booted}

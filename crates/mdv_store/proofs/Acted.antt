@@ -9,7 +9,7 @@ use Rattle.mdv_shelf.proofs.Frame.{kept_outside_more, kept_outside_same, kept_ou
 use Rattle.mdv_store.specs.Acts.{Act, AreDoing, AreDone, Blanks, Forms, IsDoing, IsDone, blanks_asked, blanks_behind, blanks_on, blocks_of, calls_of, forms_asked, forms_from, forms_on}
 use Rattle.mdv_store.specs.Below.{Area, Identity, Key, Replica, SliceLine, Tale, place_on, range}
 use Rattle.mdv_store.specs.Create.{blanked_asked, replica_on, seats_asked}
-use Rattle.mdv_store.specs.Quiet.{IsQuiet}
+use Rattle.mdv_look.specs.Quiet.{IsQuiet}
 use Rattle.mdv_store.specs.Seats.{replica_area, replicas_of, seats_area}
 use Rattle.mdv_store.specs.declared.seats.Seat.{Seat}
 use Rattle.mdv_store.proofs.Acting.{blocks_more, calls_more}

@@ -41,9 +41,9 @@ use Rattle.mdv_store.specs.declared.booting.Taken.{Taken}
 use Rattle.mdv_store.specs.declared.seats.Seat.{Seat}
 use Rattle.mdv_store.proofs.Once.{pass_once}
 use Rattle.mdv_store.proofs.Passes.{mapped, unmapped}
-use Rattle.mdv_store.proofs.Quiet.{quiet_same, quiet_wider}
+use Rattle.mdv_look.proofs.Quiet.{quiet_same, quiet_wider}
 use Rattle.mdv_store.proofs.Reading.{in_hand_is, seated_laid, seated_own, to_adopt}
-use Rattle.mdv_store.specs.Quiet.{IsQuiet}
+use Rattle.mdv_look.specs.Quiet.{IsQuiet}
 use Rattle.mdv_store.proofs.Seating.{or_yes}
 use Rattle.mdv_store.proofs.Sitting.{contains_behind, contains_first, first_or_behind, left_replica}
 

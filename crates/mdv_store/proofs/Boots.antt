@@ -39,11 +39,11 @@ use Rattle.mdv_store.specs.Boot.{IfAdopted, IsEndBy, IsOnce, TakesBoth, TakesCla
 use Rattle.mdv_store.specs.Booted.{IsBooted, IsReadAt}
 use Rattle.mdv_store.specs.BootCounts.{IsBootCounted, IsEndCounted, most_blocks, most_reads}
 use Rattle.mdv_store.specs.Booting.{AreOfBoot, BootEnds, BootGoes, BootMoment, HasShown, IsBootedTo, Writes, WritesFor, boot_area, has_written}
-use Rattle.mdv_store.specs.Bringing.{AreSynced, AreUpBy, BringingEnds, IsBringingCounted}
+use Rattle.mdv_look.specs.Bringing.{AreSynced, AreUpBy, BringingEnds, IsBringingCounted}
 use Rattle.mdv_store.specs.Commit.{AnyLog, AnyWorld}
 use Rattle.mdv_store.specs.Counts.{MadeCallsBetween}
-use Rattle.mdv_store.specs.Looking.{AreCalmBy, HaveAnswered, IsLookedAt}
-use Rattle.mdv_store.specs.Quiet.{IsUnwritten}
+use Rattle.mdv_look.specs.Looking.{AreCalmBy, HaveAnswered, IsLookedAt}
+use Rattle.mdv_look.specs.Quiet.{IsUnwritten}
 use Rattle.mdv_store.specs.Records.{Spells}
 use Rattle.mdv_store.specs.Seats.{AreLaid, active_of, drive_of, replicas_of, seats_area, spots_of}
 use Rattle.mdv_store.specs.Taking.{IsCalmOn, IsTaken, Rewrites, IsTakingCounted, StaySynced, TakingEnds, TakingMoment, WasRead, drives_read}
@@ -53,14 +53,15 @@ use Rattle.mdv_store.specs.declared.booting.BootEnd.TheVariants as end
 use Rattle.mdv_store.specs.declared.booting.Booted.{Booted}
 use Rattle.mdv_store.specs.declared.booting.Hand.{Hand}
 use Rattle.mdv_store.specs.declared.booting.Taken.{Taken}
-use Rattle.mdv_store.specs.declared.looking.Looked.{Looked}
+use Rattle.mdv_look.specs.declared.looking.Looked.{Looked}
 use Rattle.mdv_store.specs.declared.seats.Seat.{Seat}
-use Rattle.mdv_store.proofs.Among.{among_calm, among_silent}
-use Rattle.mdv_store.proofs.Bringing.{count_cons}
-use Rattle.mdv_store.proofs.Few.{few_more, reads_between, reads_more}
-use Rattle.mdv_store.proofs.Looks.{and_first, and_second, cases_bool, count_length, yes_not}
+use Rattle.mdv_look.proofs.Among.{among_calm, among_silent}
+use Rattle.mdv_look.proofs.Bringing.{count_cons}
+use Rattle.mdv_look.proofs.Few.{few_more, reads_more}
+use Rattle.mdv_store.proofs.Few.{reads_between}
+use Rattle.mdv_look.proofs.Looks.{and_first, and_second, cases_bool, count_length, yes_not}
 use Rattle.mdv_store.proofs.Passes.{left_as, unmapped}
-use Rattle.mdv_store.proofs.Quiet.{quiet_more, unwritten_quiet}
+use Rattle.mdv_look.proofs.Quiet.{quiet_more, unwritten_quiet}
 use Rattle.mdv_store.proofs.Seating.{seated_at}
 use Rattle.mdv_store.proofs.Sitting.{contains_behind, contains_first}
 use Rattle.mdv_store.proofs.Takes.{none_newest}

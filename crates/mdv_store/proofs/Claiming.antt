@@ -22,7 +22,7 @@ use Rattle.mdv_quorum.specs.declared.event.Event.TheVariants.{Claimed}
 use Rattle.mdv_store.specs.Claims.{ClaimingEnds, ClaimingMoment, ClaimsTrace, IsAdopting}
 use Rattle.mdv_store.specs.Blank.{StayBlank, IsBlank}
 use Rattle.mdv_store.specs.Passing.{IsPassing, Passed, claiming}
-use Rattle.mdv_store.specs.Quiet.{IsQuiet}
+use Rattle.mdv_look.specs.Quiet.{IsQuiet}
 use Rattle.mdv_store.specs.Records.{Spells}
 use Rattle.mdv_store.specs.Seats.{AreHeld, TakesClaim, drive_of, replica_area, replicas_of, seats_area, spot_of, spots_of}
 use Rattle.mdv_store.specs.declared.seats.Seat.{Seat}

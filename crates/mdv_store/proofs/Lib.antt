@@ -1,12 +1,10 @@
 pub mod Acted
 pub mod Acting
 pub mod Adoptions
-pub mod Among
 pub mod Asked
 pub mod Bare
 pub mod Blanks
 pub mod Boots
-pub mod Bringing
 pub mod Claiming
 pub mod Clearing
 pub mod Committing
@@ -19,7 +17,6 @@ pub mod Halves
 pub mod Holding
 pub mod Leaving
 pub mod Locating
-pub mod Looks
 pub mod Losing
 pub mod Making
 pub mod Marks
@@ -29,7 +26,6 @@ pub mod Passes
 pub mod Passing
 pub mod Places
 pub mod Putting
-pub mod Quiet
 pub mod Quorums
 pub mod Reading
 pub mod Records

@@ -10,8 +10,8 @@ use Rattle.mdv_store.specs.Below.{DriveNo, Failures, Head, IsSynced, KeptOutside
 use Rattle.mdv_store.specs.Boot.{TakesBoth}
 use Rattle.mdv_store.specs.Seats.{AreLeft, IsSpareOf, TakesClaim, TakesSlot, active_of, drive_of, drives_of, replica_area, replicas_of, seats_area, spot_of, spots_of}
 use Rattle.mdv_store.specs.declared.seats.Seat.{Seat}
-use Rattle.mdv_store.proofs.Among.{is_one_of}
-use Rattle.mdv_store.proofs.Bringing.{same_drive}
+use Rattle.mdv_look.proofs.Among.{is_one_of}
+use Rattle.mdv_look.proofs.Bringing.{same_drive}
 use Rattle.mdv_store.proofs.Sitting.{contains_behind, contains_first, first_or_behind}
 
 -- what a map has

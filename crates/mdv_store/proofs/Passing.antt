@@ -19,7 +19,7 @@ use Rattle.mdv_votes.specs.Spots.{is_in}
 use Rattle.mdv_votes.proofs.Meeting.{same_self}
 use Rattle.mdv_store.specs.Below.{Area, Core, Event, Identity, IsSynced, Log, Replica, Site, Spot, Table, Tale, same_spot}
 use Rattle.mdv_store.specs.Passing.{Passed, Writing, begun, beside, lost, took}
-use Rattle.mdv_store.specs.Quiet.{IsQuiet}
+use Rattle.mdv_look.specs.Quiet.{IsQuiet}
 use Rattle.mdv_store.specs.Seats.{drive_of, replica_area, spot_of}
 use Rattle.mdv_store.proofs.Rows.{part_filter, part_has, part_pairs}
 

@@ -37,7 +37,7 @@ use Rattle.mdv_store.specs.Text.{blocks_for}
 use Rattle.mdv_store.specs.declared.booting.Hand.{Hand}
 use Rattle.mdv_store.specs.declared.seats.Seat.{Seat}
 use Rattle.mdv_store.proofs.Halves.{spot_at, spot_is}
-use Rattle.mdv_store.proofs.Looks.{and_first, and_second}
+use Rattle.mdv_look.proofs.Looks.{and_first, and_second}
 use Rattle.mdv_store.proofs.Passes.{mapped}
 use Rattle.mdv_store.proofs.Quorums.{enough_read}
 use Rattle.mdv_store.proofs.Records.{spelled_of}

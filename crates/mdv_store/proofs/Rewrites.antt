@@ -29,11 +29,11 @@ use Rattle.mdv_store.specs.declared.booting.BootEnd.TheVariants as end
 use Rattle.mdv_store.specs.declared.booting.Hand.{Hand}
 use Rattle.mdv_store.specs.declared.booting.Taken.{Taken}
 use Rattle.mdv_store.specs.declared.seats.Seat.{Seat}
-use Rattle.mdv_store.proofs.Among.{among_calm, is_one_of}
-use Rattle.mdv_store.proofs.Bringing.{one_number, same_drive}
+use Rattle.mdv_look.proofs.Among.{among_calm, is_one_of}
+use Rattle.mdv_look.proofs.Bringing.{one_number, same_drive}
 use Rattle.mdv_store.proofs.Losing.{left_or_lost, pass_wrote, rose_then}
 use Rattle.mdv_store.proofs.Passes.{all_left, later, left_area, left_as, left_both, left_calm, left_most, left_told, mapped, pass_synced, some_lost, takes_both, unmapped}
-use Rattle.mdv_store.proofs.Quiet.{quiet_more, quiet_wider}
+use Rattle.mdv_look.proofs.Quiet.{quiet_more, quiet_wider}
 use Rattle.mdv_store.proofs.Quorums.{more_enough}
 use Rattle.mdv_store.proofs.Rewriting.{blank_goes, both_none_above, claims_go, ends_go, opened, rest_goes, slots_go}
 use Rattle.mdv_store.proofs.Sitting.{active_most, left_count, left_replica, left_seats, some_active}

@@ -35,7 +35,7 @@ use Rattle.mdv_standing.proofs.Stretches.{traced_slotted, traced_slotting}
 use Rattle.mdv_store.specs.Below.{Database, First, Geometry, Identity, Image, IsOwn, IsSynced, Key, Log, Mark, Open, Replica, RestStands, Second, Slot, Spot, Table, Tale, at_of, same_spot, site_of, with_slot}
 use Rattle.mdv_store.specs.Blank.{StayBlank, IsBlank}
 use Rattle.mdv_store.specs.Passing.{IsPassing, Passed, slotting}
-use Rattle.mdv_store.specs.Quiet.{IsQuiet}
+use Rattle.mdv_look.specs.Quiet.{IsQuiet}
 use Rattle.mdv_store.specs.Records.{Spells}
 use Rattle.mdv_store.specs.Seats.{AreHeld, AreShown, AreTheirs, IsShown, IsSpareOf, TakesSlot, drive_of, replica_area, replicas_of, seats_area, spot_of, spots_of}
 use Rattle.mdv_store.specs.Slots.{AreAbove, AreBodies, FillsTrace, IsWritten, SlottingEnds, SlottingMoment}

@@ -14,7 +14,7 @@ use Rattle.mdv_store.specs.Boot.{IsEndBy, WasChosen, is_memory}
 use Rattle.mdv_store.specs.Booting.{has_written}
 use Rattle.mdv_store.specs.Taking.{IsTaken, Rewrites, TakingEnds, TakingMoment, WasRead}
 use Rattle.mdv_store.specs.declared.booting.Taken.{Taken}
-use Rattle.mdv_store.specs.declared.looking.Looked.{Looked}
+use Rattle.mdv_look.specs.declared.looking.Looked.{Looked}
 use Rattle.mdv_store.proofs.Adoptions.{not_adopted, still_calm}
 
 -- a newest table is chosen

@@ -6,8 +6,8 @@ use Rattle.mdv_shelf.specs.Shelves.{AtEachTale, AtEnd, DriveFailures}
 use Rattle.mdv_survey.specs.Survey.{IsSurvey, IsSurveyOf}
 use Rattle.mdv_survey.specs.declared.replica.Survey.{Survey}
 use Rattle.mdv_store.specs.Below.{DriveNo, Drives, Geometry, Ghosts, Site, Tale, has_drive, last}
-use Rattle.mdv_store.specs.Bringing.{AreUpBy, BringingEnds, IsBringingCounted}
-use Rattle.mdv_store.specs.Quiet.{IsUnwritten}
+use Rattle.mdv_look.specs.Bringing.{AreUpBy, BringingEnds, IsBringingCounted}
+use Rattle.mdv_look.specs.Quiet.{IsUnwritten}
 use Rattle.mdv_store.specs.Seats.{AreLaid}
 use Rattle.mdv_store.specs.declared.booting.Booted.{Booted}
 use Rattle.mdv_base.specs.DriveSet.{no_drives}

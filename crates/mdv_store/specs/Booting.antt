@@ -11,7 +11,7 @@ use Rattle.mdv_store.specs.Blank.{StayBlank}
 use Rattle.mdv_store.specs.Boot.{IfAdopted, is_memory}
 use Rattle.mdv_store.specs.Commit.{AnyLog, AnyWorld, IsNewestWritten}
 use Rattle.mdv_store.specs.Opened.{IsOpenedAt, Opened}
-use Rattle.mdv_store.specs.Quiet.{IsQuiet}
+use Rattle.mdv_look.specs.Quiet.{IsQuiet}
 use Rattle.mdv_store.specs.Records.{Spells}
 use Rattle.mdv_store.specs.Seats.{replicas_of, seats_area, spots_of}
 use Rattle.mdv_store.specs.declared.booting.BootEnd.{BootEnd}

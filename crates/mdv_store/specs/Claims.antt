@@ -3,7 +3,7 @@ use Rattle.std.specs.Prelude.{◌<◌, ◌^◌, ℕ, List, [], ◌++◌, Contain
 use Rattle.mdv_store.specs.Below.{Database, Event, Geometry, Identity, IsPart, IsSound, IsSynced, IsVersionWith, Key, Log, Mark, MayBeClaimed, Replica, RestStands, Spot, Table, Tale, Traces, Version, claims_at, site_of}
 use Rattle.mdv_store.specs.Blank.{StayBlank}
 use Rattle.mdv_store.specs.Passing.{IsPassing, Passed, claiming}
-use Rattle.mdv_store.specs.Quiet.{IsQuiet}
+use Rattle.mdv_look.specs.Quiet.{IsQuiet}
 use Rattle.mdv_store.specs.Records.{Spells}
 use Rattle.mdv_store.specs.Seats.{AreHeld, AreNamed, drive_of, replicas_of, seats_area, spots_of}
 use Rattle.mdv_store.specs.declared.seats.Seat.{Seat}

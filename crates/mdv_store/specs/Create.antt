@@ -16,7 +16,7 @@ use Rattle.mdv_store.specs.Below.{Core, Database, DriveNo, Event, Failures, Geom
 use Rattle.mdv_store.specs.Commit.{AnyLog, AnyWorld, IsNewestWritten}
 use Rattle.mdv_store.specs.Counts.{ArePassCounted, MadeCallsBetween}
 use Rattle.mdv_store.specs.Opened.{IsOpenedAt, Opened}
-use Rattle.mdv_store.specs.Quiet.{IsQuiet}
+use Rattle.mdv_look.specs.Quiet.{IsQuiet}
 use Rattle.mdv_store.specs.Records.{Spells}
 use Rattle.mdv_store.specs.Seats.{AreHeld, AreLaid, AreLeft, AreTheirs, TakesSlot, active_of, is_half_active, seats_area, spots_of}
 use Rattle.mdv_store.specs.Text.{blocks_for}

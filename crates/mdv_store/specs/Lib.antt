@@ -1,6 +1,5 @@
 pub mod Below
 pub mod Records
-pub mod Quiet
 pub mod Blank
 pub mod Text
 pub mod Seats
@@ -11,8 +10,6 @@ pub mod Writing
 pub mod Opened
 pub mod Commit
 pub mod Counts
-pub mod Bringing
-pub mod Looking
 pub mod Boot
 pub mod Booting
 pub mod BootCounts

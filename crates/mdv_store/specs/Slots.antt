@@ -3,7 +3,7 @@ use Rattle.std.specs.Prelude.{Bool, ℕ, List, [], ◌++◌, Contains}
 use Rattle.mdv_store.specs.Below.{Database, Event, Geometry, Identity, IsAbove, IsBodyOf, IsNewest, IsPart, IsSound, IsSynced, IsTaking, Key, Log, Mark, Replica, RestStands, Spot, Table, Tale, Traces, at_of, fills_at, site_of}
 use Rattle.mdv_store.specs.Blank.{StayBlank}
 use Rattle.mdv_store.specs.Passing.{IsPassing, Passed, slotting}
-use Rattle.mdv_store.specs.Quiet.{IsQuiet}
+use Rattle.mdv_look.specs.Quiet.{IsQuiet}
 use Rattle.mdv_store.specs.Records.{Spells}
 use Rattle.mdv_store.specs.Seats.{AreHeld, AreNamed, AreShown, drive_of, replicas_of, seats_area, spots_of}
 use Rattle.mdv_store.specs.declared.seats.Seat.{Seat}

@@ -18,7 +18,7 @@ use Rattle.mdv_store.specs.Commit.{AnyLog, AnyWorld, IsNewestWritten}
 use Rattle.mdv_store.specs.Counts.{ArePassCounted, MadeCallsBetween}
 use Rattle.mdv_store.specs.Opened.{AreSeatsOf, IsOpenedAt, Opened, least_room}
 use Rattle.mdv_store.specs.Passing.{IsPassing, Passed, claiming}
-use Rattle.mdv_store.specs.Quiet.{IsQuiet}
+use Rattle.mdv_look.specs.Quiet.{IsQuiet}
 use Rattle.mdv_store.specs.Records.{Spells}
 use Rattle.mdv_store.specs.Seats.{AreHeld, AreLaid, AreLeft, AreNamed, HaveRoom, TakesClaim, TakesSlot, active_of, drive_of, replicas_of, seats_area, spots_of}
 use Rattle.mdv_store.specs.Text.{blocks_for}
@@ -27,7 +27,7 @@ use Rattle.mdv_store.specs.declared.booting.BootEnd.{BootEnd}
 use Rattle.mdv_store.specs.declared.booting.BootEnd.TheVariants as end
 use Rattle.mdv_store.specs.declared.booting.Hand.{Hand}
 use Rattle.mdv_store.specs.declared.booting.Taken.{Taken}
-use Rattle.mdv_store.specs.declared.looking.Looked.{Looked}
+use Rattle.mdv_look.specs.declared.looking.Looked.{Looked}
 use Rattle.mdv_store.specs.declared.seats.Seat.{Seat}
 
 abbrev pub drives_read : List Replica → List DriveNo

@@ -18,12 +18,11 @@ ghost use Rattle.mdv_store.specs.Booting.{BootEnds, BootMoment};
 ghost use Rattle.mdv_store.specs.Seats.{AreLaid, active_of, drives_of};
 ghost use Rattle.mdv_store.specs.Taking.{AreNumbered, IsHandOf, IsReadied, IsRewriteAnswer, IsTaken, IsTakingCounted, RewriteEnds, RewriteMoment, StaySynced, TakingEnds, TakingMoment, drives_read};
 
-use crate::drives::bring_up;
-use crate::looking::{Looked, look};
 use crate::seats::{Seat, active, claim_all, is_half_active, slot_all};
 use crate::store::Store;
 use crate::text::{blocks_for, room_for, slot_room, spell};
 use mdv_base::{Block, DriveNo, DriveSet, Identity, Key, Mark, NUMBER_LIMIT, Place};
+use mdv_look::{Looked, bring_up, look};
 use mdv_name::Geometry;
 use mdv_record::{least_room, text_bytes};
 use mdv_shelf::Shelf;

@@ -4,9 +4,7 @@
 
 mod booting;
 mod creating;
-mod drives;
 mod law;
-mod looking;
 mod seats;
 mod store;
 mod text;

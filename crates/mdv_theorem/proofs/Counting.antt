@@ -22,7 +22,7 @@ use Rattle.mdv_name.specs.declared.slice_lines.SliceAt.{SliceAt}
 use Rattle.mdv_name.specs.declared.slice_lines.SliceLine.{SliceLine}
 use Rattle.mdv_run_law.proofs.Extents.{SeesOwn}
 use Rattle.mdv_shown.specs.Site.{place_on}
-use Rattle.mdv_store.proofs.Bringing.{count_cons}
+use Rattle.mdv_look.proofs.Bringing.{count_cons}
 use Rattle.mdv_store.proofs.Spotting.{asked_length as asked_seats}
 use Rattle.mdv_store.specs.Create.{replica_on, seat_on, seats_asked, seats_on}
 use Rattle.mdv_store.proofs.Sitting.{replica_of}

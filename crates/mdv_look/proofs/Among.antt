@@ -8,8 +8,8 @@ use Rattle.mdv_shelf.specs.Story.{InTime, Mark, Story, marked, tale_of}
 use Rattle.mdv_shelf.specs.Tale.{Begun, Then}
 use Rattle.mdv_shelf.proofs.InTime.{in_time_more}
 use Rattle.mdv_shelf.proofs.Noted.{goes_on_more, keeps_more}
-use Rattle.mdv_store.specs.Below.{DriveNo, Ghosts, Tale}
-use Rattle.mdv_store.proofs.Bringing.{is_drive, one_number, same_drive}
+use Rattle.mdv_look.specs.Below.{DriveNo, Ghosts, Tale}
+use Rattle.mdv_look.proofs.Bringing.{is_drive, one_number, same_drive}
 
 -- how many calls a tale has
 abbrev size : Tale → ℕ

@@ -5,9 +5,9 @@ use Rattle.mdv_base.specs.declared.drive.DriveNo.{DriveNo}
 use Rattle.mdv_base.specs.declared.drive.Failed.{Failed}
 use Rattle.mdv_base.specs.DriveSet.{Drives, has_drive}
 use Rattle.mdv_shelf.specs.Calls.{InDrive}
-use Rattle.mdv_store.proofs.Bringing.{SoFar, Tried, fresh_at, so_far_more, so_far_none, tried_badly, tried_well}
-use Rattle.mdv_store.proofs.drives.bring_up.Goals as goal
-use Rattle.mdv_store.proofs.drives.bring_up.Goals.{in-Ok, in-Err}
+use Rattle.mdv_look.proofs.Bringing.{SoFar, Tried, fresh_at, so_far_more, so_far_none, tried_badly, tried_well}
+use Rattle.mdv_look.proofs.drives.bring_up.Goals as goal
+use Rattle.mdv_look.proofs.drives.bring_up.Goals.{in-Ok, in-Err}
 
 pub loop-drive-init : goal.loop-drive-init
 loop-drive-init g c = so_far_none g.S.Shelf c.args.shelf.now c.new-up.result c.new-up.ensures.none

@@ -3,10 +3,10 @@ use Rattle.std.proofs.lemmas.List.{take_more}
 use Rattle.std.proofs.lemmas.List.Elements.{Contains-get_or}
 use Rattle.mdv_base.specs.DriveSet.{has_drive}
 use Rattle.mdv_base.specs.declared.drive.DriveNo.{DriveNo}
-use Rattle.mdv_store.specs.Looking.{AreLeftOf}
-use Rattle.mdv_store.proofs.Looks.{left_in, left_out, yes_not, up_not, failed_not}
-use Rattle.mdv_store.proofs.looking.left_of.Goals as goal
-use Rattle.mdv_store.proofs.looking.left_of.Goals.{then-contains+then-not-contains, else-contains, else-contains-via-then-contains+else-not-contains, else-contains-via-else-contains}
+use Rattle.mdv_look.specs.Looking.{AreLeftOf}
+use Rattle.mdv_look.proofs.Looks.{left_in, left_out, yes_not, up_not, failed_not}
+use Rattle.mdv_look.proofs.looking.left_of.Goals as goal
+use Rattle.mdv_look.proofs.looking.left_of.Goals.{then-contains+then-not-contains, else-contains, else-contains-via-then-contains+else-not-contains, else-contains-via-else-contains}
 
 pub insert-requires : goal.insert-requires
 insert-requires c = c.requires _ (Contains-get_or c.args.drives.now c.loop-drive.drive-index (record { 0 = 0 }) c.loop-drive-test.true)

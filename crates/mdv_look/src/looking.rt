@@ -5,7 +5,7 @@ ghost use Rattle.mdv_name.specs.Sound.{IsSound};
 ghost use Rattle.mdv_shelf.specs.Drives.{KeptAmong};
 ghost use Rattle.mdv_shelf.specs.Shelves.{DriveFailures};
 ghost use Rattle.mdv_survey.specs.Replica.{IsOnShelf};
-ghost use Rattle.mdv_store.specs.Looking.{AreLeftOf, HasFailedOn, IsLookCounted, IsLooked};
+ghost use Rattle.mdv_look.specs.Looking.{AreLeftOf, HasFailedOn, IsLookCounted, IsLooked};
 
 use mdv_base::{DriveNo, DriveSet};
 use mdv_name::Geometry;
@@ -14,16 +14,18 @@ use mdv_shown::Site;
 use mdv_survey::{Survey, survey};
 use std::alloc::{AllocError, Global};
 
-/// What was read, and of which drives: those that were up and answered every read.
+/// What a look read, and of which drives.
 #[derive(Drop)]
-pub(crate) struct Looked {
-    pub(crate) survey: Survey,
-    pub(crate) calm: DriveSet,
+pub struct Looked {
+    /// What the last look found: the replicas on the drives that answered every read, and the newest of their tables.
+    pub survey: Survey,
+    /// The drives that were to be looked at and answered every read.
+    pub calm: DriveSet,
 }
 
 /// Looks at the slices of the site on these drives. Where a read fails it looks anew, without the drives on which one did: what they have doesn't
-/// count, whatever was read of it.
-pub(crate) fn look<S: Shelf>(
+/// count, whatever was read of it. It writes nothing and syncs nothing. An error tells that memory was refused.
+pub fn look<S: Shelf>(
     shelf: &mut S,
     alloc: Global,
     geometry: &Geometry,

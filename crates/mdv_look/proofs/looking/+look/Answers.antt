@@ -1,9 +1,9 @@
 use Rattle.std.proofs.Common.{ℕ, List, sym, subst, arith}
 use Rattle.mdv_survey.specs.Replica.{IsOnShelf}
 use Rattle.mdv_survey.specs.declared.replica.Survey.{Survey}
-use Rattle.mdv_store.proofs.Looks.{counted_here, counted_more, drives_few, fewer_left, looked_here, looked_more}
-use Rattle.mdv_store.proofs.Among.{among_silent}
-use Rattle.mdv_store.proofs.looking.+look.Goals as goal
+use Rattle.mdv_look.proofs.Looks.{counted_here, counted_more, drives_few, fewer_left, looked_here, looked_more}
+use Rattle.mdv_look.proofs.Among.{among_silent}
+use Rattle.mdv_look.proofs.looking.+look.Goals as goal
 
 pub left_of-left-requires : goal.left_of-left-requires
 left_of-left-requires g t c = rw c.as_slice-drives.ensures (drives_few (g.S.Shelf.sizes c.args.shelf.now) c.args.site.now.drives c.requires.on_shelf.drives)

@@ -13,11 +13,11 @@ use Rattle.mdv_survey.specs.Counts.{AreLinesBy, IsCounted, IsLineBy, IsSliceBy, 
 use Rattle.mdv_survey.specs.Replica.{Contents}
 use Rattle.mdv_survey.specs.Survey.{AreWithin, HaveFailed, IsSurvey, IsSurveyOf, answers_in}
 use Rattle.mdv_survey.specs.declared.replica.Survey.{Survey}
-use Rattle.mdv_store.specs.Below.{DriveNo, Drives, Geometry, Ghosts, Site, SliceLine, Tale, has_drive, last}
-use Rattle.mdv_store.specs.Looking.{AreCalmBy, AreLeftOf, HasFailedOn, HaveAnswered, IsLookCounted, IsLooked, IsLookedAt}
-use Rattle.mdv_store.specs.declared.looking.Looked.{Looked}
-use Rattle.mdv_store.proofs.Bringing.{count_cons, is_drive}
-use Rattle.mdv_store.proofs.Few.{few_more, few_wider}
+use Rattle.mdv_look.specs.Below.{DriveNo, Drives, Geometry, Ghosts, Site, SliceLine, Tale, has_drive, last}
+use Rattle.mdv_look.specs.Looking.{AreCalmBy, AreLeftOf, HasFailedOn, HaveAnswered, IsLookCounted, IsLooked, IsLookedAt}
+use Rattle.mdv_look.specs.declared.looking.Looked.{Looked}
+use Rattle.mdv_look.proofs.Bringing.{count_cons, is_drive}
+use Rattle.mdv_look.proofs.Few.{few_more, few_wider}
 
 pub cases_bool : (b : Bool) → (b ≡ true) ⊎ (b ≡ false)
 cases_bool true = inl refl

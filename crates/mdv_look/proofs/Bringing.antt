@@ -18,11 +18,11 @@ use Rattle.mdv_shelf.proofs.Moments.{ends_more, moments_more, moments_none}
 use Rattle.mdv_shelf.proofs.Settled.{synced_drive, synced_still, told_synced}
 use Rattle.mdv_shelf.proofs.Blocks.{kept_unwritten}
 use Rattle.mdv_shelf.specs.Calls.{and_then}
-use Rattle.mdv_store.specs.Below.{Ghosts, IsSynced, Synced, Tale, Then}
-use Rattle.mdv_store.specs.Bringing.{AreSynced, AreUpBy, BringingEnds, IsBringingCounted, IsTryCounted, brought_up}
-use Rattle.mdv_store.specs.Quiet.{IsUnwritten}
-use Rattle.mdv_store.proofs.Few.{made_reads, reads_more}
-use Rattle.mdv_store.proofs.Quiet.{unwritten_more, unwritten_same, unwritten_synced}
+use Rattle.mdv_look.specs.Below.{Ghosts, IsSynced, Synced, Tale, Then}
+use Rattle.mdv_look.specs.Bringing.{AreSynced, AreUpBy, BringingEnds, IsBringingCounted, IsTryCounted, brought_up}
+use Rattle.mdv_look.specs.Quiet.{IsUnwritten}
+use Rattle.mdv_look.proofs.Few.{made_reads, reads_more}
+use Rattle.mdv_look.proofs.Quiet.{unwritten_more, unwritten_same, unwritten_synced}
 
 -- drives of one number are one
 pub same_drive : (a b : DriveNo) → a.0 ≡ b.0 → a ≡ b

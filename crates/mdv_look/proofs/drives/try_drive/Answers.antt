@@ -1,12 +1,12 @@
 use Rattle.std.proofs.Common.{◌∙◌, Option, ap, refl, arith}
-use Rattle.mdv_store.specs.Below.{Synced, Tale}
+use Rattle.mdv_look.specs.Below.{Synced, Tale}
 use Rattle.mdv_shelf.specs.Calls.{OnDrive, and_then}
 use Rattle.mdv_shelf.specs.Shelves.{KeptOn, MadeCalls}
 use Rattle.mdv_shelf.proofs.Counts.{took_more, took_one}
 use Rattle.mdv_shelf.proofs.InTime.{kept_on_call, kept_on_more}
-use Rattle.mdv_store.proofs.Few.{err_is}
-use Rattle.mdv_store.proofs.drives.try_drive.Goals as goal
-use Rattle.mdv_store.proofs.drives.try_drive.Goals.{After-sync}
+use Rattle.mdv_look.proofs.Few.{err_is}
+use Rattle.mdv_look.proofs.drives.try_drive.Goals as goal
+use Rattle.mdv_look.proofs.drives.try_drive.Goals.{After-sync}
 
 pub returns-in_err-read-clause-kept : goal.returns-in_err-read-clause-kept
 returns-in_err-read-clause-kept g c = kept_on_call g.S.Shelf (OnDrive c.args.drive.0) _ _ c.read.ensures.noted c.read.ensures.keeps c.read.ensures.cause.others

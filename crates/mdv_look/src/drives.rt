@@ -3,14 +3,15 @@ ghost use Rattle.mdv_base.specs.Causes.{HasCause};
 ghost use Rattle.mdv_shelf.specs.Calls.{OnDrive, InDrive, Syncs};
 ghost use Rattle.mdv_shelf.specs.Drives.{AreDrives, KeptAmong};
 ghost use Rattle.mdv_shelf.specs.Shelves.{AtEachTale, AtEnd, DriveFailures, KeptOn};
-ghost use Rattle.mdv_store.specs.Bringing.{AreUpBy, BringingEnds, IsBringingCounted, IsTryCounted};
-ghost use Rattle.mdv_store.specs.Quiet.{IsUnwritten};
+ghost use Rattle.mdv_look.specs.Bringing.{AreUpBy, BringingEnds, IsBringingCounted, IsTryCounted};
+ghost use Rattle.mdv_look.specs.Quiet.{IsUnwritten};
 
 use mdv_base::{DriveNo, DriveSet, Failed, ZERO_BLOCK};
 use mdv_shelf::Shelf;
 
-/// Brings these drives up in their order, whatever came of those before. The ones that are up are the set.
-pub(crate) fn bring_up<S: Shelf>(shelf: &mut S, drives: &[DriveNo]) -> DriveSet
+/// Brings these drives up in their order, whatever came of those before: it reads the first block of each and syncs it, so that what is read of it
+/// later no crash takes back. The ones of which both calls were answered are the set. Nothing is written.
+pub fn bring_up<S: Shelf>(shelf: &mut S, drives: &[DriveNo]) -> DriveSet
     requires { AreDrives (S.sizes shelf.old) drives.now }
     ensures up { AreUpBy (DriveFailures S.Shelf shelf.old shelf.new) drives.now result }
     ensures moments { AtEachTale S.Shelf IsUnwritten shelf.old shelf.new }

@@ -6,8 +6,8 @@ use Rattle.mdv_shelf.proofs.Blocks.{kept_unwritten}
 use Rattle.mdv_shelf.proofs.Frame.{kept_outside_more, kept_outside_same, kept_outside_wider}
 use Rattle.mdv_shelf.proofs.Moments.{grew_one}
 use Rattle.mdv_shelf.proofs.Settled.{told_synced}
-use Rattle.mdv_store.specs.Below.{Area, Synced, Tale, Then, nowhere}
-use Rattle.mdv_store.specs.Quiet.{IsQuiet, IsUnwritten}
+use Rattle.mdv_look.specs.Below.{Area, Synced, Tale, Then, nowhere}
+use Rattle.mdv_look.specs.Quiet.{IsQuiet, IsUnwritten}
 
 pub quiet_same : (area : Area) (t : Tale) → IsQuiet area t t
 quiet_same area t = record { outside = kept_outside_same area t; quiet = refl }

@@ -1,6 +1,6 @@
 -- What a stretch of calls leaves alone.
 use Rattle.std.specs.Prelude.{◌≡◌}
-use Rattle.mdv_store.specs.Below.{Area, KeptOutside, Tale, nowhere, told}
+use Rattle.mdv_look.specs.Below.{Area, KeptOutside, Tale, nowhere, told}
 
 -- nothing is told, and no block changes outside the area
 pub record IsQuiet (area : Area) (t m : Tale) : Type 0 where

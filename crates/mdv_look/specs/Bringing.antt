@@ -6,7 +6,7 @@ use Rattle.mdv_base.specs.DriveSet.{Drives, has_drive}
 use Rattle.mdv_shelf.specs.Shelves.{MadeCalls}
 use Rattle.mdv_store_law.specs.Effort.{BroughtUpBy}
 use Rattle.mdv_survey.specs.Counts.{MadeReads}
-use Rattle.mdv_store.specs.Below.{Failures, Ghosts, IsSynced, Synced, Tale, Then}
+use Rattle.mdv_look.specs.Below.{Failures, Ghosts, IsSynced, Synced, Tale, Then}
 
 -- those of the drives are up on which no call failed, and on each other one just one did; no other drive is up
 pub record AreUpBy (failed : ℕ → Failures) (drives : List DriveNo) (up : Drives) : Type 0 where

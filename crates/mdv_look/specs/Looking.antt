@@ -5,8 +5,8 @@ use Rattle.mdv_base.specs.DriveSet.{no_drives}
 use Rattle.mdv_shelf.specs.Shelves.{DriveFailures}
 use Rattle.mdv_survey.specs.Counts.{AreLinesBy, MadeFew, MadeReads}
 use Rattle.mdv_survey.specs.Survey.{IsSurvey, IsSurveyOf, answers_in}
-use Rattle.mdv_store.specs.Below.{DriveNo, Drives, Geometry, Ghosts, Site, Tale, has_drive, last}
-use Rattle.mdv_store.specs.declared.looking.Looked.{Looked}
+use Rattle.mdv_look.specs.Below.{DriveNo, Drives, Geometry, Ghosts, Site, Tale, has_drive, last}
+use Rattle.mdv_look.specs.declared.looking.Looked.{Looked}
 
 -- Of the drives those that are up and on which no read failed are left.
 pub record AreLeftOf (drives : List DriveNo) (up failed left : Drives) : Type 0 where

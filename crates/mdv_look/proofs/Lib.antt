@@ -1,0 +1,5 @@
+pub mod Among
+pub mod Bringing
+pub mod Few
+pub mod Looks
+pub mod Quiet

@@ -1,0 +1,4 @@
+pub mod Below
+pub mod Quiet
+pub mod Bringing
+pub mod Looking
