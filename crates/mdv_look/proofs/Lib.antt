@@ -3,3 +3,4 @@ pub mod Bringing
 pub mod Few
 pub mod Looks
 pub mod Quiet
+pub mod Peeks

@@ -50,6 +50,10 @@ pub record IsLooked {S E : Type 0} (shelf : Ghosts S) (old new : S) (g : Geometr
 abbrev pub HaveAnswered : Site → (up calm : Drives) → Type 0
 HaveAnswered site up calm = (drive : DriveNo) → Contains site.drives drive → has_drive up drive ≡ true → has_drive calm drive ≡ true
 
+-- at most so many reads of each slice, for as many looks as there are drives, and one
+abbrev pub most_reads : Site → ℕ
+most_reads site = (1 + length site.drives) * (765 * length site.lines)
+
 -- Where no read failed each head and each body of an open slot was read once. A look at all slices takes 765 reads at most of each, and there are no more
 -- looks than drives that are up, and one.
 pub record IsLookCounted {S E : Type 0} (shelf : Ghosts S) (old new : S) (g : Geometry) (site : Site) (up : Drives) (result : Result Looked E) : Type 0 where

@@ -3,6 +3,8 @@
 
 mod drives;
 mod looking;
+mod peeking;
 
 pub use drives::bring_up;
 pub use looking::{Looked, look};
+pub use peeking::{PeekRefusal, peek};

@@ -2,6 +2,7 @@
 use Rattle.std.specs.Prelude.{◌≡◌, ◌⊎◌, ◌<◌, ◌≤◌, ◌+◌, ◌*◌, ◌/◌, ◌^◌, ◌&&◌, if◌then◌else◌, nat_le, nat_lt, ℕ, Bool, true, false, max, List, [], ◌∷◌, length, map, Some, IsTrue}
 use Rattle.std.specs.List.{find}
 use Rattle.mdv_base.specs.declared.name.Key.TheVariants.{Local, Set}
+pub use Rattle.mdv_look.specs.Peeking.{WasChosen}
 use Rattle.mdv_survey.specs.Choice.{IsChoice, IsTheOne, is_of, place_of}
 use Rattle.mdv_survey.specs.declared.choosing.Choice.TheVariants as chosen
 use Rattle.mdv_survey.specs.declared.replica.Newest.{Newest}
@@ -97,10 +98,6 @@ pub record IsLost (failed : ℕ → Failures) (Wrote : Hand → Table → Type 0
   pub few : is_enough key now ≡ false
   pub active_is : active ≡ active_of now
   pub listed_is : listed ≡ length now
-
--- the votes take the newest table
-abbrev pub WasChosen : Survey → Type 0
-WasChosen survey = (number : ℕ) × IsChoice survey (chosen.Newest number)
 
 -- not more than half of a list was found; or enough of it was, but not more than half of those places have room for the text
 abbrev pub IsShort : Survey → (readable needed : ℕ) → Type 0

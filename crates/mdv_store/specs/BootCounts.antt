@@ -3,6 +3,7 @@ use Rattle.std.specs.Prelude.{◌≡◌, ◌+◌, ◌*◌, ℕ, true, false, len
 use Rattle.mdv_base.specs.DriveSet.{no_drives}
 use Rattle.mdv_shelf.specs.Shelves.{MadeCalls}
 use Rattle.mdv_survey.specs.Counts.{AreLinesBy, MadeReads}
+pub use Rattle.mdv_look.specs.Looking.{most_reads}
 use Rattle.mdv_store.specs.Below.{Geometry, Ghosts, Site, Tale, last, record_text}
 use Rattle.mdv_store.specs.Booting.{has_written}
 use Rattle.mdv_store.specs.Counts.{MadeCallsBetween}
@@ -11,10 +12,6 @@ use Rattle.mdv_store.specs.Text.{blocks_for}
 use Rattle.mdv_store.specs.declared.booting.BootEnd.{BootEnd}
 use Rattle.mdv_store.specs.declared.booting.BootEnd.TheVariants as end
 use Rattle.mdv_store.specs.declared.booting.Booted.{Booted}
-
--- at most so many reads of each slice, for as many looks as there are drives, and one
-abbrev pub most_reads : Site → ℕ
-most_reads site = (1 + length site.drives) * (765 * length site.lines)
 
 -- what a boot writes at most: of each of fifty places a claim, two gates and the longest text
 abbrev pub most_blocks : ℕ

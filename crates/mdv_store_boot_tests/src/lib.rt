@@ -1,4 +1,4 @@
-//! Worked boots, commits and creations of a database on many slices and drives, each a list of steps with what has to come of it.
+//! Worked boots, peeks, commits and creations of a database on many slices and drives, each a list of steps with what has to come of it.
 #![tactic(auto)]
 
 #[cfg(test)]
@@ -7,6 +7,8 @@ mod boot_tests;
 mod lost_tests;
 #[cfg(test)]
 mod mixed_tests;
+#[cfg(test)]
+mod peek_tests;
 #[cfg(test)]
 mod spoiled_tests;
 #[cfg(test)]

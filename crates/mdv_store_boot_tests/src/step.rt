@@ -1,7 +1,7 @@
 //! Steps of a database's life, each with what has to come of it, and the walk over a list of them.
 use mdv_replica::claim_block;
 use mdv_store_tests::{
-    Boot, Committed, Drives, End, Found, Ground, Host, Image, Layout, Made, bit, local_on,
+    Boot, Committed, Drives, End, Found, Ground, Host, Image, Layout, Made, Peeked, bit, local_on,
     shared_on,
 };
 use std::alloc::Global;
@@ -20,6 +20,8 @@ pub(crate) enum Step {
     Adopts(u64, u16, usize),
     /// A call fails in it, and these drives aren't up.
     BootsWithout(Drives, End),
+    /// Each drive is read by one call, and then a peek tells this, and nothing is written.
+    Peeks(Peeked),
     Commits(u16, Committed),
     /// Nothing is written.
     CommitsNothing(u16, Committed),
@@ -84,6 +86,13 @@ impl Life {
         let up = all_drives(&self.host) & !down;
         let clean = false;
         self.boots_to(alloc, Boot { end, up, clean })
+    }
+
+    fn peeks(&mut self, alloc: Global, want: Peeked) -> Result<bool, Fail> {
+        let before = self.host.blocks(alloc)?;
+        let peeked = self.host.peek(alloc)?;
+        let after = self.host.blocks(alloc)?;
+        Ok(peeked == want && before.as_slice() == after.as_slice())
     }
 
     fn commits_nothing(
@@ -152,6 +161,7 @@ impl Life {
                 self.boots(alloc, End::Adopted(found))
             }
             Step::BootsWithout(down, end) => self.boots_without(alloc, down, end),
+            Step::Peeks(want) => self.peeks(alloc, want),
             Step::Commits(number, want) => Ok(self.host.commit(alloc, number)? == want),
             Step::CommitsNothing(number, want) => self.commits_nothing(alloc, number, want),
             Step::CommitsMany(count, want) => self.commits_many(alloc, count, want),

@@ -15,6 +15,7 @@ ghost use Rattle.mdv_store_tests.specs.Lines.{EndsWithin, HasRoom};
 
 use mdv_base::{Block, DriveName, DriveNo, DriveSet, Identity, Key, SliceName, VolId, ZERO_BLOCK};
 use mdv_home::has_drives;
+use mdv_look::{PeekRefusal, peek};
 use mdv_name::{Geometry, SliceLine, read_geometries_are_sound};
 use mdv_quorum_tests::Draws;
 use mdv_shelf::{MemShelf, Shelf};
@@ -58,6 +59,19 @@ pub struct Boot {
     pub end: End,
     pub up: Drives,
     pub clean: bool,
+}
+
+/// What a peek told.
+#[derive(Clone, Copy, Debug, PartialEq, Eq)]
+pub enum Peeked {
+    /// The table's number, as in `Found`, and how many places it lists.
+    Table(u16, usize),
+    Empty,
+    /// The fresh words of two identities.
+    TwoDatabases(u64, u64),
+    /// So many places are readable, and so many are needed.
+    NoQuorum(u32, u32),
+    Memory,
 }
 
 /// How a crash picks the values of blocks: what was stable, what was written last, or as the numbers from that seed are drawn.
@@ -319,6 +333,16 @@ fn end_of(end: &BootEnd) -> End {
     }
 }
 
+fn told(peeked: Result<Table, PeekRefusal>) -> Peeked {
+    match peeked {
+        Ok(table) => Peeked::Table(number_of(&table), table.plan.lists.places().len()),
+        Err(PeekRefusal::Empty) => Peeked::Empty,
+        Err(PeekRefusal::TwoDatabases { a, b }) => Peeked::TwoDatabases(a.fresh, b.fresh),
+        Err(PeekRefusal::NoQuorum { readable, needed }) => Peeked::NoQuorum(readable, needed),
+        Err(PeekRefusal::Memory) => Peeked::Memory,
+    }
+}
+
 fn came_of(answer: Result<(), CommitFault>) -> Committed {
     match answer {
         Ok(()) => Committed::Done,
@@ -405,6 +429,14 @@ impl Host {
             up: mask_of(&booted.up),
             clean: booted.clean,
         })
+    }
+
+    /// What a boot would take. What is open stays open.
+    pub fn peek(&mut self, alloc: Global) -> Result<Peeked, Fail> {
+        if !lies_on(&self.geometry, &self.site, &self.shelf) {
+            return Err("drives of the table".into());
+        }
+        Ok(told(peek(&mut self.shelf, alloc, &self.geometry, &self.site)))
     }
 
     pub fn commit(&mut self, alloc: Global, number: u16) -> Result<Committed, Fail> {

@@ -10,5 +10,5 @@ mod tables;
 #[cfg(test)]
 mod world;
 
-pub use host::{Boot, Committed, Drives, End, Found, Host, Image, Made, bit, has};
+pub use host::{Boot, Committed, Drives, End, Found, Host, Image, Made, Peeked, bit, has};
 pub use tables::{Ground, Layout, local_on, shared_on};

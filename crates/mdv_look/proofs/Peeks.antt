@@ -1,0 +1,57 @@
+-- What is answered by a look at all drives of a site.
+use Rattle.std.proofs.Common.{◌≡◌, ◌≢◌, inl, inr, ◌+◌, ◌*◌, ◌≤◌, true, false, List, [], ◌∷◌, ◌++◌, length, Contains, Option, None, Some, Result, Ok, Err, refl, sym, ◌∙◌, subst, arith}
+use Rattle.std.specs.Prelude.{MatchOption, count_by}
+use Rattle.std.proofs.Math.Nat.{mul-le-mul_left}
+use Rattle.std.proofs.lemmas.List.Elements.{Contains-append_left, Contains-push, Contains-push_cases}
+use Rattle.mdv_survey.specs.Choice.{IsEnough}
+use Rattle.mdv_survey.specs.Counts.{MadeFew}
+use Rattle.mdv_survey.specs.declared.choosing.Choice.TheVariants as chosen
+use Rattle.mdv_survey.specs.declared.replica.Newest.{Newest}
+use Rattle.mdv_survey.specs.declared.replica.Survey.{Survey}
+use Rattle.mdv_table.specs.declared.table.Table.{Table}
+use Rattle.mdv_look.specs.Below.{DriveNo, Drives, Geometry, Ghosts, Site, has_drive}
+use Rattle.mdv_look.specs.Looking.{IsLookCounted, IsLookedAt, most_reads}
+use Rattle.mdv_look.specs.Peeking.{AreAllOf, IsPeekBy, IsPeeked, WasChosen}
+use Rattle.mdv_look.specs.declared.looking.Looked.{Looked}
+use Rattle.mdv_look.specs.declared.peeking.PeekRefusal.{PeekRefusal}
+use Rattle.mdv_look.specs.declared.peeking.PeekRefusal.TheVariants as refused
+use Rattle.mdv_look.proofs.Bringing.{is_drive}
+use Rattle.mdv_look.proofs.Few.{few_wider}
+use Rattle.mdv_look.proofs.Looks.{count_length}
+
+pub all_none : (set : Drives) → ((drive : DriveNo) → has_drive set drive ≡ false) → AreAllOf [] set
+all_none set none = record { each = λ drive one_of. absurd (omega (arith, one_of.1)); only = λ drive so. absurd (cc (so, none drive)) }
+
+-- one drive more
+pub all_more : (drives : List DriveNo) (drive : DriveNo) (set later : Drives) → AreAllOf drives set → has_drive later drive ≡ true → ((other : DriveNo) → other ≢ drive → has_drive later other ≡ has_drive set other) → AreAllOf (drives ++ drive ∷ []) later
+all_more drives drive set later are added others = record {
+  each = λ other one_of. elim (is_drive other drive) [
+    | inl e ↦ subst (λ (d : DriveNo). has_drive later d ≡ true) (sym e) added
+    | inr apart ↦ others other apart ∙ elim (Contains-push_cases drives drive other one_of) [ inl before ↦ are.each other before | inr e ↦ absurd (apart (sym e)) ]
+  ];
+  only = λ other so. elim (is_drive other drive) [
+    | inl e ↦ subst (Contains (drives ++ drive ∷ [])) (sym e) (Contains-push drives drive)
+    | inr apart ↦ Contains-append_left drives (drive ∷ []) other (are.only other (sym (others other apart) ∙ so))
+  ];
+}
+
+-- where a newest table is chosen there is one
+pub has_newest : (survey : Survey) → WasChosen survey → survey.newest ≡ None → ⊥
+has_newest survey was none = by survey.newest none was.1 where
+  by : (o : Option Newest) → o ≡ None → MatchOption o (chosen.Newest was.0 ≡ chosen.Empty) (λ newest. IsEnough survey.replicas newest was.0) → ⊥
+  by None is so = cc (so)
+  by (Some newest) is so = cc (is)
+
+module _ {S : Type 0} (shelf : Ghosts S) (old new : S) (g : Geometry) (site : Site) (all : Drives) (are : AreAllOf site.drives all) where
+  few_of : {E : Type 0} (result : Result Looked E) → IsLookCounted shelf old new g site all result → MadeFew shelf old new (most_reads site)
+  few_of result counted =
+      let few = count_length (has_drive all) site.drives in
+      let larger : 1 + count_by (has_drive all) site.drives ≤ 1 + length site.drives = omega (arith, few) in
+      let product = mul-le-mul_left (765 * length site.lines) larger in
+      few_wider shelf old new ((1 + count_by (has_drive all) site.drives) * (765 * length site.lines)) (most_reads site) (omega (arith, product)) counted.few
+
+  pub peeked : {E : Type 0} (looked : Looked) (result : Result Table PeekRefusal) → IsLookedAt shelf old new g site all looked → IsLookCounted {E = E} shelf old new g site all (Ok looked) → IsPeekBy looked.survey result → IsPeeked shelf old new g site result
+  peeked looked result at counted by = record { all = all; are = are; few = few_of (Ok looked) counted; ended = inr (record { looked = looked; at = at; by = by; once = counted.once }) }
+
+  pub unpeeked : {E : Type 0} (fault : E) → IsLookCounted shelf old new g site all (Err fault) → IsPeeked shelf old new g site (Err refused.Memory)
+  unpeeked fault counted = record { all = all; are = are; few = few_of (Err fault) counted; ended = inl refl }
