@@ -24,6 +24,7 @@ use Rattle.mdv_standing.specs.Laws.{ShowsNoTable}
 use Rattle.mdv_standing.specs.Matching.{tables_of}
 use Rattle.mdv_standing.specs.Worlds.{IsWorld}
 use Rattle.mdv_standing.proofs.Holding.{all_stand, none_stand}
+use Rattle.mdv_standing.proofs.Listed.{frame_still, listed_still}
 use Rattle.mdv_survey.specs.Replica.{at_of}
 use Rattle.mdv_store.specs.Seats.{drive_of}
 use Rattle.mdv_databases.specs.Below.{Area, AreApart, Core, Database, Everywhere, Geometry, HasNoReplica, Identity, Image, IsBlank, IsImage, IsOpenedAt, IsReadyWith, Key, KeptOutside, Log, Opened, Spells, Table, Tale, log_of, restarted, site_area, site_of, spots_of}
@@ -112,6 +113,7 @@ module _ (g : Geometry) (area : Area) (elsewhere : IsElsewhere g area) where
       reached = world.reached;
       matches = world.matches;
       shows = shows_rest (Spells g) (site_of g key) identity (tables_of log.family) w.family w.places old new site_same world.shows;
+      listed = listed_still (Spells g) (site_of g key) identity log w old new (frame_still (Spells g) (site_of g key) identity old new site_same) world.listed;
     }
 
   back : (old new : Image) → IsSameOutside area old new → IsSameOutside area new old

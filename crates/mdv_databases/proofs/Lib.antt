@@ -7,3 +7,4 @@ pub mod Creating
 pub mod Telling
 pub mod Nothing
 pub mod Meeting
+pub mod Finding

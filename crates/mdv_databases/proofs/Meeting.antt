@@ -53,7 +53,7 @@ module _ (site : Site) (up : ℕ → Bool) where
   most_spots places most =
       lt-ltb (length (map spot places)) (2 * count_by (is_there up) (map spot places)) (omega (arith, most, spots_counted places, length-map places spot))
 
-opens : (head : Head) (slot : Slot) (mark : Mark) (bytes : ℕ) → gate_of head slot ≡ Open mark bytes → shows head ≡ true
+pub opens : (head : Head) (slot : Slot) (mark : Mark) (bytes : ℕ) → gate_of head slot ≡ Open mark bytes → shows head ≡ true
 opens head First mark bytes e = or_left (is_open head.first) (is_open head.second) (ap is_open e)
 opens head Second mark bytes e = or_right (is_open head.first) (is_open head.second) (ap is_open e)
 
@@ -66,29 +66,31 @@ one_written (v ∷ vs) firm = elim (or_cases v.is_written (list_any (λ (w : Ver
 ]
 
 module _ (g : Geometry) (site : Site) (identity : Identity) (log : Log) (w : Core) (image : Image) (world : IsWorld (Spells g) site identity log w image) where
-  -- a replica that holds a table is found, and shows one
-  record IsShownAt (p : Spot) : Type 0 where
+  -- a replica that holds a table is found, and shows it
+  record IsShownAt (p : Spot) (i : ℕ) : Type 0 where
     at : IsOwnAt (Spells g) site identity image p
-    shown : shows at.head ≡ true
+    slot : Slot
+    bytes : ℕ
+    gate : gate_of at.head slot ≡ Open (table_at w.family i).mark bytes
 
   on_drive : (p : Spot) (at : IsOwnAt (Spells g) site identity image p) (up : ℕ → Bool) → up p.drive.0 ≡ true → up at.line.at.drive.0 ≡ true
   on_drive p at up is = subst (λ (q : Spot). up q.drive.0 ≡ true) at.spot is
 
-  shown_at : (p : Spot) (i : ℕ) → p.mediator ≡ false → (place_at w.places p).holds ≡ true → (place_at w.places p).newest ≡ Some i → IsShownAt p
+  shown_at : (p : Spot) (i : ℕ) → p.mediator ≡ false → (place_at w.places p).holds ≡ true → (place_at w.places p).newest ≡ Some i → IsShownAt p i
   shown_at p i place holds is =
       let o = world.shows.only p place holds in
       let with = world.shows.each o.line o.number o.first o.head o.own in
       let here : (place_at w.places (spot_on o.line o.first.blocks o.number)).newest ≡ Some i = subst (λ (q : Spot). (place_at w.places q).newest ≡ Some i) o.spot is in
       let n : HasNumber (Spells g) (tables_of log.family) w.family (place_on o.line o.first.blocks o.first.count o.number) (image o.line.at.drive.0) o.head i =
       subst (λ (x : Option ℕ). NewestIs (Spells g) (tables_of log.family) w.family (place_on o.line o.first.blocks o.first.count o.number) (image o.line.at.drive.0) o.head x) here with.newest in
-      record { at = o; shown = opens o.head n.slot (table_at w.family i).mark n.is.shows.bytes n.is.shows.gate }
+      record { at = o; slot = n.slot; bytes = n.is.shows.bytes; gate = n.is.shows.gate }
 
   -- The firm table's version is one that a boot may find.
   module _ (f : ℕ) (firm : w.firm ≡ Some f) where
     known : f < length w.family
     known = (standing site w world.reached).descent.known f firm
 
-    firm_found : MayBeFound log.family (version_at log.family f)
+    pub firm_found : MayBeFound log.family (version_at log.family f)
     firm_found = (
       version_has log.family f (in_log site log w world.reached world.matches f known),
       all_that (λ x. x.is_written ≡ true → IsBelow (version_at log.family f).mark x.mark → ⊥) log.family not_above,
@@ -111,6 +113,18 @@ module _ (g : Geometry) (site : Site) (identity : Identity) (log : Log) (w : Cor
             number_is : (n m : ℕ) → n ≤ m → f ≤ n → m ≡ f → n ≡ f
             number_is n m le ge same = omega (arith, le, ge, same)
 
+    -- a replica on such a drive that shows the firm table or a greater one
+    pub record Meets (up : ℕ → Bool) : Type 0 where
+      pub replica : Replica
+      pub found : IsFoundIn g site image replica
+      pub on : up replica.line.at.drive.0 ≡ true
+      pub number : ℕ
+      pub above : f ≤ number
+      pub known : number < length w.family
+      pub slot : Slot
+      pub bytes : ℕ
+      pub gate : gate_of replica.head slot ≡ Open (table_at w.family number).mark bytes
+
     -- of the places that took it one is on such a drive
     module _ (places : List Place) (lists : (version_at log.family f).table.plan.lists ≡ One places) (up : ℕ → Bool) (most : length places < 2 * count_by (λ (place : Place). is_on up (slice_at site.lines place.slice)) places) where
       its_lists : (table_at w.family f).lists ≡ lists_of_spots site (One places)
@@ -119,22 +133,29 @@ module _ (g : Geometry) (site : Site) (identity : Identity) (log : Log) (w : Cor
       read : covers (is_majority (is_there up)) (table_at w.family f).lists ≡ true
       read = subst (λ (l : SpotLists). covers (is_majority (is_there up)) l ≡ true) (sym its_lists) (and_from (is_majority (is_there up) (map (spot site up) places)) true (most_spots site up places most) refl)
 
-      pub meets : (r : Replica) × IsFoundIn g site image r × (up r.line.at.drive.0 ≡ true) × (shows r.head ≡ true)
+      pub meets : Meets up
       meets =
           let t = table_at w.family f in
-          let held = (standing site w world.reached).held f firm world.matches.there in
+          let stands = standing site w world.reached in
+          let held = stands.held f firm world.matches.there in
           let p = writes_meet_reads t t held.0 (is_there up) (λ q. false) (lists_are_shared t.lists) (λ half none. none) held.1 (enough (is_there up) t (λ q. false) read) in
           let place = and_parts (not p.0.mediator) (up p.0.drive.0) p.2 in
           let has = held.2 p.0 p.1 in
-          let one = shown_at p.0 has.table (not-true p.0.mediator place.0) has.formed has.shows in (
-            record { line = one.at.line; number = one.at.number; first = one.at.first; head = one.at.head },
-            one.at.own.found,
-            on_drive p.0 one.at up place.1,
-            one.shown,
-          )
+          let one = shown_at p.0 has.table (not-true p.0.mediator place.0) has.formed has.shows in
+          record {
+            replica = record { line = one.at.line; number = one.at.number; first = one.at.first; head = one.at.head };
+            found = one.at.own.found;
+            on = on_drive p.0 one.at up place.1;
+            number = has.table;
+            above = has.above;
+            known = stands.family.shown p.0 has.table has.shows;
+            slot = one.slot;
+            bytes = one.bytes;
+            gate = one.gate;
+          }
 
   -- where a write was answered, there is a firm table
-  firm_some : is_firm log ≡ true → (f : ℕ) × (w.firm ≡ Some f)
+  pub firm_some : is_firm log ≡ true → (f : ℕ) × (w.firm ≡ Some f)
   firm_some firm =
       let v = one_written log.family firm in
       let i = numbered site log w world.reached world.matches v.0 v.1 in
@@ -153,4 +174,5 @@ databases_meet g all key places up t stand firm lists most = of_one (current_of 
         let has = (stand.worlds (last t) (last_image t)).worlds d (current_in key all d is) in
         let world = subst (λ (k : Key). IsWorld (Spells g) (site_of g k) d.identity d.log has.0 (last t)) (current_key key all d is) has.1 in
         let f = firm_some g (site_of g key) d.identity d.log has.0 (last t) world firm in
-        meets g (site_of g key) d.identity d.log has.0 (last t) world f.0 f.1 places (lists (version_at d.log.family f.0) (firm_found g (site_of g key) d.identity d.log has.0 (last t) world f.0 f.1)) up most
+        let one = meets g (site_of g key) d.identity d.log has.0 (last t) world f.0 f.1 places (lists (version_at d.log.family f.0) (firm_found g (site_of g key) d.identity d.log has.0 (last t) world f.0 f.1)) up most in
+        (one.replica, one.found, one.on, opens one.replica.head one.slot (table_at has.0.family one.number).mark one.bytes one.gate)

@@ -1,5 +1,5 @@
 -- A deed is told: the worlds of a log are those of the log behind it.
-use Rattle.std.proofs.Common.{◌≡◌, List, [], ◌∷◌, Contains, sym, subst}
+use Rattle.std.proofs.Common.{◌≡◌, ⊎_elim, inl, inr, List, [], ◌∷◌, Contains, sym, subst}
 use Rattle.std.proofs.lemmas.List.Elements.{All-contains}
 use Rattle.mdv_standing.specs.Matching.{Matches}
 use Rattle.mdv_standing.specs.Worlds.{IsWorld}
@@ -33,7 +33,7 @@ module _ (which before : List Change) where
   }
 
   world_told : (g : Geometry) (site : Site) (identity : Identity) (log : Log) (w : Core) (image : Image) → IsWorld (Spells g) site identity log w image → IsWorld (Spells g) site identity (log_after log told) w image
-  world_told g site identity log w image is = record { reached = is.reached; matches = matches_told site log w is.matches; shows = is.shows }
+  world_told g site identity log w image is = record { reached = is.reached; matches = matches_told site log w is.matches; shows = is.shows; listed = ⊎_elim (λ have. inl (λ v place one_of listed. have v place one_of listed)) (λ none. inr none) is.listed }
 
   module _ (g : Geometry) (all : List Database) (key : Key) (m : Tale) where
     pub told_stand : (identity : Identity) → Stand g all m → IsCurrentOf all key identity → MayHappen g (log_of all key) told → Stand g (with_event key told all) m

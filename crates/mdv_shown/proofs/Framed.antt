@@ -20,7 +20,7 @@ module _ {Table : Type 0} (Spells : List ℕ → Table → Type 0) (site : Site)
       same line.at.drive.0 block (any_of (λ (l : SliceLine). range l.at.drive.0 (l.at.start + 16) (l.at.blocks - 16) line.at.drive.0 block) site.lines line one_of
       (range_has line.at.drive.0 (line.at.start + 16) (line.at.blocks - 16) block from (omega (arith, from, to))))
 
-  found_same : (line : SliceLine) (k : ℕ) (first : Master) (head : Head) → IsFound Spells site line k (old line.at.drive.0) first head → IsFound Spells site line k (new line.at.drive.0) first head
+  pub found_same : (line : SliceLine) (k : ℕ) (first : Master) (head : Head) → IsFound Spells site line k (old line.at.drive.0) first head → IsFound Spells site line k (new line.at.drive.0) first head
   found_same line k first head is =
       let within = is.within in
       found_kept Spells site line (old line.at.drive.0) (new line.at.drive.0) first k head (λ block from to. line_same line is.one_of block from (omega (arith, to, within))) is

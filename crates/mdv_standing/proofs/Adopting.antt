@@ -1,5 +1,5 @@
 -- What a boot's choice, claims and slots do to the worlds and the log of the database that it adopts.
-use Rattle.std.proofs.Common.{◌≡◌, inl, inr, ℕ, ◌+◌, ◌<◌, ◌^◌, ◌&&◌, Bool, true, List, [], ◌∷◌, ◌++◌, refl, sym, ◌∙◌, ap, subst, Contains, Option, None, Some, arith}
+use Rattle.std.proofs.Common.{◌≡◌, inl, inr, ⊎_elim, ℕ, ◌+◌, ◌<◌, ◌^◌, ◌&&◌, Bool, true, List, [], ◌∷◌, ◌++◌, refl, sym, ◌∙◌, ap, subst, Contains, Option, None, Some, arith}
 use Rattle.std.proofs.lemmas.Bool.{and_from, lt-ltb, or_right}
 use Rattle.std.specs.List.{filter_map}
 use Rattle.std.specs.Prelude.{nat_lt, reverse}
@@ -13,12 +13,15 @@ use Rattle.mdv_shown.specs.Steps.{claim_at}
 use Rattle.mdv_shown.specs.Worlds.{IsClaimable}
 use Rattle.mdv_shown.proofs.Choice.{chosen_voted, enough, greatest_is}
 use Rattle.mdv_shown.proofs.Worlds.{claim_ends, claim_goes}
-use Rattle.mdv_standing.specs.Below.{IsBelow, Identity, Mark, Geometry, SliceLine, Master, Head, Slot, Seen, HaveRead, IsChosen, greatest_seen, spots_seen, Site, place_on, spot_on, Claims, MayClaim, Image, Core, Stage, Claiming, Claimed, Slotted, LeftClosed, Log, MayHappen, Version, WritesLog, log_after, Table, FamilyTable, Spot, SpotLists, covers, is_claimed, is_in, is_majority, is_named, is_none, is_read, knows_above, no_table, place_at, table_at, Shows}
+use Rattle.mdv_table.specs.Plan.{places_of}
+use Rattle.mdv_standing.specs.Below.{IsBelow, Identity, Mark, Geometry, SliceLine, Master, Head, Place, Slot, Seen, HaveRead, IsChosen, greatest_seen, spot_seen, spots_seen, Site, place_on, spot_on, Claims, MayClaim, Image, Core, Stage, Claiming, Claimed, Slotted, LeftClosed, Log, MayHappen, Version, WritesLog, log_after, Table, FamilyTable, Spot, SpotLists, covers, is_claimed, is_in, is_majority, is_named, is_none, is_read, knows_above, no_table, place_at, table_at, Shows}
+use Rattle.mdv_standing.specs.Listed.{HasPlace, HavePlaces, IsUnshown}
 use Rattle.mdv_standing.specs.Matching.{IsVersionAt, by_majority_of, is_set, lists_of, tables_of, version_at}
 use Rattle.mdv_standing.specs.Worlds.{IsWorld, Turned, IsNoneOr, HasClaimed, MayBeClaimed, not_yet, claimed as has_claimed, IsTaking}
 use Rattle.mdv_standing.specs.Adopting.{IsFoundVersion, IsClaim, IsBeginning, again, drawn}
 use Rattle.mdv_standing.proofs.Versions.{version_has}
 use Rattle.mdv_standing.proofs.Reaching.{reached_more, standing}
+use Rattle.mdv_standing.proofs.Listed.{claim_still, own_found, past_reading, places_still}
 use Rattle.mdv_standing.proofs.Beginning.{LeadsBy, begun_taking, begun_world, none_in}
 use Rattle.mdv_standing.proofs.Voting.{all_that, below, boots, in_log, lists_are, not_older, version_is}
 use Rattle.mdv_standing.proofs.Following.{Follows, matches_follow, one_more, since_put}
@@ -54,6 +57,8 @@ module _ (Spells : List ℕ → Table → Type 0) (site : Site) (identity : Iden
           table = i;
           known = known;
           voted = voted.voted;
+          place = spot_seen s;
+          shown = record { holds = (world.shows.each s.line s.number s.first s.head (r.own s c.one_of)).holds; newest = voted.newest };
           marked = voted.marked;
           quorum = enough (is_in (spots_seen seen)) t (knows_above w.family w.places t)
               (subst (λ (l : SpotLists). covers (is_majority (is_in (spots_seen seen))) l ≡ true) (sym (lists_are site log w world.reached world.matches i v known has voted.marked)) most);
@@ -146,6 +151,19 @@ module _ (Spells : List ℕ → Table → Type 0) (site : Site) (identity : Iden
         })
   ]
 
+  -- the boot read a place that shows a table, or has claimed
+  past : IsUnshown w → ⊥
+  past none = elim c.known [
+    | not_yet empty a ↦ none.none a.place a.table a.shown
+    | has_claimed h ↦ past_reading w (Claiming h.table h.next h.claimed) h.stage (λ read same. cc (same)) none
+  ]
+
+  listed : (new : Image) → MayClaim (place_on line first.blocks first.count k) number old new → HavePlaces Spells site identity log new
+  listed new change =
+      places_still Spells site identity log old new
+      (claim_still Spells site identity old new c.site_is line k first head (own_found Spells site identity line k old first head c.own) number c.small change)
+      (⊎_elim (λ have. have) (λ none. absurd (past none)) c.world.listed)
+
   fewer : (x : Core) → HasClaimed v.mark number (p ∷ ok) x → HasClaimed v.mark number ok x
   fewer x h = record {
     table = h.table;
@@ -160,12 +178,13 @@ module _ (Spells : List ℕ → Table → Type 0) (site : Site) (identity : Iden
     within = λ q e. h.within q (or_right (same_spot p q) (is_in ok q) e);
   }
 
-  module _ (new : Image) (shows : Shows Spells site identity (tables_of log.family) (happens w (Claimed p)) new) where
+  module _ (new : Image) (change : MayClaim (place_on line first.blocks first.count k) number old new) (shows : Shows Spells site identity (tables_of log.family) (happens w (Claimed p)) new) where
     world_claimed : IsWorld Spells site identity log (happens w (Claimed p)) new
     world_claimed = record {
       reached = reached_more site w (Claimed p ∷ []) c.world.reached (claim_is.claimable.fits, tt);
       matches = matches_follow site log w (happens w (Claimed p)) claim_is.follows c.world.matches;
       shows = shows;
+      listed = inl (listed new change);
     }
 
     pub claim_taken : Turned Spells site identity log w new (λ es. es ≡ Claimed p ∷ []) (MayBeClaimed v.mark number (p ∷ ok))
@@ -174,21 +193,22 @@ module _ (Spells : List ℕ → Table → Type 0) (site : Site) (identity : Iden
     claim_took : Turned Spells site identity log w new (IsNoneOr (Claimed p)) (MayBeClaimed v.mark number ok)
     claim_took = record { events = Claimed p ∷ []; are = inr refl; may = (claim_is.claimable.fits, tt); world = world_claimed; known = has_claimed (fewer (happens w (Claimed p)) claim_is.known) }
 
-  claim_untaken : (new : Image) → Shows Spells site identity (tables_of log.family) w new → Turned Spells site identity log w new (IsNoneOr (Claimed p)) (MayBeClaimed v.mark number ok)
-  claim_untaken new shows = record { events = []; are = inl refl; may = tt; world = record { reached = c.world.reached; matches = c.world.matches; shows = shows }; known = c.known }
+  claim_untaken : (new : Image) → MayClaim (place_on line first.blocks first.count k) number old new → Shows Spells site identity (tables_of log.family) w new
+      → Turned Spells site identity log w new (IsNoneOr (Claimed p)) (MayBeClaimed v.mark number ok)
+  claim_untaken new change shows = record { events = []; are = inl refl; may = tt; world = record { reached = c.world.reached; matches = c.world.matches; shows = shows; listed = inl (listed new change) }; known = c.known }
 
   pub claiming : (new : Image) → MayClaim (place_on line first.blocks first.count k) number old new → Turned Spells site identity log w new (IsNoneOr (Claimed p)) (MayBeClaimed v.mark number ok)
   claiming new change =
       let is = claim_is.claimable in
       elim (claim_goes Spells site c.site_is identity (tables_of log.family) w line k first head old new c.own c.world.shows number is.small is.fits is.number_is change) [
-        | inl same ↦ claim_untaken new same
-        | inr took ↦ claim_took new took
+        | inl same ↦ claim_untaken new change same
+        | inr took ↦ claim_took new change took
       ]
 
   pub claim_answered : (new : Image) → Claims (place_on line first.blocks first.count k) number old new → Turned Spells site identity log w new (λ es. es ≡ Claimed p ∷ []) (MayBeClaimed v.mark number (p ∷ ok))
   claim_answered new claims =
       let is = claim_is.claimable in
-      claim_taken new (claim_ends Spells site c.site_is identity (tables_of log.family) w line k first head old new c.own c.world.shows number is.small is.fits is.number_is claims)
+      claim_taken new (inr claims) (claim_ends Spells site c.site_is identity (tables_of log.family) w line k first head old new c.own c.world.shows number is.small is.fits is.number_is claims)
 
 -- The adopted version begins to be written anew.
 module _ (Spells : List ℕ → Table → Type 0) (site : Site) (identity : Identity) (log : Log) (w : Core) (image : Image) (p : Spot) (v : Version) (number : ℕ) (ok : List Spot)
@@ -250,11 +270,17 @@ module _ (Spells : List ℕ → Table → Type 0) (site : Site) (identity : Iden
   kind : next.by_majority ≡ by_majority_of site v
   kind = chose.kind ∙ ap (λ (s : Bool). s && is_none next.lists.mediators) b.world.matches.kind ∙ ap (λ (l : SpotLists). is_set site.key && is_none l.mediators) lists
 
+  have : HavePlaces Spells site identity log image
+  have = ⊎_elim (λ places. places) (λ none. absurd (past_reading w (Claiming chose.table chose.next chose.claimed) chose.stage (λ read same. cc (same)) none)) b.world.listed
+
+  its : (place : Place) → Contains (places_of v.table.plan.lists) place → HasPlace Spells site identity image place
+  its place listed = have v place b.one_of listed
+
   pub begins : Turned Spells site identity written w image (λ es. es ≡ Slotted p LeftClosed ∷ []) (IsTaking (by_majority_of site v) (drawn number) [])
   begins = record {
     events = Slotted p LeftClosed ∷ [];
     are = refl;
     may = (fits, tt);
-    world = begun_world Spells site identity log w image b.world next (again number v) next_is refl p (Some chose.table) leads fits;
+    world = begun_world Spells site identity log w image b.world next (again number v) next_is refl p (Some chose.table) leads fits have its;
     known = begun_taking Spells site identity log w image b.world next (again number v) next_is refl p (Some chose.table) leads fits (by_majority_of site v) kind;
   }

@@ -1,12 +1,15 @@
 -- A table begins to be written: it joins the family of a world and the log.
-use Rattle.std.proofs.Common.{◌≡◌, ℕ, ◌+◌, ◌-◌, ◌<◌, Bool, true, false, List, [], ◌∷◌, length, sym, ◌∙◌, ap, subst, Option, arith}
+use Rattle.std.proofs.Common.{◌≡◌, inl, ℕ, ◌+◌, ◌-◌, ◌<◌, Bool, true, false, List, [], ◌∷◌, length, sym, ◌∙◌, ap, subst, Contains, Option, arith}
 use Rattle.std.proofs.lemmas.Bool.{false≢true}
 use Rattle.mdv_quorum.specs.May.{may}
 use Rattle.mdv_quorum.specs.World.{happens, settled, with_table}
 use Rattle.mdv_shown.proofs.Worlds.{begun_shows}
-use Rattle.mdv_standing.specs.Below.{Core, FamilyTable, Identity, Image, LeftClosed, Log, Shows, Site, Slotted, Spot, Table, Version, Writing, is_in, is_written, last_table, table_at}
+use Rattle.mdv_table.specs.Plan.{places_of}
+use Rattle.mdv_standing.specs.Below.{Core, FamilyTable, Identity, Image, LeftClosed, Log, Place, Shows, Site, Slotted, Spot, Table, Version, Writing, is_in, is_written, last_table, table_at}
+use Rattle.mdv_standing.specs.Listed.{HasPlace, HavePlaces}
 use Rattle.mdv_standing.specs.Matching.{IsVersionAt, Matches, tables_of}
 use Rattle.mdv_standing.specs.Worlds.{IsTaking, IsWorld}
+use Rattle.mdv_standing.proofs.Listed.{places_more}
 use Rattle.mdv_standing.proofs.Versions.{version_older}
 use Rattle.mdv_standing.proofs.Reaching.{reached_more, standing, tables_agree}
 use Rattle.mdv_standing.proofs.Following.{Follows, longer_family, matches_follow, matches_longer, settled_family, settled_follows, settled_stage, table_newest}
@@ -56,11 +59,12 @@ module _ (Spells : List ℕ → Table → Type 0) (site : Site) (identity : Iden
       (tables_agree Spells site identity (tables_of log.family) (tables_of written.family) w image f
       (λ i lt. ap (λ (x : Version). x.table) (sym (version_older v log.family i (subst (λ (n : ℕ). i < n) world.matches.as_many lt)))) world.shows)
 
-  pub begun_world : IsWorld Spells site identity written (happens w (Slotted p LeftClosed)) image
-  begun_world = record {
+  pub begun_world : HavePlaces Spells site identity log image → ((place : Place) → Contains (places_of v.table.plan.lists) place → HasPlace Spells site identity image place) → IsWorld Spells site identity written (happens w (Slotted p LeftClosed)) image
+  begun_world have its = record {
     reached = reached_more site w (Slotted p LeftClosed ∷ []) world.reached (fits, tt);
     matches = subst (Matches site written) (sym leads) (matches_follow site written begun (first_write begun) begun_follows begun_matches);
     shows = begun_image;
+    listed = inl (places_more Spells site identity log image v have its);
   }
 
   pub begun_taking : (by_majority : Bool) → next.by_majority ≡ by_majority → IsTaking by_majority v.mark [] (happens w (Slotted p LeftClosed))

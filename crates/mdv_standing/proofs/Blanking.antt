@@ -1,6 +1,6 @@
 -- Places are blanked before a creation formats them.
 use Rattle.std.proofs.Common.{◌≡◌, ◌⊎◌, inl, inr, ⊎_elim, ℕ, ◌+◌, ◌*◌, ◌<◌, ◌≤◌, List, [], refl, sym, ◌∙◌, ap, subst, Contains, Option, None, Some, arith}
-use Rattle.std.proofs.lemmas.Bool.{cases_Bool, cases_eq, false_from_ne_true}
+use Rattle.std.proofs.lemmas.Bool.{cases_Bool, cases_eq}
 use Rattle.mdv_name.specs.Sound.{IsSound}
 use Rattle.mdv_replica.specs.Forms.{block_of}
 use Rattle.mdv_replica.specs.Images.{IsSame, SameOutside, Wipes, blanked, formatted, untouched}
@@ -12,7 +12,7 @@ use Rattle.mdv_shown.specs.Found.{IsFound}
 use Rattle.mdv_shown.specs.Kept.{AreFoundOrMade}
 use Rattle.mdv_shown.specs.Site.{line_area}
 use Rattle.mdv_shown.specs.Sites.{site_of}
-use Rattle.mdv_shown.proofs.Elsewhere.{found_kept, places_step, range_has}
+use Rattle.mdv_shown.proofs.Elsewhere.{found_kept, places_step}
 use Rattle.mdv_shown.proofs.Formatting.{law_blank}
 use Rattle.mdv_shown.proofs.Made.{first_before, later_before}
 use Rattle.mdv_shown.proofs.Sites.{lines_apart, site_is}
@@ -25,8 +25,9 @@ use Rattle.mdv_standing.specs.Matching.{tables_of}
 use Rattle.mdv_standing.specs.Rest.{HoldsRest, IsRest, MayBeTaken}
 use Rattle.mdv_standing.proofs.Holding.{joined}
 use Rattle.mdv_standing.proofs.Lawful.{world_none}
+use Rattle.mdv_standing.proofs.Listed.{blank_still, listed_still}
 use Rattle.mdv_standing.proofs.Others.{first_formats_take, world_apart}
-use Rattle.mdv_standing.proofs.Within.{apart_or_in, format_for, format_within, wipe_within}
+use Rattle.mdv_standing.proofs.Within.{apart_or_in, format_for, format_within, line_still, wipe_within}
 
 blank_here : (at : PlaceAt) (old new : Image) → Wipes at old new → new at.drive.0 at.first ≡ block_of []
 blank_here at old new wipes = ap (new at.drive.0) (omega arith) ∙ wipes.here 0 (omega arith)
@@ -80,12 +81,6 @@ module _ (line : SliceLine) (blocks from count : ℕ) (old new : Image) where
       format_outside line blocks count k number master old new change line.at.drive.0 (line.at.start + (16 + j * blocks))
       (behind_range line.at.drive.0 (line.at.start + (16 + k * blocks)) 4 (line.at.start + (16 + j * blocks)) (let step = places_step k j blocks (omega (arith, front, up)) in omega (arith, step, least)))
       ∙ blank j up lt fits
-
--- what is done on another slice leaves the blocks of this one
-pub line_still : (other line : SliceLine) → AreApart (line_area other) (line_area line) → (old new : Image) → SameOutside (line_area other) old new
-    → (block : ℕ) → line.at.start ≤ block → block < line.at.start + line.at.blocks → new line.at.drive.0 block ≡ old line.at.drive.0 block
-line_still other line apart old new outside block from to =
-    outside line.at.drive.0 block (false_from_ne_true (line_area other line.at.drive.0 block) (λ has. apart line.at.drive.0 block has (range_has line.at.drive.0 line.at.start line.at.blocks block from to)))
 
 pub blank_more : (line : SliceLine) (blocks count k : ℕ) (old new : Image) → Wipes (place_on line blocks count k) old new → AreBlank line blocks (k + 1) count old → AreBlank line blocks k count new
 blank_more line blocks count k old new wipes blank j up lt fits = elim (cases_eq j k) [
@@ -170,7 +165,7 @@ module _ (read : List ℕ → Option Table) (g : Geometry) (sound : IsSound g) (
   -- a slice without a first master shows nothing
   blank_world : FirstIs (site_of g key) old line None → FirstIs (site_of g key) new line None → SameOutside (line_area line) old new → (d : Database) → HasWorld Spells g old d → HasWorld Spells g new d
   blank_world none still outside d w = elim (where_looked d.key) [
-    | inl looks ↦ (w.0, record { reached = w.1.reached; matches = w.1.matches; shows = law_blank Table read (site_of g d.key) d.identity (tables_of d.log.family) w.0 old new line (site_is g d.key sound) looks none still outside w.1.shows })
+    | inl looks ↦ (w.0, record { reached = w.1.reached; matches = w.1.matches; shows = law_blank Table read (site_of g d.key) d.identity (tables_of d.log.family) w.0 old new line (site_is g d.key sound) looks none still outside w.1.shows; listed = listed_still Spells (site_of g d.key) d.identity d.log w.0 old new (blank_still Spells (site_of g d.key) d.identity old new (site_is g d.key sound) line looks none outside) w.1.listed })
     | inr apart ↦ (w.0, world_apart Spells g d.key d.identity d.log w.0 old new line apart outside w.1)
   ]
 

@@ -1,5 +1,5 @@
 -- What the beginning of a change does to the worlds and the log of a database.
-use Rattle.std.proofs.Common.{◌≡◌, ◌⊎◌, suc, inl, inr, ℕ, ◌+◌, ◌<◌, ◌^◌, ◌==◌, ◌&&◌, ◌||◌, Bool, true, false, List, [], ◌∷◌, ◌++◌, refl, sym, ◌∙◌, ap, subst, map, cond, Contains, Option, None, Some, append-nil, arith}
+use Rattle.std.proofs.Common.{◌≡◌, ◌⊎◌, ⊎_elim, suc, inl, inr, ℕ, ◌+◌, ◌<◌, ◌^◌, ◌==◌, ◌&&◌, ◌||◌, Bool, true, false, List, [], ◌∷◌, ◌++◌, refl, sym, ◌∙◌, ap, subst, map, cond, Contains, Option, None, Some, append-nil, arith}
 use Rattle.std.proofs.lemmas.Bool.{and_from, cases_lt, cond-false, cond-true, eq-eqb, false_from_ne_true, eqb-true, lt-ltb, or_left, or_right}
 use Rattle.std.proofs.lemmas.List.{reverse-append}
 use Rattle.std.proofs.lemmas.List.Elements.{Contains-push_cases, filter_map-append}
@@ -11,12 +11,15 @@ use Rattle.mdv_quorum.specs.May.{all_second, is_distinct, is_lists, is_one_more,
 use Rattle.mdv_quorum.specs.World.{changed, happens, lists_at}
 use Rattle.mdv_shown.proofs.Slots.{never_below}
 use Rattle.mdv_store_law.specs.Log.{IsMade, with_asked}
-use Rattle.mdv_standing.specs.Below.{Change, Core, FamilyTable, Geometry, Identity, Image, IsBelow, LeftClosed, Lists, Log, Mark, MayHappen, NextLists, One, Place, Site, Slotted, Spot, SpotLists, Stage, Table, Version, WritesLog, is_named, is_none, last_number, last_table, log_after, place_at, slice_at, table_at}
+use Rattle.mdv_table.specs.Plan.{places_of}
+use Rattle.mdv_standing.specs.Below.{Change, Core, FamilyTable, Geometry, Identity, Image, IsBelow, LeftClosed, Lists, Log, Mark, MayHappen, NextLists, One, Place, Ready, Site, Slotted, Spot, SpotLists, Stage, Table, Version, WritesLog, is_named, is_none, last_number, last_table, log_after, place_at, slice_at, table_at}
+use Rattle.mdv_standing.specs.Listed.{HasPlace, HavePlaces}
 use Rattle.mdv_standing.specs.Matching.{IsVersionAt, Matches, Reached, lists_of, spot_in, spots_of, version_at}
 use Rattle.mdv_standing.specs.Worlds.{IsTaking, IsWorld, Turned}
 use Rattle.mdv_standing.specs.Committing.{IsCommit, next_mark}
 use Rattle.mdv_standing.proofs.Reaching.{reached_more, standing}
 use Rattle.mdv_standing.proofs.Voting.{all_that, numbered}
+use Rattle.mdv_standing.proofs.Listed.{past_reading}
 use Rattle.mdv_standing.proofs.Beginning.{LeadsBy, begun_taking, begun_world}
 use Rattle.mdv_standing.proofs.Taking.{last_lists, last_version, some_table}
 
@@ -60,6 +63,12 @@ module _ (Spells : List ℕ → Table → Type 0) (site : Site) (identity : Iden
     (b : IsCommit Spells site identity log w image p v table took) where
   m : Matches site log w
   m = b.world.matches
+
+  have : HavePlaces Spells site identity log image
+  have = ⊎_elim (λ places. places) (λ none. absurd (past_reading w (Ready None) b.known.stage (λ read same. cc (same)) none)) b.world.listed
+
+  its : (place : Place) → Contains (places_of table.plan.lists) place → HasPlace Spells site identity image place
+  its place listed = have v place (subst (λ (l : List Version). Contains l v) (sym b.newest) (0, omega arith, refl)) (subst (λ (l : Lists). Contains (places_of l) place) b.same_lists listed)
 
   abbrev lists : SpotLists
   lists = lists_of site v
@@ -202,6 +211,7 @@ module _ (Spells : List ℕ → Table → Type 0) (site : Site) (identity : Iden
       reached = subst (Reached site) lists_by (reached_more site w (NextLists lists ∷ []) b.world.reached (lists_fit, tt));
       matches = listed_matches;
       shows = record { each = b.world.shows.each; only = b.world.shows.only; seats = b.world.shows.seats };
+      listed = inl have;
     }
 
     slot_fits : may listed (Slotted p LeftClosed) ≡ true
@@ -222,7 +232,7 @@ module _ (Spells : List ℕ → Table → Type 0) (site : Site) (identity : Iden
           are = refl;
           may = (lists_fit, (subst (λ (x : Core). may x (Slotted p LeftClosed) ≡ true) (sym lists_by) slot_fits, tt));
           world = subst (λ (x : Core). IsWorld Spells site identity (log_after log (WritesLog (next_mark v) asked v.changes table)) (happens x (Slotted p LeftClosed)) image) (sym lists_by)
-              (begun_world Spells site identity log listed image world_listed next version next_is refl p None leads slot_fits);
+              (begun_world Spells site identity log listed image world_listed next version next_is refl p None leads slot_fits have its);
           known = subst (λ (x : Core). IsTaking false (next_mark v) [] (happens x (Slotted p LeftClosed))) (sym lists_by)
               (begun_taking Spells site identity log listed image world_listed next version next_is refl p None leads slot_fits false majority);
         }

@@ -24,13 +24,14 @@ use Rattle.mdv_standing.specs.Below.{Core, Creating, DriveNo, FamilyTable, First
 use Rattle.mdv_standing.specs.Laws.{HasNone}
 use Rattle.mdv_standing.specs.Matching.{IsVersionAt, Matches, is_set, spots_of, tables_of}
 use Rattle.mdv_standing.specs.Worlds.{IsNoneOr, IsTaking, IsWorld, Turned}
-use Rattle.mdv_standing.specs.Creating.{IsCreating, IsCreation, IsFormatting, MayBeFormatted, first_mark, issued_log}
+use Rattle.mdv_standing.specs.Creating.{AreFormed, IsCreating, IsCreation, IsFormatting, MayBeFormatted, first_mark, issued_log}
 use Rattle.mdv_standing.proofs.Reaching.{reached_more, standing}
 use Rattle.mdv_standing.proofs.Following.{Follows, matches_follow, since_put}
 use Rattle.mdv_standing.proofs.Beginning.{LeadsBy, begun_taking, begun_world}
 use Rattle.mdv_standing.proofs.Looking.{clean_one}
 use Rattle.mdv_standing.proofs.Committing.{may_list_again}
 use Rattle.mdv_standing.proofs.Lawful.{matches_empty, world_none}
+use Rattle.mdv_standing.proofs.Listed.{places_none}
 
 -- what an image shows of places is told by what is looked up there
 pub record IsSameAt (a b : SpotState) : Type 0 where
@@ -232,6 +233,7 @@ module _ (Spells : List ℕ → Table → Type 0) (site : Site) (identity : Iden
     reached = reached_more site w (Formatted p ∷ []) c.world.reached (fits, tt);
     matches = subst (Matches site log) (sym leads) (matches_follow site log w (formatted_place w p next) put_follows m);
     shows = subst (λ (v : Core). Shows Spells site identity (tables_of log.family) v new) (sym leads) shows;
+    listed = inl (places_none Spells site identity log new c.empty);
   }
 
   pub is_put : (new : Image) → Shows Spells site identity (tables_of log.family) (formatted_place w p next) new
@@ -243,7 +245,7 @@ module _ (Spells : List ℕ → Table → Type 0) (site : Site) (identity : Iden
   may_be_put new shows = record { events = Formatted p ∷ []; are = inr refl; may = (fits, tt); world = put_world new shows; known = inr (subst (IsCreating (spots_of site lists) (p ∷ done)) (sym leads) put_known) }
 
   pub not_put : (new : Image) → Shows Spells site identity (tables_of log.family) w new → Turned Spells site identity log w new (IsNoneOr (Formatted p)) (MayBeFormatted (spots_of site lists) p done)
-  not_put new shows = record { events = []; are = inl refl; may = tt; world = record { reached = c.world.reached; matches = m; shows = shows }; known = inl c.known }
+  not_put new shows = record { events = []; are = inl refl; may = tt; world = record { reached = c.world.reached; matches = m; shows = shows; listed = inl (places_none Spells site identity log new c.empty) }; known = inl c.known }
 
 -- a place of the slice from that one on isn't one that was formatted
 module _ (Spells : List ℕ → Table → Type 0) (site : Site) (identity : Identity) (log : Log) (w : Core) (old : Image) (line : SliceLine) (blocks count k : ℕ) (lists : Lists) (done : List Spot)
@@ -358,6 +360,7 @@ module _ (Spells : List ℕ → Table → Type 0) (site : Site) (identity : Iden
           reached = reached_more site from (NextLists spots ∷ []) world.reached (lists_fit, tt);
           matches = matches_empty site (issued_log identity) (created from spots) refl refl refl refl refl refl;
           shows = record { each = λ line k first head own. absurd (none line k first head own); only = λ p place holds. absurd (false≢true holds); seats = λ p seat holds. false≢true holds };
+          listed = inl (places_none Spells site identity (issued_log identity) image refl);
         };
         known = record {
           next = record { mark = first_mark; parent = None; change = Some 0; lists = spots; by_majority = false; plan = 0 ∷ [] };
@@ -381,7 +384,8 @@ may_write_first g identity log table issued empty none = (
 
 -- The first table begins to be written.
 module _ (Spells : List ℕ → Table → Type 0) (site : Site) (identity : Identity) (log : Log) (w : Core) (image : Image) (p : Spot) (table : Table) (done : List Spot)
-    (c : IsCreation Spells site identity log w image table.plan.lists done) (some : is_none (spots_of site table.plan.lists).first ≡ false) (has : is_in done p ≡ true) (named : is_named (spots_of site table.plan.lists) p ≡ true) where
+    (c : IsCreation Spells site identity log w image table.plan.lists done) (some : is_none (spots_of site table.plan.lists).first ≡ false) (has : is_in done p ≡ true) (named : is_named (spots_of site table.plan.lists) p ≡ true)
+    (formed : AreFormed Spells site identity table.plan.lists image) where
   abbrev first : FamilyTable
   first = c.known.next
 
@@ -406,6 +410,7 @@ module _ (Spells : List ℕ → Table → Type 0) (site : Site) (identity : Iden
       there = c.world.matches.there;
     };
     shows = c.world.shows;
+    listed = inl (places_none Spells site identity log image c.empty);
   }
 
   first_is : IsVersionAt site (λ n. None) w.changes first version
@@ -433,6 +438,6 @@ module _ (Spells : List ℕ → Table → Type 0) (site : Site) (identity : Iden
     events = Slotted p LeftClosed ∷ [];
     are = refl;
     may = (slot_fits, tt);
-    world = begun_world Spells site identity log w image world first version first_is refl p None slot_leads slot_fits;
+    world = begun_world Spells site identity log w image world first version first_is refl p None slot_leads slot_fits (places_none Spells site identity log image c.empty) formed;
     known = begun_taking Spells site identity log w image world first version first_is refl p None slot_leads slot_fits false c.known.kind;
   }

@@ -8,7 +8,8 @@ use Rattle.mdv_shown.specs.Site.{line_area}
 use Rattle.mdv_shown.proofs.Elsewhere.{found_kept, places_step}
 use Rattle.mdv_standing.specs.Below.{Everywhere, Head, Identity, Image, IsInChain, IsOwn, IsSite, Master, MayFormat, Site, SliceLine, Table, Tale, place_on}
 use Rattle.mdv_standing.specs.Forming.{IsBehind}
-use Rattle.mdv_standing.proofs.Blanking.{format_outside, line_still}
+use Rattle.mdv_standing.proofs.Blanking.{format_outside}
+use Rattle.mdv_standing.proofs.Within.{line_still}
 
 module _ (Spells : List ℕ → Table → Type 0) (site : Site) (identity : Identity) (line : SliceLine) (first : Master) (head : Head) where
   pub behind_own : (t : Tale) (k : ℕ) → IsSite site → Everywhere (λ image. IsOwn Spells site identity line k image first head) t → IsBehind Spells site t line (k + 1) first

@@ -1,6 +1,6 @@
 -- Standing over crashes, on new drives, and what a boot finds.
 use Rattle.std.proofs.Common.{◌≡◌, inl, inr, ℕ, ◌+◌, ◌<◌, ◌^◌, ◌*◌, Bool, true, false, List, [], ◌∷◌, length, refl, sym, ◌∙◌, ap, subst, map, Contains, Option, None, Some, arith}
-use Rattle.std.proofs.lemmas.Bool.{and_parts, false≢true, false_from_ne_true, le-leb, lt-ltb, ltb-true, or_cases, or_left, or_right}
+use Rattle.std.proofs.lemmas.Bool.{and_parts, cases_Bool, false≢true, false_from_ne_true, le-leb, lt-ltb, ltb-true, or_cases, or_left, or_right}
 use Rattle.std.proofs.lemmas.List.Elements.{All-contains, All-nil}
 use Rattle.std.specs.Prelude.{count_by, not}
 use Rattle.mdv_votes.specs.Quorum.{is_written_list}
@@ -18,11 +18,13 @@ use Rattle.mdv_store_law.specs.Laws.{restarted}
 use Rattle.mdv_store_law.specs.Log.{AreMade, IsLog, empty_log}
 use Rattle.mdv_store_law.proofs.Families.{extends_more, extends_written}
 use Rattle.mdv_standing.specs.Below.{Area, AreApart, Change, Core, First, Geometry, HaveRead, Head, Identity, Image, IsBelow, IsChosen, IsImage, IsSite, KeptOutside, Claimed, Lists, One, Log, Mark, Open, Place, Second, Seen, Site, Slot, Spot, SpotLists, FamilyTable, Table, Tale, Version, covers, gate_of, greatest_seen, is_in, is_majority, is_none, is_written, place_at, place_on, shows, site_area, slice_at, spot_on, spot_seen, spots_seen, start, table_at}
+use Rattle.mdv_standing.specs.Listed.{HasTable}
 use Rattle.mdv_standing.specs.Matching.{Matches, is_set, lists_of, spot_in, spots_of, tables_of, version_at}
 use Rattle.mdv_standing.specs.Worlds.{IsWorld, HasClaimed}
 use Rattle.mdv_standing.specs.Standing.{Covers, Stands}
 use Rattle.mdv_standing.specs.Laws.{FoundHolds, HasNone, ShowsNoTable}
 use Rattle.mdv_standing.specs.Adopting.{IsClaim}
+use Rattle.mdv_standing.proofs.Listed.{frame_still, listed_still, places_none}
 use Rattle.mdv_standing.proofs.Reaching.{reached_more, standing}
 use Rattle.mdv_standing.proofs.Voting.{all_that, below, not_older, numbered}
 use Rattle.mdv_standing.proofs.Following.{matches_follow}
@@ -55,6 +57,7 @@ module _ (Spells : List ℕ → Table → Type 0) (site : Site) (identity : Iden
       reached = has.1.reached;
       matches = has.1.matches;
       shows = shows_rest Spells site identity (tables_of log.family) has.0.family has.0.places old new same has.1.shows;
+      listed = listed_still Spells site identity log has.0 old new (frame_still Spells site identity old new same) has.1.listed;
     },
   )
 
@@ -72,6 +75,7 @@ module _ (Spells : List ℕ → Table → Type 0) (site : Site) (identity : Iden
       only = λ p place holds. absurd (false≢true holds);
       seats = λ p seat holds. false≢true holds;
     };
+    listed = inl (places_none Spells site identity log image empty);
   }
 
 pub crashes_stand : (Spells : List ℕ → Table → Type 0) (g : Geometry) (site : Site) (identity : Identity) (log : Log) (m : Tale) (image : Image) (told : List ℕ)
@@ -144,6 +148,12 @@ module _ (Spells : List ℕ → Table → Type 0) (site : Site) (identity : Iden
       let n : HasNumber Spells (tables_of log.family) w.family (place_on o.line o.first.blocks o.first.count o.number) (image o.line.at.drive.0) o.head i =
       subst (λ (x : Option ℕ). NewestIs Spells (tables_of log.family) w.family (place_on o.line o.first.blocks o.first.count o.number) (image o.line.at.drive.0) o.head x) here with.newest in
       false≢true (sym (none o.line o.number o.first o.head o.own) ∙ opens o.head n.slot (table_at w.family i).mark n.is.shows.bytes n.is.shows.gate)
+
+  pub nothing_shown : (p : Spot) (i : ℕ) → HasTable w p i → ⊥
+  nothing_shown p i has = elim (cases_Bool p.mediator) [
+    | inl seat ↦ world.shows.seats p seat has.holds
+    | inr place ↦ no_newest p i place has.holds has.newest
+  ]
 
   pub not_firm : (f : ℕ) → w.firm ≡ Some f → ⊥
   not_firm f e =

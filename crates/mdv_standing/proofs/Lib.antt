@@ -2,6 +2,8 @@ pub mod Versions
 pub mod Reaching
 pub mod Voting
 pub mod Following
+pub mod Within
+pub mod Listed
 pub mod Beginning
 pub mod Looking
 pub mod Adopting
@@ -10,7 +12,6 @@ pub mod Committing
 pub mod Lawful
 pub mod Creating
 pub mod Holding
-pub mod Within
 pub mod Others
 pub mod Turning
 pub mod Knowing

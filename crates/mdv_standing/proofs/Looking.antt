@@ -1,5 +1,5 @@
 -- A boot begins: it crashed, drives are back, and replicas are read.
-use Rattle.std.proofs.Common.{◌≡◌, inl, inr, ℕ, zero, suc, ◌<◌, ◌==◌, ◌&&◌, ◌||◌, Bool, true, false, List, [], ◌∷◌, ◌++◌, length, refl, sym, ◌∙◌, ap, subst, map, cond, Contains, Option, None, Some, append_assoc, append-nil, arith}
+use Rattle.std.proofs.Common.{◌≡◌, inl, inr, ⊎_elim, ℕ, zero, suc, ◌<◌, ◌==◌, ◌&&◌, ◌||◌, Bool, true, false, List, [], ◌∷◌, ◌++◌, length, refl, sym, ◌∙◌, ap, subst, map, cond, Contains, Option, None, Some, append_assoc, append-nil, arith}
 use Rattle.std.proofs.lemmas.Bool.{cases_Bool, and_from, or_left, or_right, or_parts, or_from, cond-true, cond-false, not_from_false}
 use Rattle.std.proofs.lemmas.Bool.Decides.{nat_tests}
 use Rattle.std.specs.Prelude.{not, nat_lt, slice_index_or}
@@ -10,6 +10,7 @@ use Rattle.mdv_quorum.specs.World.{crashed, without_drive}
 use Rattle.mdv_quorum.proofs.Events.{after_both, may_both}
 use Rattle.mdv_store_law.specs.Machine.{AreAll}
 use Rattle.mdv_standing.specs.Below.{Back, Core, Crash, Event, HaveRead, Identity, Image, Log, Read, Reading, Seen, Site, Spot, Table, after_all, place_at, spot_seen, spots_seen}
+use Rattle.mdv_standing.specs.Listed.{IsUnshown}
 use Rattle.mdv_standing.specs.Matching.{Matches, Reached, tables_of}
 use Rattle.mdv_standing.specs.Worlds.{IsWorld, Turned}
 use Rattle.mdv_standing.specs.Adopting.{AreOwn, IsLook, IsOfDrive}
@@ -174,6 +175,7 @@ module _ (Spells : List ℕ → Table → Type 0) (site : Site) (identity : Iden
     reached = subst (λ (v : Core). Reached site v) leads.1 (reached_more site w looks_by world.reached leads.0);
     matches = same_log;
     shows = record { each = world.shows.each; only = world.shows.only; seats = world.shows.seats };
+    listed = ⊎_elim (λ have. inl have) (λ (none : IsUnshown w). inr (record { read = spots_seen seen; stage = refl; none = λ p i has. none.none p i (record { holds = has.holds; newest = has.newest }) })) world.listed;
   }
 
   have_read : HaveRead Spells site identity (tables_of log.family) looked image seen

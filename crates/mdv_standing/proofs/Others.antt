@@ -23,11 +23,13 @@ use Rattle.mdv_shown.proofs.Sites.{lines_apart, site_is}
 use Rattle.mdv_shown.proofs.Wiped.{IsWiped, all_wiped}
 use Rattle.mdv_standing.specs.Below.{Core, Crash, FamilyTable, FirstIs, Geometry, HasFirst, Head, Identity, Image, IsFormat, IsTable, Key, Log, Mark, Master, MayClaim, MayFill, MayFormat, PlaceAt, Reading, Shows, Site, SliceLine, Slot, Spot, Stage, Table, after_all, is_in, master_on, place_at, place_on, site_area, spot_on}
 use Rattle.mdv_standing.specs.Laws.{ShowsNoTable}
+use Rattle.mdv_standing.specs.Listed.{IsUnshown}
 use Rattle.mdv_standing.specs.Matching.{Matches, tables_of}
 use Rattle.mdv_standing.specs.Others.{Anything, IsAnother, IsBeside, IsLoss}
 use Rattle.mdv_standing.specs.Worlds.{IsWorld, Turned}
 use Rattle.mdv_standing.proofs.Reaching.{reached_more}
-use Rattle.mdv_standing.proofs.Lawful.{not_firm}
+use Rattle.mdv_standing.proofs.Lawful.{not_firm, nothing_shown}
+use Rattle.mdv_standing.proofs.Listed.{AreStill, claim_still, frame_still, listed_still, slot_still}
 use Rattle.mdv_standing.proofs.Within.{apart_or_in, claim_within, fill_within, format_for, format_within, found_for}
 use Rattle.mdv_standing.proofs.Creating.{places_agree, since_wiped, wipe_each}
 
@@ -52,6 +54,7 @@ module _ (Spells : List ℕ → Table → Type 0) (g : Geometry) (key : Key) (id
     reached = world.reached;
     matches = world.matches;
     shows = shows_rest Spells site identity (tables_of log.family) w.family w.places old new (site_kept site L old new apart outside) world.shows;
+    listed = listed_still Spells site identity log w old new (frame_still Spells site identity old new (site_kept site L old new apart outside)) world.listed;
   }
 
   module _ (other : Key) (line : SliceLine) (k : ℕ) (first : Master) (head : Head) (is : IsBeside Spells g key identity other old line k first head) (world : IsWorld Spells site identity log w old) where
@@ -68,18 +71,18 @@ module _ (Spells : List ℕ → Table → Type 0) (g : Geometry) (key : Key) (id
       other = λ same. is.another (sym is.found.of_key ∙ same);
     }
 
-    stays : Shows Spells site identity (tables_of log.family) w new → IsWorld Spells site identity log w new
-    stays shows = record { reached = world.reached; matches = world.matches; shows = shows }
+    stays : AreStill Spells site identity old new → Shows Spells site identity (tables_of log.family) w new → IsWorld Spells site identity log w new
+    stays still shows = record { reached = world.reached; matches = world.matches; shows = shows; listed = listed_still Spells site identity log w old new still world.listed }
 
     pub claims_leave : (number : ℕ) → number < 2 ^ 63 → MayClaim at number old new → IsWorld Spells site identity log w new
     claims_leave number small change = elim cases [
-      | inl has ↦ stays (other_claims Spells site identity line k first head old new (as_other has) (tables_of log.family) w number small world.shows change)
+      | inl has ↦ stays (claim_still Spells site identity old new (site_is g key is.sound) line k first head (as_other has).found number small change) (other_claims Spells site identity line k first head old new (as_other has) (tables_of log.family) w number small world.shows change)
       | inr apart ↦ world_apart line apart (claim_within line k first.blocks first.count old new is.found.within is.found.located.lies.least number change) world
     ]
 
     pub slots_leave : (slot : Slot) (mark : Mark) (bytes : ℕ) (body : List (List ℕ)) → IsTable (Counts Spells) at mark bytes body → MayFill at slot mark bytes body old new → IsWorld Spells site identity log w new
     slots_leave slot mark bytes body table change = elim cases [
-      | inl has ↦ stays (other_slots Spells site identity line k first head old new (as_other has) (tables_of log.family) w slot mark bytes body table world.shows change)
+      | inl has ↦ stays (slot_still Spells site identity old new (site_is g key is.sound) line k first head (as_other has).found slot mark bytes body table change) (other_slots Spells site identity line k first head old new (as_other has) (tables_of log.family) w slot mark bytes body table world.shows change)
       | inr apart ↦ world_apart line apart (fill_within line k first.blocks first.count old new is.found.within is.found.located.lies.least slot mark bytes body table.in_slot change) world
     ]
 
@@ -132,7 +135,7 @@ module _ (Spells : List ℕ → Table → Type 0) (site : Site) (identity : Iden
       let m = world.matches in
       record {
         events = es;
-        are = inr (spots, refl);
+        are = (spots, refl);
         may = fits;
         world = record {
           reached = reached_more site w es world.reached fits;
@@ -147,10 +150,23 @@ module _ (Spells : List ℕ → Table → Type 0) (site : Site) (identity : Iden
             there = m.there;
           });
           shows = subst (λ (v : Core). Shows Spells site identity (tables_of log.family) v new) (sym leads) (cut_shows shows leads);
+          listed = inr (subst IsUnshown (sym leads) (cut_unshown leads));
         };
         known = tt;
       }
     where
+      cut_unshown : after_all w (Crash ∷ wiped_all spots) ≡ record (crashed w) { places = wipe_each w.places spots } → IsUnshown (record (crashed w) { places = wipe_each w.places spots })
+      cut_unshown leads =
+          let b : IsWiped (crashed w) (record (crashed w) { places = wipe_each w.places spots }) spots = subst (λ (v : Core). IsWiped (crashed w) v spots) leads (all_wiped (crashed w) spots) in
+          record {
+            read = [];
+            stage = refl;
+            none = λ q i has. elim (cases_Bool (is_in spots q)) [
+              | inl inside ↦ b.gone q inside has.holds
+              | inr out ↦ nothing_shown Spells site identity log w old world none q i (record { holds = sym (b.kept q out) ∙ has.holds; newest = sym (b.newest q) ∙ has.newest })
+            ];
+          }
+
       cut_shows : Shows Spells site identity (tables_of log.family) (after_all w (wiped_all spots)) new → after_all w (Crash ∷ wiped_all spots) ≡ record (crashed w) { places = wipe_each w.places spots }
           → Shows Spells site identity (tables_of log.family) (record (crashed w) { places = wipe_each w.places spots }) new
       cut_shows shown leads =
@@ -168,7 +184,8 @@ module _ (Spells : List ℕ → Table → Type 0) (site : Site) (identity : Iden
           (subst (λ (f : List FamilyTable). ShowsPlaces Spells site identity (tables_of log.family) f (after_all w (wiped_all spots)).places new) a.family shown)
 
   pub keeps : Shows Spells site identity (tables_of log.family) w new → Turned Spells site identity log w new IsLoss Anything
-  keeps shows = record { events = []; are = inl refl; may = tt; world = record { reached = world.reached; matches = world.matches; shows = shows }; known = tt }
+  unfolding ArePlaces
+  keeps shows = loses [] tt shows
 
 module _ (Spells : List ℕ → Table → Type 0) (g : Geometry) (key : Key) (identity : Identity) (log : Log) (w : Core) (old new : Image) (other : Key) (its : Identity) (line : SliceLine) (sound : IsSound g) (another : IsAnother key identity other its)
     (world : IsWorld Spells (site_of g key) identity log w old) (none : ShowsNoTable Spells (site_of g key) identity old) where

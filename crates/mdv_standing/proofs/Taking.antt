@@ -1,5 +1,5 @@
 -- The last table is taken by places, until enough of them have it.
-use Rattle.std.proofs.Common.{◌≡◌, inl, inr, ℕ, ◌+◌, ◌-◌, ◌<◌, Bool, true, false, List, [], ◌∷◌, ◌++◌, length, refl, sym, ◌∙◌, ap, subst, Option, None, Some, arith}
+use Rattle.std.proofs.Common.{◌≡◌, inl, inr, ⊎_elim, ℕ, ◌+◌, ◌-◌, ◌<◌, Bool, true, false, List, [], ◌∷◌, ◌++◌, length, refl, sym, ◌∙◌, ap, subst, Option, None, Some, arith}
 use Rattle.std.proofs.lemmas.Bool.{and_from, false≢true, or_cases, or_right}
 use Rattle.mdv_votes.specs.Family.{put_at, with_newest}
 use Rattle.mdv_votes.specs.Quorum.{is_written_list}
@@ -10,11 +10,14 @@ use Rattle.mdv_votes.proofs.PlacesAt.{put_cases}
 use Rattle.mdv_quorum.specs.May.{IsReady, may, may_slot, may_tell}
 use Rattle.mdv_quorum.specs.Standing.{IsLastFirm, Standing}
 use Rattle.mdv_quorum.specs.World.{happens, settled, slotted, told_at, told_of}
+use Rattle.mdv_replica.specs.Images.{filled as is_filled}
 use Rattle.mdv_shown.proofs.Worlds.{slot_ends, slot_goes}
 use Rattle.mdv_standing.specs.Below.{Identity, Mark, SliceLine, Master, Head, Slot, Site, place_on, spot_on, IsAbove, IsBodyOf, IsSpareSlot, Fills, MayFill, Image, Core, Stage, Writing, Ready, Slotted, Told, Filled, Log, Version, Written, log_after, Table, FamilyTable, Spot, SpotLists, covers, is_in, is_named, is_written, last_list, last_number, last_table, place_at, table_at, Shows}
+use Rattle.mdv_standing.specs.Listed.{HavePlaces}
 use Rattle.mdv_standing.specs.Matching.{Matches, lists_of, spots_of, tables_of, version_at}
 use Rattle.mdv_standing.specs.Worlds.{IsWorld, Turned, IsNoneOr, HasLast, IsTaking, IsReadyWith}
 use Rattle.mdv_standing.specs.Adopting.{IsSlotWrite, IsTaken}
+use Rattle.mdv_standing.proofs.Listed.{own_found, past_reading, places_answered, places_still, slot_still}
 use Rattle.mdv_standing.proofs.Versions.{answered_length, answered_same, version_newest}
 use Rattle.mdv_standing.proofs.Reaching.{reached_more, standing, tables_agree}
 use Rattle.mdv_standing.proofs.Following.{matches_follow, one_more, settled_family, settled_follows, settled_place, settled_stage, since_put}
@@ -121,11 +124,18 @@ module _ (Spells : List ℕ → Table → Type 0) (site : Site) (identity : Iden
     taken = λ q e. t.taken q (or_right (same_spot p q) (is_in took q) e);
   }
 
-  world_taken : (new : Image) → Shows Spells site identity (tables_of log.family) (happens w (Slotted p Filled)) new → IsWorld Spells site identity log (happens w (Slotted p Filled)) new
-  world_taken new shows = record {
+  listed : (new : Image) (slot : Slot) → MayFill (place_on line first.blocks first.count k) slot v.mark bytes body old new → HavePlaces Spells site identity log new
+  listed new slot change =
+      places_still Spells site identity log old new
+      (slot_still Spells site identity old new s.site_is line k first head (own_found Spells site identity line k old first head s.own) slot v.mark bytes body s.body_is.is change)
+      (⊎_elim (λ have. have) (λ none. absurd (past_reading w (Writing known.boot known.all) known.stage (λ read same. cc (same)) none)) s.world.listed)
+
+  world_taken : (new : Image) → HavePlaces Spells site identity log new → Shows Spells site identity (tables_of log.family) (happens w (Slotted p Filled)) new → IsWorld Spells site identity log (happens w (Slotted p Filled)) new
+  world_taken new have shows = record {
     reached = reached_more site w (Slotted p Filled ∷ []) s.world.reached (fits, tt);
     matches = subst (Matches site log) (sym leads) settled_matches;
     shows = shows;
+    listed = inl have;
   }
 
   body_is : IsBodyOf Spells (place_on line first.blocks first.count k) (last_table w).mark bytes body (tables_of log.family (last_number w))
@@ -140,8 +150,8 @@ module _ (Spells : List ℕ → Table → Type 0) (site : Site) (identity : Iden
   slotting new slot spare change =
       elim (slot_goes Spells site s.site_is identity (tables_of log.family) w line k first head old new s.own s.world.shows known.boot known.all known.stage slot bytes body body_is above spare
       (subst (λ (m : Mark). MayFill (place_on line first.blocks first.count k) slot m bytes body old new) (sym known.marked) change)) [
-        | inl same ↦ record { events = []; are = inl refl; may = tt; world = record { reached = s.world.reached; matches = s.world.matches; shows = same }; known = known }
-        | inr filled ↦ record { events = Slotted p Filled ∷ []; are = inr refl; may = (fits, tt); world = world_taken new filled; known = fewer (happens w (Slotted p Filled)) taking }
+        | inl same ↦ record { events = []; are = inl refl; may = tt; world = record { reached = s.world.reached; matches = s.world.matches; shows = same; listed = inl (listed new slot change) }; known = known }
+        | inr filled ↦ record { events = Slotted p Filled ∷ []; are = inr refl; may = (fits, tt); world = world_taken new (listed new slot change) filled; known = fewer (happens w (Slotted p Filled)) taking }
       ]
 
   pub slot_taken : (new : Image) (slot : Slot) → Fills (place_on line first.blocks first.count k) slot v.mark bytes body old new
@@ -150,7 +160,7 @@ module _ (Spells : List ℕ → Table → Type 0) (site : Site) (identity : Iden
     events = Slotted p Filled ∷ [];
     are = refl;
     may = (fits, tt);
-    world = world_taken new (slot_ends Spells site s.site_is identity (tables_of log.family) w line k first head old new s.own s.world.shows known.boot known.all known.stage slot bytes body body_is above
+    world = world_taken new (listed new slot (is_filled fills)) (slot_ends Spells site s.site_is identity (tables_of log.family) w line k first head old new s.own s.world.shows known.boot known.all known.stage slot bytes body body_is above
         (subst (λ (m : Mark). Fills (place_on line first.blocks first.count k) slot m bytes body old new) (sym known.marked) fills));
     known = taking;
   }
@@ -215,6 +225,9 @@ module _ (Spells : List ℕ → Table → Type 0) (site : Site) (identity : Iden
     taken = λ p e. (let was = t.known.taken p e in record { holds = was.holds; newest = was.newest });
   }
 
+  have : HavePlaces Spells site identity log image
+  have = ⊎_elim (λ places. places) (λ none. absurd (past_reading w (Writing t.known.boot t.known.all) t.known.stage (λ read same. cc (same)) none)) t.world.listed
+
   is_told : IsTold (happens w Told)
   is_told = subst IsTold (sym told_by) (told_is t.known.boot)
 
@@ -227,6 +240,6 @@ module _ (Spells : List ℕ → Table → Type 0) (site : Site) (identity : Iden
         events = Told ∷ [];
         are = refl;
         may = (enough_took, tt);
-        world = record { reached = reached; matches = is_told.matches firm.1; shows = is_told.shows };
+        world = record { reached = reached; matches = is_told.matches firm.1; shows = is_told.shows; listed = inl (places_answered Spells site identity log image have) };
         known = record { stage = is_told.stage; taken = is_told.taken };
       }

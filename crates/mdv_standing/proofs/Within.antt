@@ -1,5 +1,6 @@
 -- What is written at a place of a slice stays on the slice, and how a replica or a format there is one for another key's boots.
 use Rattle.std.proofs.Common.{◌≡◌, ◌⊎◌, inl, inr, ⊎_elim, ℕ, zero, suc, ◌+◌, ◌-◌, ◌*◌, ◌<◌, ◌≤◌, false, List, [], ◌∷◌, length, refl, sym, subst, Contains, arith}
+use Rattle.std.proofs.lemmas.Bool.{false_from_ne_true}
 use Rattle.std.specs.Prelude.{slice_index_or}
 use Rattle.mdv_name.specs.Sound.{IsSound}
 use Rattle.mdv_replica.specs.Images.{SameOutside, Wipes, blanked, closed, filled, formatted, untouched}
@@ -9,6 +10,7 @@ use Rattle.mdv_shelf.proofs.Frame.{within_range}
 use Rattle.mdv_shown.specs.Found.{IsFound}
 use Rattle.mdv_shown.specs.Site.{line_area}
 use Rattle.mdv_shown.specs.Sites.{site_of}
+use Rattle.mdv_shown.proofs.Elsewhere.{range_has}
 use Rattle.mdv_shown.proofs.Sites.{site_is}
 use Rattle.mdv_shown.proofs.Writes.{slot_within}
 use Rattle.mdv_standing.specs.Below.{Claims, Geometry, Head, Identity, Image, IsFormat, Key, Mark, Master, MayClaim, MayFill, MayFormat, MayWipe, PlaceAt, SliceLine, Slot, Table, place_on}
@@ -28,6 +30,12 @@ apart_or_in (x ∷ xs) L each =
     by : (b : SliceLine) (k : ℕ) → k < length (x ∷ xs) → slice_index_or (x ∷ xs) k b ≡ b → AreApart (line_area L) (line_area x) → ((c : SliceLine) → Contains xs c → AreApart (line_area L) (line_area c)) → AreApart (line_area L) (line_area b)
     by b zero lt e apart all = subst (λ (l : SliceLine). AreApart (line_area L) (line_area l)) e apart
     by b (suc k) lt e apart all = all b (k, omega (arith, lt), e)
+
+-- what is done on another slice leaves the blocks of this one
+pub line_still : (other line : SliceLine) → AreApart (line_area other) (line_area line) → (old new : Image) → SameOutside (line_area other) old new
+    → (block : ℕ) → line.at.start ≤ block → block < line.at.start + line.at.blocks → new line.at.drive.0 block ≡ old line.at.drive.0 block
+line_still other line apart old new outside block from to =
+    outside line.at.drive.0 block (false_from_ne_true (line_area other line.at.drive.0 block) (λ has. apart line.at.drive.0 block has (range_has line.at.drive.0 line.at.start line.at.blocks block from to)))
 
 module _ (line : SliceLine) (k blocks count : ℕ) (old new : Image) where
   abbrev at : PlaceAt

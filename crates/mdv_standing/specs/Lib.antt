@@ -1,5 +1,6 @@
 pub mod Below
 pub mod Matching
+pub mod Listed
 pub mod Worlds
 pub mod Standing
 pub mod Laws

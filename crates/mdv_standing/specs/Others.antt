@@ -1,5 +1,5 @@
 -- What is written for one database is nothing to the others, or takes from them what lay there.
-use Rattle.std.specs.Prelude.{◌≡◌, ◌⊎◌, ℕ, ◌<◌, ◌^◌, List, [], ◌∷◌, Option}
+use Rattle.std.specs.Prelude.{◌≡◌, ℕ, ◌<◌, ◌^◌, List, ◌∷◌, Option}
 use Rattle.mdv_name.specs.Sound.{IsSound}
 use Rattle.mdv_shown.specs.Found.{Counts, IsFound}
 use Rattle.mdv_shown.specs.Sites.{site_of}
@@ -18,9 +18,9 @@ pub record IsBeside (Spells : List ℕ → Table → Type 0) (g : Geometry) (key
   pub found : IsFound Spells (site_of g other) line k (image line.at.drive.0) first head
   pub another : IsAnother key identity other head.master.identity
 
--- nothing, or behind a crash some places are blanked
+-- behind a crash some places are blanked, or none
 abbrev pub IsLoss : List Event → Type 0
-IsLoss es = (es ≡ []) ⊎ ((spots : List Spot) × (es ≡ Crash ∷ wiped_all spots))
+IsLoss es = (spots : List Spot) × (es ≡ Crash ∷ wiped_all spots)
 
 abbrev pub Anything : Core → Type 0
 Anything w = Unit {0}

@@ -1,13 +1,15 @@
 -- Which worlds an image shows, what is known of them, and how they go on.
-use Rattle.std.specs.Prelude.{◌≡◌, ◌⊎◌, ◌&&◌, ℕ, ◌+◌, ◌<◌, Bool, true, List, [], ◌∷◌, length, Option, None, Some, IsTrue}
-use Rattle.mdv_standing.specs.Below.{Identity, Mark, Site, Image, Core, Reading, Claiming, Writing, Ready, MayAll, after_all, last_table, last_number, Event, Log, Table, FamilyTable, Spot, Shows, IsWithin, is_in, is_none, is_read, greatest_of, knows_above, newest_of, place_at, table_at}
+use Rattle.std.specs.Prelude.{◌≡◌, ◌⊎◌, ◌&&◌, ℕ, ◌+◌, ◌<◌, Bool, List, [], ◌∷◌, length, Option, None, Some, IsTrue}
+use Rattle.mdv_standing.specs.Below.{Identity, Mark, Site, Image, Core, Reading, Claiming, Writing, Ready, MayAll, after_all, last_table, last_number, Event, Log, Table, FamilyTable, Spot, Shows, IsWithin, is_in, is_none, is_read, greatest_of, knows_above, newest_of, table_at}
+use Rattle.mdv_standing.specs.Listed.{HasTable, HavePlaces, IsUnshown}
 use Rattle.mdv_standing.specs.Matching.{Matches, Reached, tables_of}
 
--- events led to the world, it is one of the log, and the image shows it
+-- events led to the world, it is one of the log, the image shows it, and has each place that a table of the log lists, or no replica shows a table
 pub record IsWorld (Spells : List ℕ → Table → Type 0) (site : Site) (identity : Identity) (log : Log) (w : Core) (image : Image) : Type 0 where
   pub reached : Reached site w
   pub matches : Matches site log w
   pub shows : Shows Spells site identity (tables_of log.family) w image
+  pub listed : HavePlaces Spells site identity log image ⊎ IsUnshown w
 
 -- The world goes on by such events to one of that log which the new image shows, and of which this is known.
 pub record Turned (Spells : List ℕ → Table → Type 0) (site : Site) (identity : Identity) (log : Log) (w : Core) (new : Image) (Are : List Event → Type 0) (Known : Core → Type 0) : Type 0 where
@@ -28,6 +30,8 @@ pub record WillAdopt (mark : Mark) (number : ℕ) (w : Core) : Type 0 where
   pub table : ℕ
   pub known : table < length w.family
   pub voted : newest_of w.family w.places None read ≡ Some table
+  pub place : Spot
+  pub shown : HasTable w place table
   pub marked : (table_at w.family table).mark ≡ mark
   pub quorum : IsTrue (is_read (table_at w.family table) (is_in read) (knows_above w.family w.places (table_at w.family table)))
   pub drawn : greatest_of w.family w.places 0 read + 1 ≡ number
@@ -51,9 +55,8 @@ pub data MayBeClaimed (mark : Mark) (number : ℕ) (ok : List Spot) (w : Core) :
   claimed : HasClaimed mark number ok w → MayBeClaimed mark number ok w
 
 -- the place holds a replica, whose newest table is the last one
-pub record HasLast (w : Core) (p : Spot) : Type 0 where
-  pub holds : (place_at w.places p).holds ≡ true
-  pub newest : (place_at w.places p).newest ≡ Some (last_number w)
+abbrev pub HasLast : Core → Spot → Type 0
+HasLast w p = HasTable w p (last_number w)
 
 -- The last table is being written, under this mark. These places took it, and maybe more did.
 pub record IsTaking (by_majority : Bool) (mark : Mark) (took : List Spot) (w : Core) : Type 0 where

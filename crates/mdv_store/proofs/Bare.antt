@@ -13,8 +13,7 @@ use Rattle.mdv_shown.proofs.Elsewhere.{found_kept, places_step, there_of}
 use Rattle.mdv_shown.proofs.Formatting.{first_now, later_now}
 use Rattle.mdv_shown.proofs.Made.{blank_before}
 use Rattle.mdv_standing.specs.Laws.{ShowsNoTable}
-use Rattle.mdv_standing.proofs.Blanking.{line_still}
-use Rattle.mdv_standing.proofs.Within.{format_within}
+use Rattle.mdv_standing.proofs.Within.{format_within, line_still}
 use Rattle.mdv_store.specs.Below.{Head, Identity, Image, Site, SliceLine, Table, place_on}
 
 module _ (Spells : List ℕ → Table → Type 0) (site : Site) (identity : Identity) (line : SliceLine) (old new : Image) where

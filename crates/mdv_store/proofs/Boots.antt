@@ -214,7 +214,7 @@ end_as failed told Wrote site survey some none end.Spent by = by
 end_as failed told Wrote site survey some none end.Memory by = tt
 
 -- all of a list pass
-count_all : {X : Type 0} (p : X → Bool) (xs : List X) → ((x : X) → Contains xs x → p x ≡ true) → count_by p xs ≡ length xs
+pub count_all : {X : Type 0} (p : X → Bool) (xs : List X) → ((x : X) → Contains xs x → p x ≡ true) → count_by p xs ≡ length xs
 count_all p [] all = refl
 count_all p (x ∷ xs) all =
     let rest = count_all p xs (λ y has. all y (contains_behind x y xs has)) in

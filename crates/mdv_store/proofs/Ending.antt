@@ -6,15 +6,15 @@ use Rattle.mdv_quorum.specs.declared.event.Event.TheVariants.{Formatted, Slotted
 use Rattle.mdv_quorum.specs.declared.event.SlotEnd.TheVariants.{Closed as LeftClosed}
 use Rattle.mdv_store_law.proofs.Parts.{part_front, part_mapped, part_of_part}
 use Rattle.mdv_store_law.specs.Log.{Writing as WritesLog, Written, log_after}
-use Rattle.mdv_standing.specs.Creating.{IsCreating, first_mark, issued_log}
+use Rattle.mdv_standing.specs.Creating.{AreFormed, IsCreating, first_mark, issued_log}
 use Rattle.mdv_standing.specs.Tracing.{IsCreationBegin, IsRun, IsStart, Traces, formats_at, written_at}
 use Rattle.mdv_standing.proofs.Creating.{may_write_first}
 use Rattle.mdv_standing.proofs.Stretches.{traced_answer, traced_first_write}
 use Rattle.mdv_standing.proofs.Tracing.{adds_begun, adds_none, adds_written, course_one, course_written, more, newest_begun, part_one, run_within, trace_weaker}
 use Rattle.mdv_store.specs.Acts.{Act, AreDoing, AreDone, blanks_asked, forms_asked}
-use Rattle.mdv_store.specs.Below.{Database, Event, Failures, Geometry, Identity, IsPart, IsReadyWith, IsTaking, Key, Log, Replica, RestStands, Site, SliceLine, Spot, Table, Tale, fills_at, lists_of_spots, record_text, site_of, spot_on}
+use Rattle.mdv_store.specs.Below.{Database, Event, Everywhere, Failures, Geometry, Identity, IsPart, IsReadyWith, IsTaking, Key, Log, Replica, RestStands, Site, SliceLine, Spot, Table, Tale, fills_at, lists_of_spots, record_text, site_of, spot_on}
 use Rattle.mdv_store.specs.Commit.{AnyLog, AnyWorld}
-use Rattle.mdv_store.specs.Create.{AreAsked, AreOfCreation, CreateGoes, IsCreatedTo, MayCreate, seats_asked, table_of}
+use Rattle.mdv_store.specs.Create.{AreAsked, AreOfCreation, CreateGoes, IsCreatedTo, MayCreate, replica_on, seats_asked, table_of}
 use Rattle.mdv_store.specs.Opened.{AreSeatsOf, IsOpenedAt, Opened}
 use Rattle.mdv_store.specs.Records.{Spells}
 use Rattle.mdv_store.specs.Seats.{AreHeld, AreLeft, TakesSlot, is_half_active, replicas_of, spot_of, spots_of}
@@ -29,9 +29,10 @@ use Rattle.mdv_store.proofs.Forming.{IsFormedTo, IsFormingAt, form_steps}
 use Rattle.mdv_store.proofs.Given.{ArePairsApart, IsOwner}
 use Rattle.mdv_store.proofs.Halves.{half_written, spot_in_spots}
 use Rattle.mdv_store.proofs.Marks.{slot_stays}
+use Rattle.mdv_store.proofs.Passes.{unmapped}
 use Rattle.mdv_store.proofs.Places.{GoesOn}
 use Rattle.mdv_store.proofs.Putting.{IsGiven}
-use Rattle.mdv_store.proofs.Seated.{replica_is, seats_of_table, some_asked}
+use Rattle.mdv_store.proofs.Seated.{replica_is, replicas_have, seat_is, seats_of_table, some_asked}
 use Rattle.mdv_store.proofs.Sitting.{left_replica, left_seats}
 use Rattle.mdv_store.proofs.Slices.{Ended, all_formed, all_forming, in_end}
 use Rattle.mdv_store.proofs.Spotting.{asked_active, asked_named}
@@ -140,6 +141,21 @@ module _ (g : Geometry) (all : List Database) (key : Key) (identity : Identity) 
     held : AreHeld g key identity seats v
     held = formed.held g key identity lines count blocks sizes t owner asked may.forms v is_done
 
+    -- so each place of the table has its replica
+    placed : Everywhere (AreFormed (Spells g) site identity table.plan.lists) v
+    placed image is place listed =
+        let seat = unmapped (λ (s : Seat). s.place) seats place listed in
+        let one = seat_is key identity count blocks lines seat.0 seat.1 in
+        let r = replica_on key identity one.line count blocks one.number in
+        record {
+          line = one.line;
+          number = one.number;
+          first = r.first;
+          head = r.head;
+          own = held.each r (replicas_have key identity count blocks lines one.line one.number one.among one.lt) image is;
+          is = sym seat.2 ∙ ap (λ (s : Seat). s.place) one.is;
+        }
+
     module _ (body : List (List ℕ)) (spelled : IsSpelled table bytes body) where
       bodies : AreBodies g seats first_mark bytes body table
       bodies = formed.bodies g key identity lines count blocks sizes t owner asked may.forms v is_done body spelled
@@ -171,7 +187,7 @@ module _ (g : Geometry) (all : List Database) (key : Key) (identity : Identity) 
       first_write =
           let lt : 0 < count = (let more_than = asked.more in omega (arith, more_than)) in
           more (Spells g) site identity log log (IsStart site) (IsCreating (lists_of_spots site table.plan.lists) f.made) Begin (formats_at spots) t v f.traces begun (IsTaking false first_mark []) (λ es. es ≡ opening ∷ []) (opening ∷ []) v
-          (λ fs is. part_one opening fs is) (traced_first_write (Spells g) site identity log v p table f.made refl some_first (f.has line 0 (in_end key identity lines count blocks (IsFormedTo g all key identity lines count blocks t) (IsFormingAt g all key identity lines count blocks t) steps line 0 among lt)) (given.names line 0 among lt))
+          (λ fs is. part_one opening fs is) (traced_first_write (Spells g) site identity log v p table f.made refl some_first (f.has line 0 (in_end key identity lines count blocks (IsFormedTo g all key identity lines count blocks t) (IsFormingAt g all key identity lines count blocks t) steps line 0 among lt)) (given.names line 0 among lt) placed)
 
       fills : (now : List Spot) (m : Tale) → Traces (Spells g) site identity begun begun (IsTaking false first_mark []) (AreFills spots) (IsTaking false first_mark now) v m
           → Traces (Spells g) site identity log begun (IsStart site) (IsRun Begin ((formats_at spots ++ opening ∷ []) ++ fills_at spots)) (IsTaking false first_mark now) t m

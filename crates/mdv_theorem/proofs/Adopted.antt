@@ -307,7 +307,7 @@ blind_boot calls host content up survey read empty = record {
     none_marked (Some n) marked is r has = absurd is
 
 -- a drive of these doesn't pass the test, or all do
-all_up : (up : ℕ → Bool) (lines : List SliceLine) → ((line : SliceLine) → Contains lines line → up line.at.drive.0 ≡ true) ⊎ ((line : SliceLine) × Contains lines line × (up line.at.drive.0 ≡ false))
+pub all_up : (up : ℕ → Bool) (lines : List SliceLine) → ((line : SliceLine) → Contains lines line → up line.at.drive.0 ≡ true) ⊎ ((line : SliceLine) × Contains lines line × (up line.at.drive.0 ≡ false))
 all_up up [] = inl (λ line has. absurd (never_in line has))
 all_up up (line ∷ lines) = by (up line.at.drive.0) refl (all_up up lines) where
   by : (b : Bool) → up line.at.drive.0 ≡ b → ((other : SliceLine) → Contains lines other → up other.at.drive.0 ≡ true) ⊎ ((other : SliceLine) × Contains lines other × (up other.at.drive.0 ≡ false))

@@ -1,216 +1,264 @@
--- No boot of a run of a life finds two databases: at the run's start, and before each line, the drives stand with a history.
-use Rattle.std.proofs.Common.{◌≡◌, ◌⊎◌, inl, inr, ℕ, ◌+◌, Bool, true, false, List, [], ◌∷◌, ◌++◌, length, Option, Some, Contains, refl, sym, ◌∙◌, ap, subst, arith}
-use Rattle.mdv_engine_law.specs.Answers.{refusing}
-use Rattle.mdv_engine_law.specs.Commands as came
-use Rattle.mdv_engine_law.specs.Commands.{CameTo, ComesTo, Effect, GivesUp, KeepsTab}
-use Rattle.mdv_engine_law.specs.Line.{IsReadOf, IsRebooted, IsSame, Kept, WritesTo, answered_by, contents}
+-- No boot of a run of a life finds two databases, and none is short of places where enough drives answer.
+use Rattle.std.proofs.Common.{◌≡◌, ◌⊎◌, inl, inr, ℕ, ◌&&◌, Bool, true, false, not, ◌*◌, ◌<◌, List, [], ◌∷◌, ◌++◌, Some, if◌then◌else◌, length, Contains, refl, sym, ◌∙◌, ap, subst}
+use Rattle.std.proofs.lemmas.List.{append_cancel_left}
+use Rattle.std.proofs.lemmas.Slice.Eq.{bytes_eq-Decides}
+use Rattle.std.specs.Prelude.{count_by}
+use Rattle.mdv_base.proofs.Causes.{rose_of_once, rose_within}
+use Rattle.mdv_base.specs.Causes.{Rose}
+use Rattle.mdv_base.specs.DriveSet.{Drives, has_drive}
+use Rattle.mdv_base.specs.declared.drive.DriveNo.{DriveNo}
+use Rattle.mdv_base.specs.declared.drive.SliceName.{SliceName}
+use Rattle.mdv_base.specs.declared.mark.Identity.{Identity}
+use Rattle.mdv_databases.proofs.Finding.{never_short, short_by}
+use Rattle.mdv_databases.specs.Meeting.{answers_on, is_on}
+use Rattle.mdv_engine_law.specs.Hosts.{key_of}
+use Rattle.mdv_engine_law.specs.Line.{IsReadOf, WritesTo, answered_by}
 use Rattle.mdv_engine_law.specs.Standing.{StandsAt}
-use Rattle.mdv_engine_law.specs.declared.answer.Answer.{Answer}
-use Rattle.mdv_engine_law.specs.declared.answer.Answer.TheVariants.{Said, Over as Ends}
+use Rattle.mdv_engine_law.specs.declared.answer.Answer.TheVariants.{Over as Ends}
 use Rattle.mdv_engine_law.specs.declared.answer.Ended.{Ended}
 use Rattle.mdv_engine_law.specs.declared.answer.Ended.TheVariants as stop
-use Rattle.mdv_engine_law.specs.declared.answer.Outcome.TheVariants as outcome
 use Rattle.mdv_engine_law.specs.declared.host.Host.{Host}
+use Rattle.mdv_port.specs.Script.{Script}
+use Rattle.mdv_name.specs.SliceIndex.{HasSlice, slice_at}
 use Rattle.mdv_name.specs.declared.geometry.Geometry.{Geometry}
-use Rattle.mdv_port.specs.Script.{Script, at_end, line, spent, too_long}
+use Rattle.mdv_name.specs.declared.slice_lines.SliceAt.{SliceAt}
+use Rattle.mdv_name.specs.declared.slice_lines.SliceLine.{SliceLine}
 use Rattle.mdv_run_law.proofs.Looked.{finds_one}
-use Rattle.mdv_run_law.specs.Lives.{IsNewWord, Ran, host_of}
-use Rattle.mdv_run_law.specs.Run.{At, Counts, EndsAs, EndsWith, IsAnswered, IsRun, LinesTold, NextLine, Over, Progress, RunsFrom, Stretch, behind_boot, broken, drive_failures, ended, giving_failed, no_line, one_more, started, status_at, status_of, unread}
+use Rattle.mdv_run_law.proofs.Owning.{IsOfRuns}
+use Rattle.mdv_run_law.specs.Lives.{Ran, as_it_was, host_of}
+use Rattle.mdv_run_law.specs.Run.{Counts, Stretch, drive_failures, site_failed, status_at}
 use Rattle.mdv_run_law.specs.Standing.{RunMoment}
 use Rattle.mdv_run_law.specs.declared.status.RunStatus.{RunStatus}
 use Rattle.mdv_run_law.specs.declared.status.RunStatus.TheVariants as status
-use Rattle.mdv_shelf.proofs.Stories.{marked_more, same_marks}
 use Rattle.mdv_shelf.specs.Everywhere.{Image}
 use Rattle.mdv_shelf.specs.Failing.{Outcomes}
-use Rattle.mdv_shelf.specs.Moments.{During}
-use Rattle.mdv_shelf.specs.Story.{AtEach, AtMarks, Mark, Moment, OfTales, Story, marked, tale_of}
-use Rattle.mdv_shelf.specs.Tale.{Call, Gave, Synced, Tale, Then, Tore, Wrote, last}
-use Rattle.mdv_shown.specs.Sites.{site_of}
+use Rattle.mdv_shelf.proofs.Stories.{marked_more, same_marks}
+use Rattle.mdv_shelf.specs.Story.{AtEach, AtMarks, Mark, Moment, Story, Tally, marked, moment_at, tale_of}
+use Rattle.mdv_shelf.specs.Tale.{Tale, last, told}
+use Rattle.mdv_shown.proofs.Sites.{law_sites}
+use Rattle.mdv_shown.specs.Sites.{is_line_of, site_of}
 use Rattle.mdv_shown.specs.declared.site.Site.{Site}
-use Rattle.mdv_engine_law.specs.Hosts.{key_of}
-use Rattle.mdv_run_law.proofs.Owning.{IsOfRuns}
-use Rattle.mdv_volumes.proofs.Owners.{AreEach}
-use Rattle.mdv_store.specs.Boot.{IsEndBy, is_memory}
+use Rattle.mdv_store.specs.Boot.{IsEndBy, IsShort, is_memory}
 use Rattle.mdv_store.specs.declared.booting.BootEnd.{BootEnd}
 use Rattle.mdv_store.specs.declared.booting.BootEnd.TheVariants as end
-use Rattle.mdv_survey.specs.Survey.{IsSurveyOf}
+use Rattle.mdv_survey.specs.Survey.{IsSurvey, IsSurveyOf}
 use Rattle.mdv_survey.specs.declared.replica.Survey.{Survey}
+use Rattle.mdv_table.specs.Slices.{IsSound}
+use Rattle.mdv_volumes.proofs.Found.{AreLasting}
+use Rattle.mdv_volumes.proofs.Owners.{AreEach}
+use Rattle.mdv_volumes.proofs.Lists.{in_filter}
+use Rattle.mdv_volumes.specs.Databases.{log_of}
 use Rattle.mdv_volumes.specs.History.{History, history_after_all}
-use Rattle.mdv_words.specs.Line as words
-use Rattle.mdv_words.specs.Line.{Line}
-use Rattle.mdv_words.specs.declared.command.Command.{Command}
-use Rattle.mdv_words.specs.declared.command.Command.TheVariants.{Create, Print, Read, Write}
-use Rattle.mdv_words.specs.declared.command.Command.TheVariants as command
-use Rattle.mdv_theorem.specs.Observed.{RunsFindOne}
-use Rattle.mdv_theorem.specs.Running.{Lived}
+use Rattle.mdv_base.specs.declared.place.Place.{Place}
+use Rattle.mdv_theorem.specs.Exchanges.{Exchange, exchanges_by, exchanges_of}
+use Rattle.mdv_theorem.specs.Observed.{IsCalmOn, MostLieOn, RunsFindEnough, RunsFindOne}
+use Rattle.mdv_theorem.specs.Running.{Lived, LivesOn, ran_now}
+use Rattle.mdv_theorem.specs.Words.{IsMadeOn}
+use Rattle.mdv_theorem.proofs.Adopted.{HasFallen, all_up}
+use Rattle.mdv_theorem.proofs.Agreeing.{own_sound}
+use Rattle.mdv_theorem.proofs.Booted.{IsLastBoot, IsOfBootStatus, at_prefix, run_boots}
+use Rattle.mdv_theorem.proofs.Counting.{AreMadeOn, most_up}
+use Rattle.mdv_theorem.proofs.Founded.{WasMade, made_before}
+use Rattle.mdv_theorem.proofs.Given.{given}
 use Rattle.mdv_theorem.proofs.Living.{lived_life}
 use Rattle.mdv_theorem.proofs.Owned.{life_start, own_new}
+use Rattle.mdv_theorem.proofs.Parting.{cut_has}
+use Rattle.mdv_theorem.proofs.Seeing.{ListsThese}
 
--- what is so behind each of some calls is so behind the first ones of them
-behind_call : (P : Tale → Type 0) (t : Tale) (call : Call) → During P t call → P (Then t call)
-behind_call P t (Gave piece count) along = along count (omega arith)
-behind_call P t (Wrote drive at blocks) here = here
-behind_call P t (Tore drive at blocks took) here = here
-behind_call P t (Synced drive) here = here
+answering : (a b : Bool) → a ≡ true → b ≡ false → (a && not b) ≡ true
+answering a b one two = λ i. one i && not (two i)
 
-at_prefix : (P : Tale → Type 0) (s : Story) (back front : List Mark) → P (tale_of s) → AtMarks (λ (m : Moment). P m.tale) s (back ++ front) → P (tale_of (marked s front))
-at_prefix P s (m ∷ back) front first all = at_prefix P s back front first all.0
-at_prefix P s [] [] first all = first
-at_prefix P s [] (m ∷ front) first all = behind_call P (tale_of (marked s front)) m.call all.1
+module _ (host : Host) (sound : IsSound host.drives) (site : host.site ≡ site_of host.drives (key_of host)) (stretch : Stretch) (s : Story) (more : List ℕ) (start close : Counts) (end_status : RunStatus) (l : IsLastBoot host stretch s more start close end_status)
+    (history : History) (stands : StandsAt host history (tale_of (marked s l.marks))) where
+  abbrev calls : Outcomes
+  calls = drive_failures l.before l.after
 
--- an answer, and a status, for two databases
-abbrev IsTwo : Answer → Type 0
-IsTwo (Ends (stop.TwoDatabases a b)) = Unit {0}
-IsTwo other = ⊥
+  -- the drives as the boot began
+  abbrev at : Tale
+  at = tale_of (marked s l.marks)
 
-abbrev IsTwoStatus : RunStatus → Type 0
-IsTwoStatus (status.TwoDatabases a b) = Unit {0}
-IsTwoStatus other = ⊥
+  same : l.kept.content ≡ last at
+  same = λ i drive block. sym (l.reads drive block) i
 
-two_over : (over : Ended) → IsTwoStatus (status_at over) → IsTwo (Ends over)
-two_over (stop.NoQuorum readable needed) is = is
-two_over (stop.TwoDatabases a b) is = is
-two_over (stop.Lost active listed) is = is
-two_over stop.Spent is = is
-two_over stop.Memory is = is
+  -- what failed in the boot failed in the run
+  rose : (drive : ℕ) → (calls drive).some → Rose (start.drives drive) (close.drives drive)
+  rose drive once = rose_within _ _ _ _ (l.low.drives drive) (l.high drive) (rose_of_once (l.before.drives drive) (l.after.drives drive) once)
 
-module _ (calls : Outcomes) (host : Host) (kept next : Kept) (answer : Answer) where
-  refused_never : (r : _) → answer ≡ refusing r → IsTwo answer → ⊥
-  refused_never r is two = (let never : ⊥ = subst IsTwo is two in never)
+  -- what was read of the drives, whatever it came to
+  module _ (up : Drives) (survey : Survey) (read : IsReadOf calls host l.kept.content up survey) where
+    of : IsSurveyOf host.drives (site_of host.drives (key_of host)) read.calm (last at) survey
+    of = subst (λ (x : Site). IsSurveyOf host.drives x read.calm (last at) survey) site (subst (λ (c : Image). IsSurveyOf host.drives host.site read.calm c survey) same read.of)
 
-  effect_never : (cmd : Command) → Effect calls host kept cmd answer next → IsTwo answer → ⊥
-  effect_never (Create slices force count blocks) is two = (let never : ⊥ = subst IsTwo is.0 two in never)
-  effect_never (command.MakeStripe volume slice) is two = (let never : ⊥ = subst IsTwo is.0 two in never)
-  effect_never (Read volume at count) is two = (let never : ⊥ = subst IsTwo is.3 two in never)
-  effect_never (Write volume at block) is two = (let never : ⊥ = subst IsTwo is.3 two in never)
-  effect_never (Print names) is two = (let never : ⊥ = subst IsTwo is.3 two in never)
+    is : IsSurvey (site_of host.drives (key_of host)) read.calm survey
+    is = subst (λ (x : Site). IsSurvey x read.calm survey) site read.survey_is
 
-  gives_never : (cmd : Command) (over : Ended) → GivesUp calls host kept cmd over next → IsTwo (Ends over) → ⊥
-  gives_never cmd (stop.NoQuorum readable needed) gives two = two
-  gives_never cmd (stop.Lost active listed) gives two = two
-  gives_never cmd stop.Spent gives two = two
-  gives_never cmd stop.Memory gives two = two
-  gives_never (Create slices force count blocks) (stop.TwoDatabases a b) gives two = gives
-  gives_never (command.MakeStripe volume slice) (stop.TwoDatabases a b) gives two = gives
-  gives_never (Read volume at count) (stop.TwoDatabases a b) gives two = gives
-  gives_never (Write volume at block) (stop.TwoDatabases a b) gives two = gives
-  gives_never (Print names) (stop.TwoDatabases a b) gives two = gives
+    -- a drive of a slice that answers, or a call failed on it
+    calm_answers : (drive : DriveNo) → has_drive read.calm drive ≡ true → answers_on read.calm survey drive.0 ≡ true
+    calm_answers drive calm = answering (has_drive read.calm drive) (has_drive survey.failed drive) calm (read.none drive calm)
 
-  came_never : (cmd : Command) → CameTo calls host kept cmd answer next → IsTwo answer → ⊥
-  came_never cmd (came.refused quiet r is left) two = refused_never r left.0 two
-  came_never cmd (came.wanting quiet is left) two = refused_never _ is two
-  came_never cmd (came.done free effect) two = effect_never cmd effect two
-  came_never cmd (came.faulted free is fault) two = refused_never _ is two
-  came_never cmd (came.over over free is gives) two = gives_never cmd over gives (subst IsTwo is two)
+    fallen : (line : SliceLine) → Contains (site_of host.drives (key_of host)).lines line → has_drive read.calm line.at.drive ≡ false → (calls line.at.drive.0).some
+    fallen line has off = read.failed line.at.drive (subst (λ (x : Site). Contains x.drives line.at.drive) (sym site) (law_sites.brought host.drives (key_of host) line has)) off
 
-  tab_never : (lines : List ℕ) → KeepsTab calls kept lines answer next → IsTwo answer → ⊥
-  tab_never lines (came.entered quiet entries tab is memory same) two = (let never : ⊥ = subst IsTwo is two in never)
-  tab_never lines (came.unfit quiet r why left) two = refused_never r left.0 two
-  tab_never lines (came.unread quiet is left) two = refused_never _ is two
+    -- it was short of places: a call failed on a drive with one of the site's slices
+    short_fallen : (readable needed : ℕ) → IsShort survey readable needed → HasFallen host calls
+    short_fallen readable needed short = elim (all_up (λ n. has_drive read.calm (record { 0 = n })) host.site.lines) [
+      | inr one ↦ (one.0, one.1, fallen one.0 (subst (λ (x : Site). Contains x.lines one.0) site one.1) one.2)
+      | inl all ↦
+          let why = short_by host.drives history.databases (key_of host) read.calm survey at sound stands.databases is of readable needed short in
+          absurd (why.away (λ line has. calm_answers line.at.drive (all line (subst (λ (x : Site). Contains x.lines line) (sym site) has))))
+    ]
 
-  -- where the drives stand with a history, and read as they are kept
-  module _ (h : History) (t : Tale) (stands : StandsAt host h t) (reads : IsSame kept.content (contents t)) (site : host.site ≡ site_of host.drives (key_of host)) where
-    boot_never : IsRebooted calls host kept answer next → IsTwo answer → ⊥
-    boot_never boots two = by boots.end boots.by (subst IsTwo boots.answer_is two) where
-      by : (e : BootEnd) → (is_memory e ≡ true) ⊎ ((survey : Survey) × IsReadOf calls host kept.content boots.up survey × IsEndBy calls (λ hand table. WritesTo kept.content next.content hand.seats) host.site survey e) → IsTwo (answered_by e) → ⊥
-      by (end.Adopted o) is never = never
-      by end.Empty is never = never
-      by (end.NoQuorum readable needed) is never = never
-      by (end.Lost active listed) is never = never
-      by end.Spent is never = never
-      by end.Memory is never = never
-      by (end.TwoDatabases a b) (inl is) two_of = cc (is)
-      by (end.TwoDatabases a b) (inr (survey, read, choice)) two_of =
-          let same : kept.content ≡ last t = λ i drive block. sym (reads drive block) i in
-          let of = subst (λ (c : Image). IsSurveyOf host.drives host.site read.calm c survey) same read.of in
-          finds_one host.drives (key_of host) read.calm t survey (subst (λ (x : Site). IsSurveyOf host.drives x read.calm (last t) survey) site of) h.databases stands.databases a b choice
+    -- and not more than half of the places on slices that each table lists which a boot may find were read
+    module _ (slices : List SliceName) (places : List Place) (made : AreMadeOn host.site.lines slices places) (lasting : AreLasting host.drives (ListsThese places) (log_of history.databases (key_of host)))
+        (chosen : SliceName → Bool) (calm : (slice : SliceName) (place : SliceAt) → chosen slice ≡ true → HasSlice host.site.lines slice place → (calls place.drive.0).some → ⊥) where
+      on_calm : (slice : SliceName) (place : SliceAt) → chosen slice ≡ true → HasSlice host.site.lines slice place → (b : Bool) → has_drive read.calm place.drive ≡ b → answers_on read.calm survey place.drive.0 ≡ true
+      on_calm slice place is_chosen has true on = calm_answers place.drive on
+      on_calm slice place is_chosen has false off = absurd (calm slice place is_chosen has (fallen (record { name = slice; at = place }) (subst (λ (x : Site). Contains x.lines (record { name = slice; at = place })) site has) off))
 
-    line_never : (spelled : Line) → ComesTo calls host kept spelled answer next → IsTwo answer → ⊥
-    line_never words.Boot is two = boot_never is two
-    line_never (words.Tab lines) is two = tab_never lines is two
-    line_never (words.Exec cmd) is two = came_never cmd is two
+      never_few : length slices < 2 * count_by chosen slices → (readable needed : ℕ) → IsShort survey readable needed → ⊥
+      never_few most readable needed short =
+          let up = most_up host sound site slices places chosen (answers_on read.calm survey) made most (λ slice place is_chosen has. on_calm slice place is_chosen has (has_drive read.calm place.drive) refl) in
+          never_short host.drives history.databases (key_of host) read.calm survey at sound stands.databases is of lasting.firm places (λ v may. lasting.all v may)
+          (subst (λ (x : Site). length places < 2 * count_by (λ (place : Place). is_on (answers_on read.calm survey) (slice_at x.lines place.slice)) places) site up) readable needed short
 
-    answered_never : (text : List ℕ) → IsAnswered calls host kept text answer next → IsTwo answer → ⊥
-    answered_never text (inl (none, quiet, refused)) two = refused_never _ refused.0 two
-    answered_never text (inr (inl (spelled, is, comes))) two = line_never spelled comes two
-    answered_never text (inr (inr (quiet, refused))) two = refused_never _ refused.0 two
+  abbrev By : BootEnd → Type 0
+  By e = (is_memory e ≡ true) ⊎ ((survey : Survey) × IsReadOf calls host l.kept.content l.boots.up survey × IsEndBy calls (λ hand table. WritesTo l.kept.content l.next.content hand.seats) host.site survey e)
 
-module _ (drives : Geometry) (name : List ℕ) (made : Image) (before : List Ran) (fresh : ℕ) (script : Script) (stretch : Stretch) (start close : Counts) (s : Story) (of_table : Contains drives.hosts name) (new_word : IsNewWord name fresh before) (old : stretch.old ≡ Some s) (lived : Lived drives made before (tale_of s))
-    (each : AtEach (OfTales (RunMoment (host_of drives name fresh) script)) stretch.old stretch.before stretch.new stretch.after) where
-  abbrev host : Host
-  host = host_of drives name fresh
+  two_never : (a b : Identity) (e : BootEnd) → By e → Ends (stop.TwoDatabases a b) ≡ answered_by e → ⊥
+  two_never a b (end.TwoDatabases c d) (inl never) is_end = cc (never)
+  two_never a b (end.TwoDatabases c d) (inr (survey, read, choice)) is_end = finds_one host.drives (key_of host) read.calm at survey (of l.boots.up survey read) history.databases stands.databases c d choice
+  two_never a b (end.Adopted o) by is_end = cc (is_end)
+  two_never a b end.Empty by is_end = cc (is_end)
+  two_never a b (end.NoQuorum readable needed) by is_end = cc (is_end)
+  two_never a b (end.Lost active listed) by is_end = cc (is_end)
+  two_never a b end.Spent by is_end = cc (is_end)
+  two_never a b end.Memory by is_end = cc (is_end)
 
-  -- the history at the run's start
-  abbrev begun : (h : History) × StandsAt (host_of drives name 0) h (tale_of s) × AreEach (IsOfRuns name before) h.databases
-  begun = life_start drives name made before (tale_of s) of_table (lived_life drives made before (tale_of s) lived)
+  -- what was read where the boot was short
+  record WasShort : Type 0 where
+    survey : Survey
+    read : IsReadOf calls host l.kept.content l.boots.up survey
+    readable : ℕ
+    needed : ℕ
+    short : IsShort survey readable needed
 
-  -- a point of the run's story, at which the drives read so
-  record IsThere (story : Option Story) (content : Image) : Type 0 where
-    marks : List Mark
-    is : story ≡ Some (marked s marks)
-    reads : IsSame content (contents (tale_of (marked s marks)))
+  few_read : (readable needed : ℕ) (e : BootEnd) → By e → Ends (stop.NoQuorum readable needed) ≡ answered_by e → WasShort
+  few_read readable needed (end.NoQuorum some more) (inl never) is_end = absurd (cc (never))
+  few_read readable needed (end.NoQuorum some more) (inr (survey, read, short)) is_end = record { survey = survey; read = read; readable = some; needed = more; short = short }
+  few_read readable needed (end.TwoDatabases a b) by is_end = absurd (cc (is_end))
+  few_read readable needed (end.Adopted o) by is_end = absurd (cc (is_end))
+  few_read readable needed end.Empty by is_end = absurd (cc (is_end))
+  few_read readable needed (end.Lost active listed) by is_end = absurd (cc (is_end))
+  few_read readable needed end.Spent by is_end = absurd (cc (is_end))
+  few_read readable needed end.Memory by is_end = absurd (cc (is_end))
 
-  -- some history stands there, if the run's story goes on from it
-  stands_there : (front back : List Mark) → stretch.new ≡ Some (marked (marked s front) back) → (h : History) × StandsAt host h (tale_of (marked s front))
-  stands_there front back new =
-      let all = each s old in
-      let both : Some all.0 ≡ Some (marked (marked s front) back) = sym all.1 ∙ new in
-      let same : all.0 ≡ marked (marked s front) back = cc (both) in
-      let marks : all.2.marks ≡ back ++ front = same_marks s all.2.marks (back ++ front) (sym all.2.led ∙ same ∙ marked_more s front back) in
-      let moment = at_prefix (RunMoment host script (tale_of s)) s back front all.2.first (subst (λ (l : List Mark). AtMarks (λ (m : Moment). RunMoment host script (tale_of s) m.tale) s l) marks all.2.each) in
-      let goes = moment.stands begun.0 begun.1 (own_new drives name fresh before begun.0 new_word begun.2) in
-      (history_after_all begun.0 goes.es, goes.stands)
+  -- its end
+  over_two : (over : Ended) (a b : Identity) → status_at over ≡ status.TwoDatabases a b → over ≡ stop.TwoDatabases a b
+  over_two (stop.TwoDatabases c d) a b is_status = cc (is_status)
+  over_two (stop.NoQuorum readable needed) a b is_status = absurd (cc (is_status))
+  over_two (stop.Lost active listed) a b is_status = absurd (cc (is_status))
+  over_two stop.Spent a b is_status = absurd (cc (is_status))
+  over_two stop.Memory a b is_status = absurd (cc (is_status))
 
-  next_never : (now : At) (later : Counts) (next : Kept) (rest : Script) (answer : Answer) → IsThere now.story now.kept.content → ((marks : List Mark) → now.story ≡ Some (marked s marks) → (back : List Mark) × (stretch.new ≡ Some (marked (marked s marks) back)))
-      → (left : Script) → NextLine host now.counts now.kept left answer later next rest → IsTwo answer → ⊥
-  next_never now later next rest answer there behind at_end is two = is
-  next_never now later next rest answer there behind (spent lines bytes) is two = is
-  next_never now later next rest answer there behind (too_long more) is two = refused_never (drive_failures now.counts later) host now.kept next answer _ is.3.0 two
-  next_never now later next rest answer there behind (line text more) is two =
-      let more_of = behind there.marks there.is in
-      let h = stands_there there.marks more_of.0 more_of.1 in
-      answered_never (drive_failures now.counts later) host now.kept next answer h.0 (tale_of (marked s there.marks)) h.1 there.reads refl text is.2 two
+  over_few : (over : Ended) (readable needed : ℕ) → status_at over ≡ status.NoQuorum readable needed → over ≡ stop.NoQuorum readable needed
+  over_few (stop.NoQuorum some more) readable needed is_status = cc (is_status)
+  over_few (stop.TwoDatabases a b) readable needed is_status = absurd (cc (is_status))
+  over_few (stop.Lost active listed) readable needed is_status = absurd (cc (is_status))
+  over_few stop.Spent readable needed is_status = absurd (cc (is_status))
+  over_few stop.Memory readable needed is_status = absurd (cc (is_status))
 
-  lines_there : (n : ℕ) (now then : At) (told : List ℕ) → IsThere now.story now.kept.content → LinesTold host stretch n now told then → IsThere then.story then.kept.content
-  lines_there n now then told there (no_line bytes at) = there
-  lines_there n now then told there (one_more bytes at mid end_at piece rest some one shown lines) =
-      let to = one.passage.in_time.drives 0 (marked s there.marks) there.is in
-      let is = to.1 ∙ ap (λ (u : Story). Some u) (marked_more s there.marks to.0) in
-      lines_there (n + length piece) mid then rest (record { marks = to.0 ++ there.marks; is = is; reads = one.passage.reads (marked s (to.0 ++ there.marks)) is }) lines
+  status_two : (a b : Identity) → end_status ≡ status.TwoDatabases a b → ⊥
+  status_two a b is_status = two_never a b l.boots.end l.boots.by (sym (ap Ends (over_two l.over a b (sym l.as_status ∙ is_status))) ∙ l.boots.answer_is)
 
-  status_never : (refused : Bool) → IsTwoStatus (status_of refused) → ⊥
-  status_never true is = is
-  status_never false is = is
+  was_short : (readable needed : ℕ) → end_status ≡ status.NoQuorum readable needed → WasShort
+  was_short readable needed is_status = few_read readable needed l.boots.end l.boots.by (sym (ap Ends (over_few l.over readable needed (sym l.as_status ∙ is_status))) ∙ l.boots.answer_is)
 
-  ends_never : (refused : Bool) (left : Script) (end_status : RunStatus) → EndsAs refused left end_status → IsTwoStatus end_status → ⊥
-  ends_never refused at_end end_status is two = status_never refused (subst IsTwoStatus is two)
-  ends_never refused (spent lines bytes) end_status is two = (let never : ⊥ = subst IsTwoStatus is two in never)
-  ends_never refused (too_long more) end_status is two = is
-  ends_never refused (line text more) end_status is two = is
+  status_few : (readable needed : ℕ) → end_status ≡ status.NoQuorum readable needed → site_failed host start close
+  status_few readable needed is_status =
+      let w = was_short readable needed is_status in
+      let one = short_fallen l.boots.up w.survey w.read w.readable w.needed w.short in
+      (one.0, one.1, rose one.0.at.drive.0 one.2)
 
-  with_never : (failed : Type 0) (answer : Answer) (next : Kept) (told : List ℕ) (end_status : RunStatus) (last_kept : Kept) → EndsWith failed answer next told end_status last_kept → IsTwoStatus end_status → IsTwo answer
-  with_never failed (Said this) next told end_status last_kept with two = (let never : ⊥ = subst IsTwoStatus with.ended two in absurd never)
-  with_never failed (Ends over) next told end_status last_kept with two = two_over over (subst IsTwoStatus with.ended two)
-
-  over_never : (n : ℕ) (now : At) (told : List ℕ) (end_status : RunStatus) (last_kept : Kept) → IsThere now.story now.kept.content → Over host stretch n close now told end_status last_kept → IsTwoStatus end_status → ⊥
-  over_never n now told end_status last_kept there (unread only quiet stops) two = (let never : ⊥ = subst IsTwoStatus stops.ended two in never)
-  over_never n now told end_status last_kept there (ended how same quiet stops) two = ends_never now.refused now.script end_status how two
-  over_never n now told end_status last_kept there (broken answer later next more is shown only led with) two =
-      next_never now later next more answer there (λ marks is_there. (let to = led.in_time.drives 0 (marked s marks) is_there in (to.0, to.1))) now.script is (with_never (giving_failed later close) answer next told end_status last_kept with two)
-
-  runs_never : (answer : Answer) (now : Counts) (p : Progress) (kept : Kept) (told : List ℕ) (end_status : RunStatus) (last_kept : Kept) → IsThere p.story kept.content → (IsTwo answer → ⊥) → RunsFrom host stretch close answer now p kept script told end_status last_kept → IsTwoStatus end_status → ⊥
-  runs_never (Said outcome.Ok) now p kept told end_status last_kept there never runs two =
-      over_never (length runs.so_far) runs.at runs.rest end_status last_kept (lines_there 0 (behind_boot now p kept script) runs.at runs.so_far there runs.lines) runs.over two
-  runs_never (Said (outcome.Values text)) now p kept told end_status last_kept there never runs two = runs
-  runs_never (Said (outcome.Refused refusal)) now p kept told end_status last_kept there never runs two = runs
-  runs_never (Ends over) now p kept told end_status last_kept there never runs two = never (two_over over (subst IsTwoStatus runs.2.ended two))
-
-  run_never : (told : List ℕ) (end_status : RunStatus) (last_kept : Kept) → IsRun host stretch start close (contents (tale_of s)) script told end_status last_kept → IsTwoStatus end_status → ⊥
-  run_never told end_status last_kept run two =
-      let to = run.point.in_time.drives 0 s old in
-      runs_never run.answer run.booted run.by run.kept told end_status last_kept (record { marks = to.0; is = to.1; reads = run.point.reads (marked s to.0) to.1 })
-      (boot_never (drive_failures start run.booted) host (started (contents (tale_of s))) run.kept run.answer begun.0 (tale_of s) begun.1 (λ drive block. refl) refl run.boots) run.runs two
+-- The calls up to the boot are the first ones of the run.
+same_front : (stretch : Stretch) (s u : Story) (marks back front : List Mark) → stretch.new ≡ Some u → u ≡ marked s marks → stretch.new ≡ Some (marked (marked s front) back) → marks ≡ back ++ front
+same_front stretch s u marks back front new led goes_on =
+    let both : Some u ≡ Some (marked (marked s front) back) = sym new ∙ goes_on in
+    let same : u ≡ marked (marked s front) back = cc (both) in
+    same_marks s marks (back ++ front) (sym led ∙ same ∙ marked_more s front back)
 
 pub runs_find_one : RunsFindOne
 runs_find_one drives name made before fresh script stretch start close s of_table new_word old lived each tale end_status whole a b is =
-    run_never drives name made before fresh script stretch start close s of_table new_word old lived each whole.more end_status whole.last whole.runs (subst IsTwoStatus (sym is) tt)
+    let host = host_of drives name fresh in
+    let l = run_boots host script stretch start close s old whole.more end_status whole.last whole.runs (subst IsOfBootStatus (sym is) tt) in
+    let begun = life_start drives name made before (tale_of s) of_table (lived_life drives made before (tale_of s) lived) in
+    let all = each s old in
+    let Says = λ (m : Moment). RunMoment host script (tale_of s) m.tale in
+    let marks = same_front stretch s all.0 all.2.marks l.back l.marks all.1 all.2.led l.goes_on in
+    let moment = (at_prefix Says s stretch.before l.back l.marks all.2.first (subst (λ (ms : List Mark). AtMarks Says s ms) marks all.2.each)).1 in
+    let goes = moment.stands begun.0 begun.1 (own_new drives name fresh before begun.0 new_word begun.2) in
+    status_two host (own_sound drives name fresh lived.fair) refl stretch s whole.more start close end_status l (history_after_all begun.0 goes.es) goes.stands a b is
+
+module _ (drives : Geometry) (name : List ℕ) (made : Image) (before : List Ran) (fresh : ℕ) (script : Script) (stretch : Stretch) (start close : Counts) (s : Story) (of_table : Contains drives.hosts name) (old : stretch.old ≡ Some s)
+    (each : AtEach (LivesOn drives name made before fresh script stretch start) stretch.old stretch.before stretch.new stretch.after) (more : List ℕ) (end_status : RunStatus) (l : IsLastBoot (host_of drives name fresh) stretch s more start close end_status) where
+  abbrev host : Host
+  host = host_of drives name fresh
+
+  abbrev front : Tale
+  front = tale_of (marked s l.marks)
+
+  abbrev Says : Moment → Type 0
+  Says m = LivesOn drives name made before fresh script stretch start (moment_at (tale_of s) stretch.before) m
+
+  -- the run as it is stopped where the boot began
+  lives : (tally : Tally) × Says (moment_at front tally)
+  lives =
+      let all = each s old in
+      let marks = same_front stretch s all.0 all.2.marks l.back l.marks all.1 all.2.led l.goes_on in
+      at_prefix Says s stretch.before l.back l.marks all.2.first (subst (λ (ms : List Mark). AtMarks Says s ms) marks all.2.each)
+
+  abbrev ran : List Ran
+  ran = ran_now lives.1.run ∷ before
+
+  lived : Lived drives made ran front
+  lived = lives.1.lived front as_it_was
+
+  own : IsSound host.drives
+  own = own_sound drives name fresh lived.fair
+
+  begun : (h : History) × StandsAt (host_of drives name 0) h front × AreEach (IsOfRuns name ran) h.databases
+  begun = life_start drives name made ran front of_table (lived_life drives made ran front lived)
+
+  -- it had told all that the run told
+  bytes : lives.1.run.tells.bytes ≡ more
+  bytes =
+      let here = sym (ap (λ (m : Moment). told m.tale) lives.1.now) ∙ lives.1.run.tells.is_told ∙ ap (λ (m : Moment). told m.tale ++ lives.1.run.tells.bytes) lives.1.started in
+      append_cancel_left (told (tale_of s)) lives.1.run.tells.bytes more (sym here ∙ l.is_told)
+
+  its_lines : exchanges_by name ran ≡ exchanges_by name before ++ exchanges_of script more
+  its_lines =
+      ap (λ (b : Bool). exchanges_by name before ++ (if b then exchanges_of script lives.1.run.tells.bytes else [])) ((bytes_eq-Decides name name).1 refl)
+      ∙ ap (λ (x : List ℕ). exchanges_by name before ++ exchanges_of script x) bytes
+
+  pub few_fallen : (readable needed : ℕ) → end_status ≡ status.NoQuorum readable needed → site_failed host start close
+  few_fallen readable needed is = status_few host own refl stretch s more start close end_status l begun.0 begun.1 readable needed is
+
+  -- where a line made the database on these slices
+  module _ (slices : List SliceName) (is_made : IsMadeOn slices (exchanges_by name before ++ exchanges_of script more)) where
+    was : WasMade drives name ran slices front
+    was = made_before given drives name lived.fair of_table made is_made.made slices is_made.force is_made.count is_made.blocks is_made.asks is_made.told ran front lived
+        (subst (λ (x : List Exchange). Contains x is_made.made) (sym (its_lines ∙ is_made.parts)) (cut_has is_made.before is_made.behind is_made.made))
+
+    pub most_never : MostLieOn drives name (IsCalmOn start close) slices → (readable needed : ℕ) → end_status ≡ status.NoQuorum readable needed → ⊥
+    most_never most readable needed is =
+        let w = was_short host own refl stretch s more start close end_status l was.history was.stands readable needed is in
+        never_few host own refl stretch s more start close end_status l was.history was.stands l.boots.up w.survey w.read slices was.places was.made was.lasting most.chosen
+        (λ slice place is_chosen has failed.
+        most.each slice place is_chosen (in_filter (is_line_of host.drives (key_of host)) host.drives.slices (record { name = slice; at = place }) has).0
+        (rose host own refl stretch s more start close end_status l was.history was.stands place.drive.0 failed)) most.most w.readable w.needed w.short
+
+pub runs_find_enough : RunsFindEnough
+runs_find_enough drives name made before fresh script stretch start close s of_table old each tale end_status whole readable needed is =
+    let l = run_boots (host_of drives name fresh) script stretch start close s old whole.more end_status whole.last whole.runs (subst IsOfBootStatus (sym is) tt) in (
+      few_fallen drives name made before fresh script stretch start close s of_table old each whole.more end_status l readable needed is,
+      λ slices is_made most. most_never drives name made before fresh script stretch start close s of_table old each whole.more end_status l slices is_made most readable needed is,
+    )

@@ -34,25 +34,13 @@ use Rattle.mdv_volumes.proofs.Lists.{contains_behind, contains_first, first_or_b
 use Rattle.mdv_words.specs.declared.command.Command.TheVariants.{Create}
 use Rattle.mdv_theorem.proofs.Lines.{never_in}
 use Rattle.mdv_databases.specs.Meeting.{is_on}
+use Rattle.mdv_databases.proofs.Finding.{count_weaker}
 
 abbrev pub places_in : List Seat → List Place
 places_in seats = map (λ (s : Seat). s.place) seats
 
 count_append : {X : Type 0} (p : X → Bool) (xs ys : List X) → count_by p (xs ++ ys) ≡ count_by p xs + count_by p ys
 count_append p xs ys = sum_by-append (λ x. cond (p x) 1 0) xs ys
-
--- where each that passes one test passes the other
-pub count_weaker : {X : Type 0} (p q : X → Bool) (xs : List X) → ((x : X) → Contains xs x → p x ≡ true → q x ≡ true) → count_by p xs ≤ count_by q xs
-count_weaker p q [] weaker = omega arith
-count_weaker p q (x ∷ xs) weaker =
-    let rest = count_weaker p q xs (λ y has. weaker y (contains_behind x y xs has)) in
-    let one = by (p x) (q x) (weaker x (contains_first x xs)) in
-    omega (arith, count_cons p x xs, count_cons q x xs, rest, one)
-  where
-    by : (a b : Bool) → (a ≡ true → b ≡ true) → cond {A = ℕ} a 1 0 ≤ cond {A = ℕ} b 1 0
-    by true true so = omega arith
-    by true false so = absurd (let never : false ≡ true = so refl in cc (never))
-    by false b so = omega arith
 
 -- a test of a place's slice
 module _ (t : SliceName → Bool) (key : Key) (identity : Identity) (count blocks : ℕ) where

@@ -23,6 +23,7 @@ use Rattle.mdv_words.specs.declared.command.Command.{Command}
 use Rattle.mdv_words.specs.declared.command.Command.TheVariants.{Create, Print, Read, Write}
 use Rattle.mdv_words.specs.declared.command.Command.TheVariants as command
 use Rattle.mdv_theorem.specs.Observed.{MayEnd, RunsEnd}
+use Rattle.mdv_theorem.proofs.Rising.{lines_rose, next_rose, rose_itself, rose_to_more}
 use Rattle.mdv_theorem.proofs.Losing.{HasFailedThere, Holds, IsEndOf, boot_ends, boot_holds, changed_held, holds_open, holds_same, lost_change, lost_creation, made_held}
 
 module _ (host : Host) (is_host : IsOfTable host) (calls : Outcomes) (kept next : Kept) (answer : Answer) where
@@ -137,17 +138,6 @@ module _ (host : Host) (is_host : IsOfTable host) (calls : Outcomes) (kept next 
   answered_holds text holds said (inr (inl (spelled, is, comes))) = line_holds spelled holds said comes
   answered_holds text holds said (inr (inr (quiet, refused))) = stays_holds holds refused.1
 
--- no count fell
-rose_itself : (a : Counts) → RoseTo a a
-rose_itself a = record { drives = λ drive. omega arith; source = omega arith; replies = omega arith }
-
-rose_to_more : (a b c : Counts) → RoseTo a b → RoseTo b c → RoseTo a c
-rose_to_more a b c one other = record {
-  drives = λ drive. (let x = one.drives drive in let y = other.drives drive in omega arith);
-  source = let x = one.source in let y = other.source in omega arith;
-  replies = let x = one.replies in let y = other.replies in omega arith;
-}
-
 module _ (host : Host) (is_host : IsOfTable host) (start end : Counts) where
   -- a call on a drive on which its replicas may lie failed in the run
   abbrev SiteFailed : Type 0
@@ -155,17 +145,6 @@ module _ (host : Host) (is_host : IsOfTable host) (start end : Counts) where
 
   abbrev FailedBetween : Counts → Counts → Type 0
   FailedBetween now then = HasFailedThere host is_host (drive_failures now then)
-
-  next_rose : (now then : Counts) (kept next : Kept) (script rest : Script) (answer : Answer) → NextLine host now kept script answer then next rest → RoseTo now then
-  next_rose now then kept next at_end rest answer is = absurd is
-  next_rose now then kept next (spent lines bytes) rest answer is = absurd is
-  next_rose now then kept next (too_long left) rest answer is = record { drives = is.1.drives; source = (let same = is.1.source in omega arith); replies = (let same = is.1.replies in omega arith) }
-  next_rose now then kept next (line text left) rest answer is = record { drives = is.1.drives; source = (let same = is.1.source in omega arith); replies = (let same = is.1.replies in omega arith) }
-
-  lines_rose : (w : Stretch) (n : ℕ) (now then : At) (told : List ℕ) → LinesTold host w n now told then → RoseTo now.counts then.counts
-  lines_rose w n now then told (no_line bytes at) = rose_itself now.counts
-  lines_rose w n now then told (one_more bytes at mid last piece rest some one shown lines) =
-      rose_to_more now.counts mid.counts then.counts (next_rose now.counts mid.counts now.kept mid.kept now.script mid.script one.answer one.comes) (lines_rose w (n + length piece) mid then rest lines)
 
   next_end : (now then : Counts) (kept next : Kept) (script rest : Script) (answer : Answer) → Holds host is_host kept → NextLine host now kept script answer then next rest → IsEndOf (FailedBetween now then) answer
   next_end now then kept next at_end rest answer holds is = absurd is
@@ -221,12 +200,12 @@ module _ (host : Host) (is_host : IsOfTable host) (start end : Counts) where
     over_end w n now told status last low holds (unread only quiet stops) = absurd (unread_never (rose_within _ _ _ _ low.source (omega arith) (rose_of_once now.counts.source end.source only.source)))
     over_end w n now told status last low holds (ended how same quiet stops) = as_ended now.refused now.script status how
     over_end w n now told status last low holds (broken answer later next more is shown only led with) =
-        with_end now.counts later answer next told status last low (next_rose now.counts later now.kept next now.script more answer is) only (next_end now.counts later now.kept next now.script more answer holds is) with
+        with_end now.counts later answer next told status last low (next_rose host now.counts later now.kept next now.script more answer is) only (next_end now.counts later now.kept next now.script more answer holds is) with
 
     runs_from : (w : Stretch) (answer : Answer) (now : Counts) (p : Progress) (kept : Kept) (script : Script) (told : List ℕ) (status : RunStatus) (last : Kept) → RoseTo start now → IsEndOf (FailedBetween start now) answer
         → (IsSaid answer → Holds host is_host kept) → RunsFrom host w end answer now p kept script told status last → MayEnd SiteFailed status
     runs_from w (Said outcome.Ok) now p kept script told status last low is holds runs =
-        over_end w (length runs.so_far) runs.at runs.rest status last (rose_to_more start now runs.at.counts low (lines_rose w 0 (behind_boot now p kept script) runs.at runs.so_far runs.lines))
+        over_end w (length runs.so_far) runs.at runs.rest status last (rose_to_more start now runs.at.counts low (lines_rose host w 0 (behind_boot now p kept script) runs.at runs.so_far runs.lines))
         (lines_hold w 0 (behind_boot now p kept script) runs.at runs.so_far (holds tt) runs.lines) runs.over
     runs_from w (Said (outcome.Values text)) now p kept script told status last low is holds runs = absurd runs
     runs_from w (Said (outcome.Refused refusal)) now p kept script told status last low is holds runs = absurd runs

@@ -99,7 +99,7 @@ module _ (drives : Geometry) (name : List ℕ) (before : List Ran) (script : Scr
 
     -- or by one of an earlier run
     module _ (old : Contains (exchanges_by name before) is.made) where
-      was : WasMade drives name slices run.t.tale
+      was : WasMade drives name before slices run.t.tale
       was = made_before given drives name sound of_table run.made is.made slices is.force is.count is.blocks is.asks is.told before run.t.tale run.life old
 
       old_lists : Offers host (ListsThese was.places) (contents run.t.tale)

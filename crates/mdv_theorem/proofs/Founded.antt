@@ -15,7 +15,7 @@ use Rattle.mdv_engine_law.proofs.Plain.{nothing_answers}
 use Rattle.mdv_name.specs.declared.geometry.Geometry.{Geometry}
 use Rattle.mdv_port.specs.Script.{Script, line}
 use Rattle.mdv_run_law.proofs.Course.{said_reply}
-use Rattle.mdv_run_law.proofs.Owning.{runs_own}
+use Rattle.mdv_run_law.proofs.Owning.{IsOfRuns, runs_own}
 use Rattle.mdv_run_law.specs.Lives.{IsLife, IsNewWord, Ran, as_it_was, host_of}
 use Rattle.mdv_run_law.specs.Run.{At, Counts, IsAnswered, IsSaid, LineTold, IsNextFront, LinesTold, NextFront, NextLine, Stretch, drive_failures, no_line, one_more}
 use Rattle.mdv_run_law.specs.Standing.{RunMoment}
@@ -34,6 +34,7 @@ use Rattle.mdv_table.specs.Slices.{IsSound}
 use Rattle.mdv_table.specs.declared.table.Table.{Table}
 use Rattle.mdv_table.specs.declared.volume.Volume.{Volume}
 use Rattle.mdv_volumes.proofs.Found.{AreLasting}
+use Rattle.mdv_volumes.proofs.Owners.{AreEach}
 use Rattle.mdv_volumes.specs.Databases.{log_of}
 use Rattle.mdv_volumes.specs.History.{History}
 use Rattle.mdv_words.specs.declared.command.Command.TheVariants.{Create}
@@ -58,11 +59,12 @@ use Rattle.mdv_theorem.proofs.Staying.{its_sound}
 use Rattle.mdv_theorem.proofs.Steps.{take_none, unreplied}
 
 -- each table that a boot may find lists these places, which were made on the slices
-pub record WasMade (drives : Geometry) (name : List ℕ) (slices : List SliceName) (t : Tale) : Type 0 where
+pub record WasMade (drives : Geometry) (name : List ℕ) (before : List Ran) (slices : List SliceName) (t : Tale) : Type 0 where
   pub places : List Place
   pub made : AreMadeOn (host_of drives name 0).site.lines slices places
   pub history : History
   pub stands : StandsAt (host_of drives name 0) history t
+  pub its : AreEach (IsOfRuns name before) history.databases
   pub lasting : AreLasting (host_of drives name 0).drives (ListsThese places) (log_of history.databases (Local name))
 
 -- and so it lasts
@@ -248,7 +250,7 @@ module _ (given : Given) (drives : Geometry) (name : List ℕ) (sound : IsSound 
               record { places = was.places; made = was.made; table = was.table; lists = was.lists; lasts = lasts_between drives name was.table (here ∷ before) m.tale next found was.lasts }
         ]
 
-  pub made_before : (before : List Ran) (t : Tale) → Lived drives image before t → Contains (exchanges_by name before) made → WasMade drives name slices t
+  pub made_before : (before : List Ran) (t : Tale) → Lived drives image before t → Contains (exchanges_by name before) made → WasMade drives name before slices t
   made_before before t life has =
       let is = runs_founded life.told (λ ran u runs. record { fair = life.fair; told = life.told; new = life.new; runs = runs }) before t life.runs has in
       record {
@@ -256,5 +258,6 @@ module _ (given : Given) (drives : Geometry) (name : List ℕ) (sound : IsSound 
         made = is.made;
         history = is.lasts.history;
         stands = is.lasts.stands;
+        its = is.lasts.its;
         lasting = record { is_log = is.lasts.lasting.is_log; firm = is.lasts.lasting.firm; all = λ v may. (is.lasts.lasting.all v may).1 ∙ is.lists };
       }

@@ -36,7 +36,9 @@ mod Leaving
 mod Left
 mod Over
 mod Losing
+mod Rising
 mod Ending
+mod Booted
 mod Alone
 mod Answered
 mod Lasting

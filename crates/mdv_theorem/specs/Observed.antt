@@ -1,5 +1,7 @@
 -- The theorem in a user's words: of scripts, replies and drives that answer, with no word of replicas, numbers or histories.
 use Rattle.std.specs.Prelude.{◌≡◌, ◌≢◌, ◌⊎◌, ◌↔◌, ◌+◌, ◌*◌, ◌≤◌, ◌<◌, ℕ, Bool, None, List, [], ◌∷◌, ◌++◌, length, map, flat_map, Option, Contains, AllPairs, false, true, count_by, Some}
+use Rattle.mdv_base.specs.Causes.{Rose}
+use Rattle.mdv_base.specs.declared.drive.DriveNo.{DriveNo}
 use Rattle.mdv_base.specs.declared.drive.SliceName.{SliceName}
 use Rattle.mdv_base.specs.declared.mark.Identity.{Identity}
 use Rattle.mdv_base.specs.declared.name.Named.TheVariants as named
@@ -26,7 +28,7 @@ use Rattle.mdv_status.specs.Values.{printed_reply, values_reply}
 use Rattle.mdv_words.specs.declared.command.Command.{Command}
 use Rattle.mdv_words.specs.declared.command.Command.TheVariants.{Create, Print, Read}
 use Rattle.mdv_theorem.specs.Exchanges.{Asks, Exchange, IsAbout, IsAcknowledged, IsTold, TellsBlock, exchanges_by, exchanges_of}
-use Rattle.mdv_theorem.specs.Running.{AllAnswered, HasAnswered, Lived, Running, Runs, WentOn, exchanges_now, ran_on}
+use Rattle.mdv_theorem.specs.Running.{AllAnswered, HasAnswered, Lived, LivesOn, Running, Runs, WentOn, exchanges_now, ran_on}
 use Rattle.mdv_theorem.specs.Words.{HasBegun, HasDatabase, HeldAtFirst, IsMadeOn, IsOrWasWritten, IsThere, Listed, MayLie, listed_line}
 
 -- How a run may end whose script could be read and whose replies could be told: with NoQuorum where fewer places were readable than are needed; with Panic only where fewer than half are active and a
@@ -56,6 +58,26 @@ RunsFindOne =
     → stretch.old ≡ Some s → Lived drives made before (tale_of s) → AtEach (OfTales (RunMoment (host_of drives name fresh) script)) stretch.old stretch.before stretch.new stretch.after
     → (tale : Option Tale) (status : RunStatus) → IsWholeRun (host_of drives name fresh) stretch start end (tale_of s) script tale status → (a b : Identity) → status ≡ TwoDatabases a b → ⊥
 
+-- more than half of these slices lie on such drives
+pub record MostLieOn (drives : Geometry) (name : List ℕ) (Is : DriveNo → Type 0) (slices : List SliceName) : Type 0 where
+  pub chosen : SliceName → Bool
+  pub most : length slices < 2 * count_by chosen slices
+  pub each : (slice : SliceName) (at : SliceAt) → chosen slice ≡ true → HasSlice (own_view drives name).slices slice at → Is at.drive
+
+-- no call failed on the drive between these counts
+abbrev pub IsCalmOn : Counts → Counts → DriveNo → Type 0
+IsCalmOn start end drive = Rose (start.drives drive.0) (end.drives drive.0) → ⊥
+
+-- A run that is one of a life at each of its moments ends because too few places are readable only where a call failed on a drive on which replicas may lie; and where lines of it, or of earlier runs,
+-- made the database on some slices, not where no call failed on the drives of more than half of these.
+abbrev pub RunsFindEnough : Type 0
+RunsFindEnough =
+    (drives : Geometry) (name : List ℕ) (made : Image) (before : List Ran) (fresh : ℕ) (script : Script) (stretch : Stretch) (start end : Counts) (s : Story) → Contains drives.hosts name → stretch.old ≡ Some s
+    → AtEach (LivesOn drives name made before fresh script stretch start) stretch.old stretch.before stretch.new stretch.after
+    → (tale : Option Tale) (status : RunStatus) → (whole : IsWholeRun (host_of drives name fresh) stretch start end (tale_of s) script tale status) → (readable needed : ℕ) → status ≡ NoQuorum readable needed
+    → site_failed (host_of drives name fresh) start end
+    × ((slices : List SliceName) → IsMadeOn slices (exchanges_by name before ++ exchanges_of script whole.more) → MostLieOn drives name (IsCalmOn start end) slices → ⊥)
+
 -- A line of a run under way that was answered, behind other lines of it and those of earlier runs.
 pub record Answered {drives : Geometry} {name : List ℕ} {before : List Ran} {script : Script} (run : Running drives name before script) (one : Exchange) (earlier : List Exchange) : Type 0 where
   pub here : List Exchange
@@ -71,10 +93,8 @@ RunsAnswer =
     → ((one : Exchange) → Contains (exchanges_of script whole.more) one → one.reply ≡ None → ⊥) × ((status ≡ SomeRefused) ↔ ((reply : List ℕ) × Contains (replies_in whole.more) reply × IsRefusal reply))
 
 -- more than half of these slices lie on drives that answered in the run
-pub record MostAnswered {drives : Geometry} {name : List ℕ} {before : List Ran} {script : Script} (run : Running drives name before script) (slices : List SliceName) : Type 0 where
-  pub chosen : SliceName → Bool
-  pub most : length slices < 2 * count_by chosen slices
-  pub each : (slice : SliceName) (at : SliceAt) → chosen slice ≡ true → HasSlice (own_view drives name).slices slice at → HasAnswered run at.drive
+abbrev pub MostAnswered : {drives : Geometry} {name : List ℕ} {before : List Ran} {script : Script} → Running drives name before script → List SliceName → Type 0
+MostAnswered {drives} {name} run slices = MostLieOn drives name (HasAnswered run) slices
 
 -- Enough drives answered in the run for the host's database: each on which its replicas may lie; or, where these lines made it, those of more than half of the slices on which they did.
 abbrev pub HaveAnswered : {drives : Geometry} {name : List ℕ} {before : List Ran} {script : Script} → Running drives name before script → List Exchange → Type 0

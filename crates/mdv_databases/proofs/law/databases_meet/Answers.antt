@@ -1,5 +1,9 @@
+use Rattle.mdv_databases.proofs.Finding.{never_short}
 use Rattle.mdv_databases.proofs.Meeting.{databases_meet}
 use Rattle.mdv_databases.proofs.law.databases_meet.Goals as goal
 
 pub returns : goal.returns
-returns c = record { shown = databases_meet }
+returns c = record {
+  shown = databases_meet;
+  enough = λ g all key places up survey readable needed t sound stand is of firm lists most. never_short g all key up survey t sound stand is of firm places lists most readable needed;
+}

@@ -10,5 +10,5 @@ returns c = record {
   later_formatting = λ read site identity log w old new line k first lists done some f has chain. later_formatting (Reads read) site identity log w old line k first lists done some f has chain new;
   later_formatted = λ read site identity log w old new line k first lists done some f has chain. later_formatted (Reads read) site identity log w old line k first lists done some f has chain new;
   may = may_write_first;
-  writes = λ read site identity log w image p table done c some has named. writes_first (Reads read) site identity log w image p table done c some has named;
+  writes = λ read site identity log w image p table done c some has named formed. writes_first (Reads read) site identity log w image p table done c some has named formed;
 }

@@ -1,0 +1,376 @@
+-- A boot that reads all drives on which it looks finds each place that the newest table lists.
+use Rattle.std.proofs.Common.{◌≡◌, inl, inr, ⊎_elim, ℕ, ◌+◌, ◌*◌, ◌≤◌, ◌<◌, ◌&&◌, Bool, true, false, cond, List, [], ◌∷◌, Option, None, Some, MatchOption, Contains, length, slice_get, refl, sym, ◌∙◌, ap, subst, arith}
+use Rattle.std.specs.List.{cons_option, find}
+use Rattle.std.specs.Prelude.{count_by, nat_le}
+use Rattle.std.proofs.lemmas.Bool.{and_from, cases_lt, cond-true, false≢true, le-leb, lt-ltb}
+use Rattle.std.proofs.lemmas.List.{length-map}
+use Rattle.std.proofs.lemmas.List.Folds.{list_any_at}
+use Rattle.mdv_name.specs.Sound.{IsSound}
+use Rattle.mdv_record.proofs.Lengths.{length-record_text}
+use Rattle.mdv_record.specs.Parsing.{read_of}
+use Rattle.mdv_record.specs.Record.{IsRecordOf}
+use Rattle.mdv_record.specs.Text.{record_text}
+use Rattle.mdv_shelf.proofs.Everywhere.{last_image}
+use Rattle.mdv_shelf.proofs.Moments.{some_is}
+use Rattle.mdv_shelf.specs.Tale.{last}
+use Rattle.mdv_shown.proofs.Choice.{chosen_voted}
+use Rattle.mdv_shown.proofs.Slots.{reads_one, shows_one}
+use Rattle.mdv_shown.specs.Choice.{HaveRead, IsChosen, Seen, spot_seen, spots_seen}
+use Rattle.mdv_shown.specs.Found.{IsOwn}
+use Rattle.mdv_shown.specs.Shown.{SlotShows}
+use Rattle.mdv_shown.specs.declared.site.Site.{Site}
+use Rattle.mdv_standing.specs.Adopting.{AreOwn, IsFoundVersion, IsLook}
+use Rattle.mdv_standing.specs.Below.{IsBelow, Mark, Open, Slot, after_all, gate_of, table_at}
+use Rattle.mdv_standing.specs.Databases.{log_in}
+use Rattle.mdv_standing.specs.Listed.{HasPlace, HavePlaces}
+use Rattle.mdv_standing.specs.Matching.{tables_of, version_at}
+use Rattle.mdv_standing.specs.Worlds.{IsWorld, Turned}
+use Rattle.mdv_standing.proofs.Reaching.{standing}
+use Rattle.mdv_standing.proofs.Voting.{all_that, numbered}
+use Rattle.mdv_standing.proofs.Adopting.{finds}
+use Rattle.mdv_standing.proofs.Looking.{looks}
+use Rattle.mdv_look.proofs.Bringing.{count_cons}
+use Rattle.mdv_store.proofs.Adoptions.{got_contains, same_identity_self}
+use Rattle.mdv_store.proofs.Boots.{count_all}
+use Rattle.mdv_store.proofs.Passes.{mapped}
+use Rattle.mdv_store.proofs.Reading.{lies_at, seen_of}
+use Rattle.mdv_store.proofs.Records.{spelled_of}
+use Rattle.mdv_store.proofs.Rooms.{room_least}
+use Rattle.mdv_store.proofs.Seating.{seats_places}
+use Rattle.mdv_store.proofs.Sitting.{contains_behind, contains_first, first_or_behind}
+use Rattle.mdv_store.proofs.Spotting.{line_found}
+use Rattle.mdv_store_law.specs.Log.{Version, is_firm}
+use Rattle.mdv_store.specs.Boot.{IsShort, is_seated, seat_for, seats_of}
+use Rattle.mdv_store.specs.Opened.{least_room}
+use Rattle.mdv_store.specs.Seats.{active_of, replicas_of}
+use Rattle.mdv_store.specs.Text.{blocks_for}
+use Rattle.mdv_replica.specs.Form.{text_of}
+use Rattle.mdv_replica.specs.Replica.{slot_blocks}
+use Rattle.mdv_survey.specs.Choice.{IsChoiceAmong, IsTheOne, failing, is_found_at, is_of, is_read, is_there, place_of, readable_of, same_identity, same_place}
+use Rattle.mdv_survey.specs.declared.choosing.Choice.TheVariants as chosen
+use Rattle.mdv_survey.specs.Newest.{HasTable, IsGreatest, IsMarked, IsTableIn}
+use Rattle.mdv_survey.specs.Replica.{at_of}
+use Rattle.mdv_survey.specs.Survey.{IsSurvey, IsSurveyOf, answers_in}
+use Rattle.mdv_survey.specs.declared.replica.Newest.{Newest}
+use Rattle.mdv_survey.specs.declared.replica.Survey.{Survey}
+use Rattle.mdv_table.proofs.Testing.{same_place-true}
+use Rattle.mdv_table.specs.Plan.{places_of}
+use Rattle.mdv_table.specs.Table.{IsListsOf}
+use Rattle.mdv_table.specs.declared.plan.Lists.{Lists}
+use Rattle.mdv_base.specs.DriveSet.{Drives}
+use Rattle.mdv_databases.specs.Below.{Core, Database, Geometry, Identity, Image, Key, Log, One, Place, Replica, Seat, Spells, Table, Tale, log_of, site_of, slice_at}
+use Rattle.mdv_databases.specs.Booting.{AllAnswer, IsShortOf}
+use Rattle.mdv_databases.specs.Meeting.{MayBeFound, MostOn, answers_on, is_on}
+use Rattle.mdv_databases.specs.Standing.{Stand}
+use Rattle.mdv_databases.specs.Going.{IsCurrentOf}
+use Rattle.mdv_databases.proofs.Booting.{shown_current}
+use Rattle.mdv_databases.proofs.Lists.{current_in, current_key}
+use Rattle.mdv_databases.proofs.Meeting.{Meets, firm_found, firm_some, meets, opens}
+
+below_more : (a b c : Mark) → IsBelow a b → IsBelow b c → IsBelow a c
+below_more a b c one other = grind arith
+
+-- where one passes the test, one is found
+find_has : {X : Type 0} (p : X → Bool) (xs : List X) (x : X) → Contains xs x → p x ≡ true → (y : X) × (find p xs ≡ Some y)
+find_has p [] x has is = absurd (omega (arith, has.1))
+find_has p (y ∷ ys) x has is = by (p y) refl (λ behind. find_has p ys x behind is)
+  where
+    by : (b : Bool) → p y ≡ b → (Contains ys x → (z : _) × (find p ys ≡ Some z)) → (z : _) × (cond b (Some y) (find p ys) ≡ Some z)
+    by true test rest = (y, refl)
+    by false test rest = elim (first_or_behind y x ys has) [
+      | inl here ↦ absurd (false≢true (sym test ∙ ap p here ∙ is))
+      | inr behind ↦ rest behind
+    ]
+
+-- this replica may take the place
+abbrev Takes : List Replica → Identity → ℕ → Place → Type 0
+Takes rs identity text p = (r : Replica) × Contains rs r × (is_seated identity p text r ≡ true)
+
+module _ (rs : List Replica) (identity : Identity) (text : ℕ) (on : Place → Bool) where
+  -- at least as many places are active as have one
+  active_least : (places : List Place) → ((p : Place) → Contains places p → on p ≡ true → Takes rs identity text p) → count_by on places ≤ active_of (seats_of rs identity text places)
+  active_least [] each = omega arith
+  active_least (p ∷ places) each =
+      let rest = active_least places (λ q has. each q (contains_behind p q places has)) in
+      subst (λ (n : ℕ). n ≤ active_of (seats_of rs identity text (p ∷ places))) (sym (count_cons on p places)) (by (on p) refl (find (is_seated identity p text) rs) refl rest)
+    where
+      never : on p ≡ true → find (is_seated identity p text) rs ≡ None → ⊥
+      never is none =
+          let one = each p (contains_first p places) is in
+          let found = find_has (is_seated identity p text) rs one.0 one.1 one.2 in
+          cc (sym none ∙ found.1)
+
+      by : (b : Bool) → on p ≡ b → (o : Option Replica) → find (is_seated identity p text) rs ≡ o → count_by on places ≤ active_of (seats_of rs identity text places)
+          → cond {A = ℕ} b 1 0 + count_by on places ≤ length (cons_option o (replicas_of (seats_of rs identity text places)))
+      by true is None none rest = absurd (never is none)
+      by true is (Some r) some rest = omega (arith, rest)
+      by false isnt None none rest = omega (arith, rest)
+      by false isnt (Some r) some rest = omega (arith, rest)
+
+-- where each that passes the one test passes the other
+pub count_weaker : {X : Type 0} (p q : X → Bool) (xs : List X) → ((x : X) → Contains xs x → p x ≡ true → q x ≡ true) → count_by p xs ≤ count_by q xs
+count_weaker p q [] weaker = omega arith
+count_weaker p q (x ∷ xs) weaker =
+    let rest = count_weaker p q xs (λ y has. weaker y (contains_behind x y xs has)) in
+    let one = by (p x) (q x) (weaker x (contains_first x xs)) in
+    omega (arith, count_cons p x xs, count_cons q x xs, rest, one)
+  where
+    by : (a b : Bool) → (a ≡ true → b ≡ true) → cond {A = ℕ} a 1 0 ≤ cond {A = ℕ} b 1 0
+    by true true so = omega arith
+    by true false so = absurd (false≢true (so refl))
+    by false b so = omega arith
+
+module _ (g : Geometry) (all : List Database) (key : Key) (up : Drives) (survey : Survey) (t : Tale) (sound : IsSound g) (stand : Stand g all t) (is : IsSurvey (site_of g key) up survey) (of : IsSurveyOf g (site_of g key) up (last t) survey) where
+  abbrev site : Site
+  site = site_of g key
+
+  abbrev rs : List Replica
+  rs = survey.replicas
+
+  -- the drive answers with the slice of the place
+  abbrev answers : ℕ → Bool
+  answers = answers_on up survey
+
+  abbrev on : Place → Bool
+  on place = is_on answers (slice_at site.lines place.slice)
+
+  -- the newest table, and a replica that shows it
+  module _ (newest : Newest) (newest_is : survey.newest ≡ Some newest) (replica : Replica) (the : IsTheOne rs newest replica) where
+    abbrev here : Image
+    here = last t
+
+    abbrev identity : Identity
+    identity = replica.head.master.identity
+
+    same_one : (r : Replica) → slice_get rs newest.replica ≡ Some r → r ≡ replica
+    same_one r is_r = cc (is_r, the.one_of)
+
+    among : Contains rs replica
+    among = got_contains rs newest.replica replica the.one_of
+
+    own : IsOwn (Spells g) site identity replica.line replica.number here replica.first replica.head
+    own = record { found = of.each replica among; of_identity = refl }
+
+    marks : IsGreatest rs newest
+    marks = subst (λ (o : Option Newest). IsMarked rs o) newest_is is.marked
+
+    shows : SlotShows (Spells g) (at_of replica) (here replica.line.at.drive.0) replica.head newest.slot newest.mark newest.table
+    shows =
+        let table : IsTableIn g here rs newest = subst (λ (o : Option Newest). HasTable g here rs o) newest_is of.table in
+        let there = subst (λ (r : Replica). SlotShows (Spells g) (at_of r) (here r.line.at.drive.0) r.head newest.slot newest.mark newest.table) (same_one table.replica table.one_of)
+        (record { bytes = table.shows.bytes; gate = table.shows.gate; text = table.shows.text }) in
+        there
+
+    -- so it is of the key's current database
+    current : IsCurrentOf all key identity
+    current = shown_current g all key identity t stand (record { replica = replica; found = own.found; its = same_identity_self identity; shown = opens replica.head newest.slot newest.mark shows.bytes shows.gate })
+
+    abbrev log : Log
+    log = current.database.log
+
+    world : (w : Core) × IsWorld (Spells g) site identity log w here
+    world =
+        let d = current.database in
+        let has = (stand.worlds here (last_image t)).worlds d (current_in key all d current.current) in
+        (has.0, subst (λ (i : Identity). IsWorld (Spells g) site i log has.0 here) current.as_begun (subst (λ (k : Key). IsWorld (Spells g) (site_of g k) d.identity log has.0 here) (current_key key all d current.current) has.1))
+
+    -- a boot that reads this replica alone finds the table's version
+    abbrev s : Seen
+    s = seen_of replica
+
+    owns : AreOwn (Spells g) site identity here (s ∷ [])
+    owns x has = elim (first_or_behind s x [] has) [
+      | inl same ↦ subst (λ (y : Seen). IsOwn (Spells g) site identity y.line y.number here y.first y.head) same own
+      | inr none ↦ absurd (omega (arith, none.1))
+    ]
+
+    greatest : (o : Seen) (other : Slot) (m : Mark) (n : ℕ) → Contains (s ∷ []) o → gate_of o.head other ≡ Open m n → IsBelow newest.mark m → ⊥
+    greatest o other m n has is_open below = elim (first_or_behind s o [] has) [
+      | inl same ↦ marks.greatest replica among other m n (subst (λ (y : Seen). gate_of y.head other ≡ Open m n) (sym same) is_open) below
+      | inr none ↦ absurd (omega (arith, none.1))
+    ]
+
+    chosen_one : IsChosen (s ∷ []) s newest.slot newest.mark
+    chosen_one = record {
+      one_of = contains_first s [];
+      bytes = marks.bytes;
+      gate = subst (λ (r : Replica). gate_of r.head newest.slot ≡ Open newest.mark marks.bytes) (same_one marks.replica marks.one_of) marks.gate;
+      greatest = greatest;
+    }
+
+    look : Turned (Spells g) site identity log world.0 here (IsLook (spots_seen (s ∷ []))) (λ v. HaveRead (Spells g) site identity (tables_of log.family) v here (s ∷ []))
+    look = looks (Spells g) site identity log world.0 here world.1 (s ∷ []) owns
+
+    abbrev v : Core
+    v = after_all world.0 look.events
+
+    version : IsFoundVersion (Spells g) log here s newest.slot newest.mark
+    version = finds (Spells g) site identity log v here look.world (s ∷ []) look.known s newest.slot newest.mark chosen_one
+
+    same_table : version.version.table ≡ newest.table
+    same_table = (shows_one (Spells g) (reads_one (read_of g)) (at_of replica) (here replica.line.at.drive.0) replica.head newest.slot newest.mark newest.mark version.version.table newest.table version.shows shows).1
+
+    -- so each place that the log's tables list has its replica, as that one shows a table
+    listed : HavePlaces (Spells g) site identity log here
+    listed =
+        let voted = chosen_voted (Spells g) site identity (tables_of log.family) v here (s ∷ []) look.known s newest.slot newest.mark chosen_one in
+        ⊎_elim (λ have. have)
+        (λ none. absurd (none.none (spot_seen s) voted.number (record { holds = (look.world.shows.each replica.line replica.number replica.first replica.head own).holds; newest = voted.newest }))) look.world.listed
+
+    its_place : (p : Place) → Contains (places_of newest.table.plan.lists) p → HasPlace (Spells g) site identity here p
+    its_place p has = listed version.version p version.is.one_of (subst (λ (u : Table). Contains (places_of u.plan.lists) p) (sym same_table) has)
+
+    drive_of : (p : Place) (h : HasPlace (Spells g) site identity here p) → on p ≡ answers_in up survey.failed h.line.at.drive
+    drive_of p h = ap (λ (q : Place). on q) h.is ∙ ap (is_on answers) (line_found g sound key h.line h.own.found.one_of)
+
+    -- and a boot finds it there, where the drive answers
+    record IsThere (p : Place) : Type 0 where
+      replica_there : Replica
+      found : Contains rs replica_there
+      its : is_of identity replica_there ≡ true
+      lies : place_of replica_there ≡ p
+      long : replica_there.first.blocks ≡ p.blocks
+
+    there : (p : Place) → Contains (places_of newest.table.plan.lists) p → on p ≡ true → IsThere p
+    there p has up_there =
+        let h = its_place p has in
+        let r : Replica = record { line = h.line; number = h.number; first = h.first; head = h.head } in
+        let in_rs = of.all r h.own.found (sym (drive_of p h) ∙ up_there) in
+        record {
+          replica_there = r;
+          found = in_rs;
+          its = subst (λ (i : Identity). same_identity i identity ≡ true) (sym h.own.of_identity) (same_identity_self identity);
+          lies = lies_at site r (is.each r in_rs).seated ∙ sym h.is;
+          long = ap (λ (q : Place). q.blocks) (sym h.is);
+        }
+
+    its_record : IsRecordOf g (text_of (at_of replica) newest.slot shows.bytes (here replica.line.at.drive.0)) newest.table
+    its_record = spelled_of g (text_of (at_of replica) newest.slot shows.bytes (here replica.line.at.drive.0)) newest.table sound shows.text
+
+    abbrev places : List Place
+    places = places_of newest.table.plan.lists
+
+    found_at : (p : Place) → Contains places p → on p ≡ true → is_found_at rs identity p ≡ true
+    found_at p has up_there =
+        let x = there p has up_there in
+        list_any_at (is_there identity p) rs x.found.0 x.replica_there x.found.1
+        (ap (is_there identity p) x.found.2 ∙ and_from (is_of identity x.replica_there) (same_place (place_of x.replica_there) p) x.its ((same_place-true (place_of x.replica_there) p).1 x.lies))
+
+    -- each place has room for the text
+    abbrev text : ℕ
+    text = blocks_for (length (record_text newest.table))
+
+    abbrev seats : List Seat
+    seats = seats_of rs identity text places
+
+    fits : (p : Place) → Contains places p → text ≤ slot_blocks p.blocks
+    fits p has =
+        let least = room_least seats (seat_for rs identity text p) (mapped (seat_for rs identity text) places p has) in
+        let room = ap least_room (seats_places rs identity text places) in
+        let in_room = its_record.in_room in
+        let bytes = length-record_text newest.table in
+        omega (arith, least, room, in_room, bytes)
+
+    seated : (p : Place) → Contains places p → on p ≡ true → Takes rs identity text p
+    seated p has up_there =
+        let x = there p has up_there in (
+          x.replica_there,
+          x.found,
+          and_from (is_of identity x.replica_there) (same_place (place_of x.replica_there) p && nat_le text (slot_blocks x.replica_there.first.blocks)) x.its
+              (and_from (same_place (place_of x.replica_there) p) (nat_le text (slot_blocks x.replica_there.first.blocks)) ((same_place-true (place_of x.replica_there) p).1 x.lies)
+              (subst (λ (n : ℕ). nat_le text (slot_blocks n) ≡ true) (sym x.long) (le-leb text (slot_blocks p.blocks) (fits p has)))),
+        )
+
+    -- so more than half of the places are enough
+    none_fails : (lists : Lists) → ((p : Place) → Contains (places_of lists) p → on p ≡ true → is_found_at rs identity p ≡ true) → length (places_of lists) < 2 * count_by on (places_of lists) → failing rs identity lists ≡ None
+    none_fails (One list) each most =
+        let least = count_weaker on (is_found_at rs identity) list each in
+        cond-true (is_read rs identity list) None (Some list) (lt-ltb (length list) (2 * readable_of rs identity list) (omega (arith, least, most)))
+
+    fails_nowhere : MostOn g key answers places → (list : List Place) → failing rs identity newest.table.plan.lists ≡ Some list → ⊥
+    fails_nowhere most list fails = (let none = none_fails newest.table.plan.lists found_at most in cc (fails, none))
+
+    has_room : MostOn g key answers places → 2 * active_of seats ≤ length seats → ⊥
+    has_room most few =
+        let least = active_least rs identity text on places seated in
+        let count = length-map places (seat_for rs identity text) in
+        omega (arith, few, least, count, most)
+
+    -- and there are some
+    some_places : (lists : Lists) → IsListsOf g lists → 1 ≤ length (places_of lists)
+    some_places (One list) are = are.some
+
+    all_most : AllAnswer g key up survey → MostOn g key answers places
+    all_most all_answer =
+        let each = count_all on places (λ p has. (let h = its_place p has in drive_of p h ∙ all_answer h.line h.own.found.one_of)) in
+        let some = some_places newest.table.plan.lists its_record.of_geometry.lists in
+        omega (arith, each, some)
+
+    -- the version is one that a boot may find, where it reads more than half of the places of each of these
+    module _ (firm : is_firm log ≡ true) (list : List Place) (lists : (x : Version) → MayBeFound log.family x → x.table.plan.lists ≡ One list) (most : MostOn g key answers list) where
+      f : (f : ℕ) × (world.0.firm ≡ Some f)
+      f = firm_some g site identity log world.0 here world.1 firm
+
+      met : Meets g site identity log world.0 here world.1 f.0 f.1 answers
+      met = meets g site identity log world.0 here world.1 f.0 f.1 list (lists (version_at log.family f.0) (firm_found g site identity log world.0 here world.1 f.0 f.1)) answers most
+
+      -- it shows no greater mark
+      not_above : (m : Mark) → m ≡ (table_at world.0.family met.number).mark → IsBelow newest.mark m → ⊥
+      not_above m is below = marks.greatest met.replica (of.all met.replica met.found met.on) met.slot (table_at world.0.family met.number).mark met.bytes met.gate (subst (λ (k : Mark). IsBelow newest.mark k) is below)
+
+      not_older : (x : Version) → Contains log.family x → x.is_written ≡ true → IsBelow version.version.mark x.mark → ⊥
+      not_older x has written below =
+          let k = numbered site log world.0 world.1.reached world.1.matches x has in
+          let other = world.1.matches.answered k.0 k.1 (ap (λ (y : Version). y.is_written) k.2 ∙ written) in
+          let firms : other.0 ≡ f.0 = some_is world.0.firm other.0 f.0 other.1 f.1 in
+          let over : IsBelow newest.mark (table_at world.0.family k.0).mark = subst (λ (m : Mark). IsBelow newest.mark m) (sym k.3) (subst (λ (m : Mark). IsBelow m x.mark) version.is.marked below) in
+          let up_to = met.above in
+          let at_most = other.2 in
+          elim (cases_lt k.0 met.number) [
+            | inl less ↦
+                not_above (table_at world.0.family met.number).mark refl
+                (below_more newest.mark (table_at world.0.family k.0).mark (table_at world.0.family met.number).mark over ((standing site world.0 world.1.reached).family.marks k.0 met.number less met.known))
+            | inr more ↦ (let same : k.0 ≡ met.number = omega (arith, more, up_to, at_most, firms) in not_above (table_at world.0.family k.0).mark (ap (λ (n : ℕ). (table_at world.0.family n).mark) same) over)
+          ]
+
+      its_lists : newest.table.plan.lists ≡ One list
+      its_lists = ap (λ (u : Table). u.plan.lists) (sym same_table) ∙ lists version.version (version.is.one_of, all_that (λ x. x.is_written ≡ true → IsBelow version.version.mark x.mark → ⊥) log.family not_older)
+
+      enough_read : MostOn g key answers places
+      enough_read = subst (λ (l : Lists). MostOn g key answers (places_of l)) (sym its_lists) most
+
+    short_of : (MostOn g key answers places → ⊥) → IsShortOf g all key up survey
+    short_of few = record {
+      newest = newest;
+      newest_is = newest_is;
+      version = version.version;
+      one_of = subst (λ (l : Log). Contains l.family version.version) (sym (ap log_in current.current)) version.is.one_of;
+      same = same_table;
+      few = few;
+      away = λ all_answer. few (all_most all_answer);
+    }
+
+  not_few : (o : Option Newest) → survey.newest ≡ o → (readable needed : ℕ) → MatchOption o (chosen.NoQuorum readable needed ≡ chosen.Empty) (λ (n : Newest). IsChoiceAmong rs n (chosen.NoQuorum readable needed)) → IsShortOf g all key up survey
+  not_few None is_newest readable needed never = absurd (cc (never))
+  not_few (Some newest) is_newest readable needed few = short_of newest is_newest few.replica few.the (λ most. fails_nowhere newest is_newest few.replica few.the most few.list few.fails)
+
+  pub short_by : (readable needed : ℕ) → IsShort survey readable needed → IsShortOf g all key up survey
+  short_by readable needed (inl choice) = not_few survey.newest refl readable needed choice
+  short_by readable needed (inr (was, newest, replica, listed_seats, hand, few, readable_is, needed_is)) =
+      short_of newest hand.newest_is replica hand.the (λ most. has_room newest hand.newest_is replica hand.the most (subst (λ (l : List Seat). 2 * active_of l ≤ length l) hand.seats_are few))
+
+  -- nor is it short where more than half of the places answer that each table lists which a boot may find
+  module _ (firm : is_firm (log_of all key) ≡ true) (list : List Place) (lists : (x : Version) → MayBeFound (log_of all key).family x → x.table.plan.lists ≡ One list) (most : MostOn g key answers list) where
+    most_read : (newest : Newest) (newest_is : survey.newest ≡ Some newest) (replica : Replica) (the : IsTheOne rs newest replica) → MostOn g key answers (places_of newest.table.plan.lists)
+    most_read newest newest_is replica the =
+        let is_log : log_of all key ≡ (current newest newest_is replica the).database.log = ap log_in (current newest newest_is replica the).current in
+        enough_read newest newest_is replica the (subst (λ (l : Log). is_firm l ≡ true) is_log firm) list (subst (λ (l : Log). (x : Version) → MayBeFound l.family x → x.table.plan.lists ≡ One list) is_log lists) most
+
+    few_never : (o : Option Newest) → survey.newest ≡ o → (readable needed : ℕ) → MatchOption o (chosen.NoQuorum readable needed ≡ chosen.Empty) (λ (n : Newest). IsChoiceAmong rs n (chosen.NoQuorum readable needed)) → ⊥
+    few_never None is_newest readable needed never = cc (never)
+    few_never (Some newest) is_newest readable needed few = fails_nowhere newest is_newest few.replica few.the (most_read newest is_newest few.replica few.the) few.list few.fails
+
+    pub never_short : (readable needed : ℕ) → IsShort survey readable needed → ⊥
+    never_short readable needed (inl choice) = few_never survey.newest refl readable needed choice
+    never_short readable needed (inr (was, newest, replica, listed_seats, hand, few, readable_is, needed_is)) =
+        has_room newest hand.newest_is replica hand.the (most_read newest hand.newest_is replica hand.the) (subst (λ (l : List Seat). 2 * active_of l ≤ length l) hand.seats_are few)
