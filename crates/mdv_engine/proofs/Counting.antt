@@ -1,17 +1,16 @@
 -- How the calls of a command add up, and what a refusal says of them.
 use Rattle.std.proofs.Common.{◌≡◌, ◌≢◌, ◌⊎◌, ◌≤◌, inl, inr, ◌+◌, ◌*◌, ℕ, List, length, Option, Some, None, refl, sym, subst, ap, arith}
 use Rattle.mdv_shelf.specs.Calls.{OnReplies, Part}
+use Rattle.mdv_shelf.specs.Between.{RoseByAtLeast}
 use Rattle.mdv_shelf.specs.Made.{and_more, made_of}
 use Rattle.mdv_shelf.specs.Shelves.{MadeCalls}
 use Rattle.mdv_shelf.specs.declared.shelf.Shelf.{Ghosts}
 use Rattle.mdv_shelf.proofs.Between.{between_none, between_of, between_then, between_wider, rose_at_least}
 use Rattle.mdv_shelf.proofs.Made.{with_more}
 use Rattle.mdv_store.proofs.Losing.{rose_then}
-use Rattle.mdv_store.specs.Counts.{drives_lost}
 use Rattle.mdv_store.specs.Create.{blanked_asked}
-use Rattle.mdv_store.specs.Text.{blocks_for}
 use Rattle.mdv_words.specs.declared.command.Command.TheVariants.{MakeStripe, Print}
-use Rattle.mdv_engine.specs.Below.{Answer, Command, Create, Ended, Host, IoFault, Memory, Opened, OutOfMemory, Outcomes, Read, Refusal, VolId, Write, active_of, lines_asked, record_text}
+use Rattle.mdv_engine.specs.Below.{Answer, Command, Create, Ended, Host, IoFault, Memory, Opened, OutOfMemory, Outcomes, Read, Refusal, VolId, Write, lines_asked}
 use Rattle.mdv_engine_law.specs.Answers.{IsQuiet, refusing}
 use Rattle.mdv_engine_law.specs.Efforts.{CommandCalls, FaultCalls, LossCalls, MadeCallsOf, places_on, replied_to, wanting_calls}
 use Rattle.mdv_engine_law.specs.Refusals.{blocks_refusal}
@@ -24,7 +23,7 @@ use Rattle.mdv_engine_law.specs.declared.answer.Reply.{Reply}
 use Rattle.mdv_engine_law.specs.declared.answer.Reply.TheVariants as reply
 use Rattle.mdv_engine_law.proofs.Efforts.{command_too, done_too, fault_too}
 use Rattle.mdv_engine.specs.Ends.{IsSaid}
-use Rattle.mdv_engine.specs.Counts.{DoneCalls, HasWrittenAll, IsCommandCounted, IsQuietRefusal, IsUnlooked, blocks_of, calls_of}
+use Rattle.mdv_engine.specs.Counts.{DoneCalls, HasTriedAll, HasWrittenAll, IsCommandCounted, IsQuietRefusal, IsUnlooked, blocks_of, calls_of}
 use Rattle.mdv_engine.specs.Engine.{HasBlocksCause}
 
 -- what is only said has a reply
@@ -169,16 +168,18 @@ module _ {S : Type 0} (shelf : Ghosts S) where
   done_then a b c host command before now done told = done_too (made_of shelf a b) (and_more 1 (made_of shelf a c)) (with_more shelf.calls shelf.written a b c 1 told) command host before now done
 
   -- a telling writes nothing
-  pub wrote_then : (a b c : S) (command : Command) (before now : Option Opened) → HasWrittenAll shelf a b command before now → MadeCalls shelf b c 1 0 → HasWrittenAll shelf a c command before now
-  wrote_then a b c (MakeStripe volume slice) (Some o) (Some n) wrote told =
-      let all = (2 + blocks_for (length (record_text n.table))) * active_of n.seats + drives_lost o.seats n.seats in
-      rose_then all 0 all (shelf.written a) (shelf.written b) (shelf.written c) (omega arith) wrote (rose_at_least 0 0 (shelf.written b) (shelf.written c) (omega arith) told.in_blocks)
-  wrote_then a b c (MakeStripe volume slice) (Some o) None wrote told = tt
-  wrote_then a b c (MakeStripe volume slice) None now wrote told = tt
-  wrote_then a b c (Create slices force count blocks) before now wrote told = tt
-  wrote_then a b c (Read volume at count) before now wrote told = tt
-  wrote_then a b c (Write volume at block) before now wrote told = tt
-  wrote_then a b c (Print names) before now wrote told = tt
+  written_then : (a b c : S) (all : ℕ) → RoseByAtLeast all (shelf.written a) (shelf.written b) → MadeCalls shelf b c 1 0 → RoseByAtLeast all (shelf.written a) (shelf.written c)
+  written_then a b c all wrote told = rose_then all 0 all (shelf.written a) (shelf.written b) (shelf.written c) (omega arith) wrote (rose_at_least 0 0 (shelf.written b) (shelf.written c) (omega arith) told.in_blocks)
+
+  pub wrote_then : (a b c : S) (host : Host) (command : Command) (before now : Option Opened) → HasWrittenAll shelf a b host command before now → MadeCalls shelf b c 1 0 → HasWrittenAll shelf a c host command before now
+  wrote_then a b c host (MakeStripe volume slice) (Some o) (Some n) wrote told = written_then a b c _ wrote told
+  wrote_then a b c host (MakeStripe volume slice) (Some o) None wrote told = tt
+  wrote_then a b c host (MakeStripe volume slice) None now wrote told = tt
+  wrote_then a b c host (Create slices force count blocks) before (Some n) wrote told = written_then a b c _ wrote told
+  wrote_then a b c host (Create slices force count blocks) before None wrote told = tt
+  wrote_then a b c host (Read volume at count) before now wrote told = tt
+  wrote_then a b c host (Write volume at block) before now wrote told = tt
+  wrote_then a b c host (Print names) before now wrote told = tt
 
   -- the calls by an answer that is this one
   pub counted_as : (old new : S) (host : Host) (command : Command) (this answer : Answer) → answer ≡ this → (before now : Option Opened) → IsCommandCounted shelf old new host command this before now → IsCommandCounted shelf old new host command answer before now
@@ -250,7 +251,7 @@ module _ {S : Type 0} (shelf : Ghosts S) where
     command_most (Said (outcome.Refused IoFault)) took = fault_most old new host command before took
     command_most (Said (outcome.Refused OutOfMemory)) took = wanting_most old new host command before _ took.0
     command_most (Said (outcome.Refused other)) same = none_within old new _ _ same
-    command_most (Over (ended.Lost active listed)) took = loss_most old new host command before took
+    command_most (Over (ended.Lost active listed)) took = loss_most old new host command before took.0
     command_most (Over ended.Spent) same = none_within old new _ _ same
     command_most (Over ended.Memory) same = none_within old new _ _ same
     command_most (Over (ended.NoQuorum readable needed)) same = none_within old new _ _ same
@@ -266,7 +267,7 @@ module _ {S : Type 0} (shelf : Ghosts S) where
     command_calls (Said outcome.Ok) counted = counted.exactly
     command_calls (Said (outcome.Values text)) counted = counted.exactly
     command_calls (Said (outcome.Refused refusal)) counted = refused_calls refusal counted
-    command_calls (Over (ended.Lost active listed)) counted = counted
+    command_calls (Over (ended.Lost active listed)) counted = counted.0
     command_calls (Over ended.Spent) same = none_within old new 0 0 same
     command_calls (Over ended.Memory) same = none_within old new 0 0 same
     command_calls (Over (ended.NoQuorum readable needed)) same = none_within old new 0 0 same
@@ -280,7 +281,7 @@ module _ {S : Type 0} (shelf : Ghosts S) where
     wanting_told failed answer piece told counted = (subst Counted (told_refusal failed answer OutOfMemory piece told) counted).0
 
     -- and where the run is over
-    pub lost_told : (failed : Type 0) (answer : Answer) (active listed : ℕ) (piece : List ℕ) → IsTold failed answer (reply.Panic active listed) piece → Counted answer → LossCalls (made_of shelf old new) command host before
+    pub lost_told : (failed : Type 0) (answer : Answer) (active listed : ℕ) (piece : List ℕ) → IsTold failed answer (reply.Panic active listed) piece → Counted answer → LossCalls (made_of shelf old new) command host before × HasTriedAll shelf old new host command before active
     lost_told failed answer active listed piece told counted = subst Counted (told_lost failed answer active listed piece told) counted
 
     pub spent_told : (failed : Type 0) (answer : Answer) (piece : List ℕ) → IsTold failed answer reply.Spent piece → Counted answer → new ≡ old

@@ -2,6 +2,7 @@ pub mod ReadJudging
 pub mod Asked
 pub mod Booting
 pub mod Creating
+mod Formats
 pub mod Makes
 pub mod Committing
 pub mod Commits

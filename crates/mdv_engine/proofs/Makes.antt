@@ -1,29 +1,36 @@
 -- A creation that the engine makes of its store, put together: its moments, its end, its answer and its calls.
-use Rattle.std.proofs.Common.{◌≡◌, ◌≤◌, ◌<◌, ◌+◌, ◌^◌, ℕ, Bool, List, length, Option, Some, None, Ok, Err, refl, sym, subst, ap, ◌∙◌, arith}
+use Rattle.std.proofs.Common.{◌≡◌, ◌≤◌, ◌<◌, ◌+◌, ◌*◌, ◌^◌, ℕ, Bool, List, length, Option, Some, None, Ok, Err, refl, sym, subst, ap, ◌∙◌, arith}
 use Rattle.std.specs.Prelude.{IfSome}
 use Rattle.mdv_shelf.proofs.Moments.{ends_both, moments_end, moments_weaker}
+use Rattle.mdv_shelf.specs.Between.{RoseByAtLeast}
 use Rattle.mdv_shelf.specs.Drives.{KeptAmong}
 use Rattle.mdv_shelf.specs.Shelves.{AtEachTale, AtEnd, DriveFailures}
 use Rattle.mdv_shelf.specs.declared.shelf.Shelf.{Ghosts}
-use Rattle.mdv_store.specs.Create.{AreAsked, CreateEnds, CreateMoment, IsCreated, IsCreationCounted, WereFormed, drives_asked, seats_asked}
-use Rattle.mdv_store.specs.Seats.{AreTheirs}
+use Rattle.mdv_store.proofs.Passes.{left_as}
+use Rattle.mdv_store.specs.Counts.{drives_lost}
+use Rattle.mdv_store.specs.Create.{AreAsked, CreateEnds, CreateMoment, IsCreated, IsCreationCounted, WereFormed, blanked_asked, drives_asked, seats_asked, table_of}
+use Rattle.mdv_standing.specs.Creating.{first_mark}
+use Rattle.mdv_store.specs.Seats.{AreTheirs, TakesSlot}
+use Rattle.mdv_store.specs.Text.{blocks_for}
 use Rattle.mdv_store.specs.declared.creating.CreateFault.TheVariants as unmade
 use Rattle.mdv_words.specs.Line.{IsCount, IsLength}
 use Rattle.mdv_engine_law.specs.Answers.{accepted, refusing}
+use Rattle.mdv_engine_law.specs.Efforts.{places_on}
 use Rattle.mdv_engine_law.specs.Line.{AreCalmBeside, ToMake}
 use Rattle.mdv_engine_law.specs.declared.answer.Answer.TheVariants.{Over}
 use Rattle.mdv_engine_law.specs.declared.answer.Ended.TheVariants as ended
 use Rattle.mdv_engine_law.specs.declared.answer.Outcome.TheVariants as outcome
 use Rattle.mdv_engine_law.proofs.Plain.{fault_plain, memory_plain}
-use Rattle.mdv_engine.specs.Below.{Answer, AreLaid, CameTo, CarriedTo, CarryMoment, Create, CreateFault, Identity, IoFault, IsAllowed, IsOpenedAt, IsReady, Key, Knows, Memory, Opened, OutOfMemory, SliceLine, SliceName, Tale, identity_of, kept_at, key_of, lines_asked}
-use Rattle.mdv_engine.specs.Counts.{IsCommandCounted}
+use Rattle.mdv_engine.specs.Below.{Answer, AreLaid, CameTo, CarriedTo, CarryMoment, Create, CreateFault, Identity, IoFault, IsAllowed, IsOpenedAt, IsReady, Key, Knows, Memory, Opened, OutOfMemory, Seat, SliceLine, SliceName, Table, Tale, active_of, identity_of, kept_at, key_of, lines_asked, record_text}
+use Rattle.mdv_engine.specs.Counts.{HasWrittenTo, IsCommandCounted, WereTried, formats_on}
 use Rattle.mdv_engine.specs.Ends.{CreationEnds, HasAnswered, LeavesMade, made_at}
 use Rattle.mdv_engine.specs.Engine.{IsHeldBy, IsLostOnSite, IsWell, answer_of, case_at}
 use Rattle.mdv_engine.specs.declared.engine.Engine.{Engine}
 use Rattle.mdv_engine.proofs.Counting as counting
 use Rattle.mdv_engine.proofs.Creating as creating
 use Rattle.mdv_engine.proofs.Creating.{begun, with_new}
-use Rattle.mdv_engine.proofs.Ending.{command_ends, lost_ends}
+use Rattle.mdv_engine.proofs.Ending.{command_ends, done_ends, lost_ends}
+use Rattle.mdv_engine.proofs.Formats.{formed_calls, formed_three, formed_wrote}
 
 -- what is told of the engine as it stands is so of the one before
 pub to_old : (v e : Engine) → e ≡ v → (lines : List SliceLine) (slices : List SliceName) → lines ≡ lines_asked e.host slices → (P : Key → Identity → List SliceLine → Type 0)
@@ -69,7 +76,7 @@ module _ {S : Type 0} (shelf : Ghosts S) (a b : S) (v : Engine) (ready : IsReady
   wanting_ends force free same calm = command_ends (DriveFailures shelf a b) v (Create slices force count blocks) (outcome.Refused OutOfMemory) (now (begun v.state)) (shelf.tale a) (shelf.tale b)
       (creating.unbegun_line v.host v.state slices force count blocks (shelf.tale a) (shelf.tale b) same free (DriveFailures shelf a b) calm)
       (creating.unbegun_carried v.host v.state slices force count blocks (shelf.tale a) (shelf.tale b) same)
-      (λ on u. tt)
+      (λ on u. absurd on)
 
   module _ (held : (force : Bool) × Free force) where
     nothing_open : v.state.opened ≡ None
@@ -117,12 +124,13 @@ module _ {S : Type 0} (shelf : Ghosts S) (a b : S) (v : Engine) (ready : IsReady
     pub made_ends : (o : Opened) → IsCreated shelf a b key identity lines count blocks (Ok o) → AtEnd shelf (CreateEnds key identity lines count blocks (Ok o)) a b → CreationEnds shelf a b v slices force count blocks accepted (now (with_new v.state o))
     made_ends o created ends =
         let all = with_formed (CreateEnds key identity lines count blocks (Ok o)) created.formed.0 ends in
-        command_ends (DriveFailures shelf a b) v (Create slices force count blocks) outcome.Ok (now (with_new v.state o)) (shelf.tale a) (shelf.tale b)
+        done_ends (DriveFailures shelf a b) v (Create slices force count blocks) accepted (now (with_new v.state o)) (shelf.tale a) (shelf.tale b)
         (with_moment (λ t u. CreateEnds key identity lines count blocks (Ok o) t u × Formed u) (λ t u. Knows v.host v.state t → CameTo (DriveFailures shelf a b) v.host (kept_at v.state t) (Create slices force count blocks) accepted (kept_at (with_new v.state o) u))
         (λ t u moment end known. creating.made_line v.host (shelf.sizes a) ready v.state slices force count blocks free form.0 form.1 form.2 t u moment (DriveFailures shelf a b) o created.came calm end.0 end.1) all)
         (with_moment (λ t u. CreateEnds key identity lines count blocks (Ok o) t u × Formed u) (CarriedTo v.host (ToMake key lines count blocks) v.state accepted (with_new v.state o))
         (λ t u moment end. creating.made_carried v.host (shelf.sizes a) ready v.state slices force count blocks free form.0 form.1 form.2 t u moment (DriveFailures shelf a b) o created.came calm end.0 end.1) all)
-        (λ on u. tt)
+        (λ active listed is. absurd (cc (is)))
+        (creating.formed_end v.host (shelf.sizes a) ready v.state slices force count blocks free form.0 form.1 form.2 shelf a b (within_one v.state.begun small) created.formed.0)
 
     failed_ends : IsCreated shelf a b key identity lines count blocks (Err unmade.Failed) → AtEnd shelf (CreateEnds key identity lines count blocks (Err unmade.Failed)) a b → CreationEnds shelf a b v slices force count blocks (refusing IoFault) (now (begun v.state))
     failed_ends created ends = command_ends (DriveFailures shelf a b) v (Create slices force count blocks) (outcome.Refused IoFault) (now (begun v.state)) (shelf.tale a) (shelf.tale b)
@@ -130,7 +138,7 @@ module _ {S : Type 0} (shelf : Ghosts S) (a b : S) (v : Engine) (ready : IsReady
         (λ t u moment end. creating.failed_line v.host (shelf.sizes a) ready v.state slices force count blocks free form.0 form.1 form.2 t u moment (DriveFailures shelf a b) created.came end) ends)
         (with_moment (CreateEnds key identity lines count blocks (Err unmade.Failed)) (CarriedTo v.host (ToMake key lines count blocks) v.state (refusing IoFault) (begun v.state))
         (λ t u moment end. creating.failed_carried v.host (shelf.sizes a) ready v.state slices force count blocks free form.0 form.1 form.2 t u moment (DriveFailures shelf a b) created.came end) ends)
-        (λ on u. tt)
+        (λ on u. absurd on)
 
     given_up : (active listed : ℕ) → IsCreated shelf a b key identity lines count blocks (Err (unmade.Lost active listed)) → CreationEnds shelf a b v slices force count blocks (Over (ended.Lost active listed)) (now (begun v.state))
     given_up active listed created =
@@ -183,13 +191,44 @@ module _ {S : Type 0} (shelf : Ghosts S) (a b : S) (v : Engine) (ready : IsReady
   abbrev Counted : Bool → Answer → Option Opened → Type 0
   Counted force answer opened = IsCommandCounted shelf a b v.host (Create slices force count blocks) answer v.state.opened opened
 
-  unmade_calls : (fault : CreateFault) → IsCreationCounted shelf a b lines count blocks (Err fault) → (force : Bool) (opened : Option Opened) → Counted force (answer_of fault) opened
-  unmade_calls unmade.Failed counted force opened = counted
-  unmade_calls (unmade.Lost active listed) counted force opened = counted
-  unmade_calls unmade.Memory counted force opened = (counting.none_within shelf a b 0 0 counted, ap shelf.tale counted)
+  -- what was written to each place that is left, behind the formats
+  tried : (active listed : ℕ) → (f : WereFormed shelf a b key identity lines count blocks) × (active ≡ active_of f.now) × (listed ≡ length f.now) → WereTried shelf a b (formats_on lines count) (seats_asked key identity lines count blocks) active
+  tried active listed (formed, active_is, listed_is) = record {
+    now = formed.now;
+    left = left_as (DriveFailures shelf a b) (DriveFailures shelf a b) (TakesSlot first_mark (length (record_text (table_of (seats_asked key identity lines count blocks))))) (λ r n. Unit {0}) (seats_asked key identity lines count blocks) formed.now
+        (λ r has some. some) (λ r has none. none) (λ r n took. tt) formed.tried;
+    active_is = active_is;
+    wrote = formed_three shelf a b key identity lines count blocks form.1.0 formed;
+  }
 
-  pub unmade_counted : (fault : CreateFault) (answer : Answer) → answer ≡ answer_of fault → IsCreationCounted shelf a b lines count blocks (Err fault) → (force : Bool) (opened : Option Opened) → Counted force answer opened
-  unmade_counted fault answer is counted force opened = subst (λ (x : Answer). Counted force x opened) (sym is) (unmade_calls fault counted force opened)
+  unmade_calls : (fault : CreateFault) → IsCreated shelf a b key identity lines count blocks (Err fault) → IsCreationCounted shelf a b lines count blocks (Err fault) → (force : Bool) (opened : Option Opened) → Counted force (answer_of fault) opened
+  unmade_calls unmade.Failed created counted force opened = counted
+  unmade_calls (unmade.Lost active listed) created counted force opened = (counted, (identity, tried active listed created.formed))
+  unmade_calls unmade.Memory created counted force opened = (counting.none_within shelf a b 0 0 counted, ap shelf.tale counted)
 
-  pub made_counted : (o : Opened) → IsCreationCounted shelf a b lines count blocks (Ok o) → (force : Bool) → Counted force accepted (Some o)
-  made_counted o counted force = record { exactly = record { all = counted.0; some = counted.1 }; most = counting.creation_most shelf a b v.host slices count _ counted.1; wrote = tt }
+  pub unmade_counted : (fault : CreateFault) (answer : Answer) → answer ≡ answer_of fault → IsCreated shelf a b key identity lines count blocks (Err fault) → IsCreationCounted shelf a b lines count blocks (Err fault) → (force : Bool) (opened : Option Opened) → Counted force answer opened
+  unmade_counted fault answer is created counted force opened = subst (λ (x : Answer). Counted force x opened) (sym is) (unmade_calls fault created counted force opened)
+
+  -- those of one that is done, told of what it made
+  module _ (o : Opened) (created : IsCreated shelf a b key identity lines count blocks (Ok o)) where
+    abbrev f : WereFormed shelf a b key identity lines count blocks
+    f = created.formed.0
+
+    -- told of the database and its places
+    of_made : (P : Key → Identity → Table → List Seat → Type 0) → P key identity (table_of (seats_asked key identity lines count blocks)) f.now → P o.key o.identity o.table o.seats
+    of_made P it =
+        let seats = subst (λ (ss : List Seat). P key identity (table_of (seats_asked key identity lines count blocks)) ss) created.formed.1 it in
+        subst (λ (x : Opened). P x.key x.identity x.table o.seats) (sym created.came.is) seats
+
+    pub made_counted : IsCreationCounted shelf a b lines count blocks (Ok o) → (force : Bool) → Counted force accepted (Some o)
+    made_counted counted force = record {
+      exactly = record {
+        all = counted.0;
+        some = record {
+          at_least = of_made (λ k i t ss. RoseByAtLeast (2 * blanked_asked lines count + 6 * places_on lines count + (6 * active_of ss + drives_lost (seats_asked k i lines count blocks) ss)) (shelf.calls a) (shelf.calls b)) (formed_calls shelf a b key identity lines count blocks form.1.0 f);
+          at_most = counted.1.at_most;
+        };
+      };
+      most = counting.creation_most shelf a b v.host slices count _ counted.1;
+      wrote = of_made (λ k i t ss. HasWrittenTo shelf a b (formats_on lines count) (2 + blocks_for (length (record_text t))) (seats_asked k i lines count blocks) ss) (formed_wrote shelf a b key identity lines count blocks form.1.0 f);
+    }

@@ -1,19 +1,20 @@
 -- How many calls on the drives a command and a boot make, by what they came to.
-use Rattle.std.specs.Prelude.{◌≡◌, ◌+◌, ◌*◌, ℕ, true, length, Option, Some, None, Result, Ok, Err}
+use Rattle.std.specs.Prelude.{◌≡◌, ◌+◌, ◌*◌, ℕ, true, List, length, Option, Some, None, Result, Ok, Err}
 use Rattle.mdv_base.specs.DriveSet.{no_drives}
 use Rattle.mdv_base.specs.declared.refusal.Refusal.{Refusal}
 use Rattle.mdv_base.specs.declared.refusal.Refusal.TheVariants.{IoFault, OutOfMemory}
 use Rattle.mdv_base.specs.declared.name.VolId.{VolId}
 use Rattle.mdv_shelf.specs.Between.{RoseByAtLeast}
 use Rattle.mdv_shelf.specs.Made.{Made, made_of}
-use Rattle.mdv_shelf.specs.Shelves.{MadeCalls}
+use Rattle.mdv_shelf.specs.Shelves.{DriveFailures, MadeCalls}
 use Rattle.mdv_shelf.specs.Tale.{Tale, last}
 use Rattle.mdv_shelf.specs.declared.shelf.Shelf.{Ghosts}
 use Rattle.mdv_words.specs.declared.command.Command.{Command}
 use Rattle.mdv_words.specs.declared.command.Command.TheVariants as command
 use Rattle.mdv_store.specs.BootCounts.{most_blocks, most_reads}
 use Rattle.mdv_store.specs.Counts.{drives_lost}
-use Rattle.mdv_store.specs.Create.{blanked_asked}
+use Rattle.mdv_store.specs.Create.{blanked_asked, seats_asked}
+use Rattle.mdv_store.specs.Seats.{AreLeft}
 use Rattle.mdv_store.specs.Text.{blocks_for}
 use Rattle.mdv_survey.specs.Counts.{AreLinesBy}
 use Rattle.mdv_engine_law.specs.Efforts.{FaultCalls, LossCalls, MadeCallsOf, places_on, wanting_calls}
@@ -24,7 +25,7 @@ use Rattle.mdv_engine_law.specs.declared.answer.Outcome.TheVariants as outcome
 use Rattle.mdv_engine_law.specs.Answers.{accepted, refusing}
 use Rattle.mdv_engine_law.specs.declared.answer.Reply.{Reply}
 use Rattle.mdv_engine_law.specs.declared.answer.Reply.TheVariants as reply
-use Rattle.mdv_engine.specs.Below.{Create, Host, Memory, Opened, Read, Write, active_of, lines_asked, record_text}
+use Rattle.mdv_engine.specs.Below.{Create, Host, Identity, Memory, Opened, Read, Seat, SliceLine, Write, active_of, key_of, lines_asked, record_text}
 
 -- the most calls that a command makes, and the most blocks that it writes
 abbrev pub calls_of : Host → Option Opened → Command → ℕ
@@ -43,19 +44,42 @@ blocks_of host opened (Read volume at count) = 0
 blocks_of host opened (Write volume at block) = 1
 blocks_of host opened (command.Print names) = 0
 
--- A change that is done wrote its table to each place that is left, and began to write it on each drive that it left meanwhile.
-abbrev pub HasWrittenAll : {S : Type 0} → Ghosts S → S → S → Command → Option Opened → Option Opened → Type 0
-HasWrittenAll shelf old new (command.MakeStripe volume slice) (Some before) (Some now) =
-    RoseByAtLeast ((2 + blocks_for (length (record_text now.table))) * active_of now.seats + drives_lost before.seats now.seats) (shelf.written old) (shelf.written new)
-HasWrittenAll shelf old new other before now = Unit {0}
+-- how many blocks a creation writes before its table: a master where it is blanked, and each place as it is formatted
+abbrev pub formats_on : List SliceLine → ℕ → ℕ
+formats_on lines count = blanked_asked lines count + 5 * places_on lines count
 
--- The calls of a command that was done: exactly so many, and no more than it may make at all; a change wrote to each place so.
+-- Behind so many blocks as many at least were written as it takes to write so many to each of these places that is left, and one to each drive that was left meanwhile.
+abbrev pub HasWrittenTo : {S : Type 0} → Ghosts S → S → S → ℕ → ℕ → List Seat → List Seat → Type 0
+HasWrittenTo shelf old new before each seats now = RoseByAtLeast (before + (each * active_of now + drives_lost seats now)) (shelf.written old) (shelf.written new)
+
+-- A change that is done wrote as many blocks as its table takes at each place that is left, and one for each drive that it left meanwhile; and so did a creation behind its formats.
+abbrev pub HasWrittenAll : {S : Type 0} → Ghosts S → S → S → Host → Command → Option Opened → Option Opened → Type 0
+HasWrittenAll shelf old new host (Create slices force count blocks) before (Some now) =
+    HasWrittenTo shelf old new (formats_on (lines_asked host slices) count) (2 + blocks_for (length (record_text now.table))) (seats_asked now.key now.identity (lines_asked host slices) count blocks) now.seats
+HasWrittenAll shelf old new host (command.MakeStripe volume slice) (Some before) (Some now) = HasWrittenTo shelf old new 0 (2 + blocks_for (length (record_text now.table))) before.seats now.seats
+HasWrittenAll shelf old new host other before now = Unit {0}
+
+-- A table was written to these places behind so many blocks, and so many have it, those on whose drives no call failed: as many blocks were written as two gates and a block of text for each, and one for each drive that was left.
+pub record WereTried {S : Type 0} (shelf : Ghosts S) (old new : S) (before : ℕ) (seats : List Seat) (active : ℕ) : Type 0 where
+  pub now : List Seat
+  pub left : AreLeft (DriveFailures shelf old new) (λ r n. Unit {0}) seats now
+  pub active_is : active ≡ active_of now
+  pub wrote : HasWrittenTo shelf old new before 3 seats now
+
+-- so it is where too few places took the table of a command
+abbrev pub HasTriedAll : {S : Type 0} → Ghosts S → S → S → Host → Command → Option Opened → ℕ → Type 0
+HasTriedAll shelf old new host (Create slices force count blocks) before active =
+    (identity : Identity) × WereTried shelf old new (formats_on (lines_asked host slices) count) (seats_asked (key_of host) identity (lines_asked host slices) count blocks) active
+HasTriedAll shelf old new host (command.MakeStripe volume slice) (Some o) active = WereTried shelf old new 0 o.seats active
+HasTriedAll shelf old new host other before active = Unit {0}
+
+-- The calls of a command that was done: exactly so many, and no more than it may make at all; a creation and a change wrote to each place so.
 pub record DoneCalls {S : Type 0} (shelf : Ghosts S) (old new : S) (host : Host) (command : Command) (before now : Option Opened) : Type 0 where
   pub exactly : MadeCallsOf (made_of shelf old new) command host before now
   pub most : (made_of shelf old new).within 0 (calls_of host before command) (blocks_of host before command)
-  pub wrote : HasWrittenAll shelf old new command before now
+  pub wrote : HasWrittenAll shelf old new host command before now
 
--- The calls of a command, by what it came to, and what was open before and is then: exactly so many, and so many blocks, where it was done, and no more where one failed. Without memory
+-- The calls of a command, by what it came to, and what was open before and is then: exactly so many, and so many blocks, where it was done, and no more where one failed, nor fewer than the places took that are left. Without memory
 -- nothing is written. A command that is refused for another cause does nothing at all: it doesn't even read.
 abbrev pub IsCommandCounted : {S : Type 0} → Ghosts S → S → S → Host → Command → Answer → Option Opened → Option Opened → Type 0
 IsCommandCounted shelf old new host command (Said outcome.Ok) before now = DoneCalls shelf old new host command before now
@@ -63,7 +87,7 @@ IsCommandCounted shelf old new host command (Said (outcome.Values text)) before 
 IsCommandCounted shelf old new host command (Said (outcome.Refused IoFault)) before now = FaultCalls (made_of shelf old new) command host
 IsCommandCounted shelf old new host command (Said (outcome.Refused OutOfMemory)) before now = (made_of shelf old new).within 0 (wanting_calls command) 0 × (shelf.tale new ≡ shelf.tale old)
 IsCommandCounted shelf old new host command (Said (outcome.Refused other)) before now = new ≡ old
-IsCommandCounted shelf old new host command (Over (ended.Lost active listed)) before now = LossCalls (made_of shelf old new) command host before
+IsCommandCounted shelf old new host command (Over (ended.Lost active listed)) before now = LossCalls (made_of shelf old new) command host before × HasTriedAll shelf old new host command before active
 IsCommandCounted shelf old new host command (Over other) before now = new ≡ old
 
 -- the same of a read, before its answer is made

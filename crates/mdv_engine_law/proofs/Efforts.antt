@@ -81,7 +81,8 @@ module _ (calls more : Outcomes) (cause : AreWithin calls more) (one other : Mad
     clean = is.clean;
     by = up_more calls more cause host is.end is.up is.clean is.by;
     tied = is.tied;
-    still = λ unwritten. too.within _ _ _ (is.still unwritten);
+    within = too.within _ _ _ is.within;
+    wrote = λ written. too.wrote (is.wrote written);
     exactly = λ clean. (let by = is.exactly clean in (by.0, by.1, end_too one other too _ is.end by.2));
   }
 

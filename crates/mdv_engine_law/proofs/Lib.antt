@@ -29,7 +29,9 @@ pub mod Growing
 pub mod Changing
 pub mod Transfer
 pub mod Keeping
+mod Taking
 pub mod Rebooting
 pub mod Staying
+pub mod Opening
 pub mod Kept
 pub mod Volumes

@@ -1,5 +1,5 @@
 -- What a boot of the store answered, as a line tells it: which drives came up, what was read of them, and what came of that.
-use Rattle.std.proofs.Common.{◌≡◌, ◌⊎◌, inl, inr, ◌≤◌, ℕ, Bool, true, false, List, Contains, Some, refl, sym, ◌∙◌, ap, subst, arith}
+use Rattle.std.proofs.Common.{◌≡◌, ◌⊎◌, inl, inr, ◌≤◌, ◌+◌, ◌*◌, ℕ, length, Bool, true, false, List, Contains, Some, refl, sym, ◌∙◌, ap, subst, arith}
 use Rattle.std.specs.Bool.{MatchBool}
 use Rattle.mdv_base.specs.Causes.{RoseOnce}
 use Rattle.mdv_shelf.proofs.Moments.{moments_end, some_is}
@@ -11,7 +11,7 @@ use Rattle.mdv_shelf.specs.Shelves.{DriveFailures}
 use Rattle.mdv_shelf.specs.declared.shelf.Shelf.{Ghosts}
 use Rattle.mdv_look.proofs.Among.{is_one_of}
 use Rattle.mdv_store.proofs.Few.{reads_between}
-use Rattle.mdv_store.specs.BootCounts.{IsBootCounted, IsEndCounted}
+use Rattle.mdv_store.specs.BootCounts.{IsBootCounted, IsEndCounted, most_reads}
 use Rattle.mdv_store.specs.Boot.{IfAdopted, IsEndBy, IsOnce, is_memory}
 use Rattle.mdv_store.specs.Booted.{IsBooted, IsReadAt}
 use Rattle.mdv_store.specs.Booting.{BootEnds, BootMoment, IsBootedTo, boot_area, has_written}
@@ -22,11 +22,12 @@ use Rattle.mdv_store.specs.declared.booting.Booted.{Booted}
 use Rattle.mdv_survey.specs.declared.replica.Survey.{Survey}
 use Rattle.mdv_engine_law.specs.Below.{BootEnd, DriveNo, Key, Seat, Site, Table, Tale, has_drive, last}
 use Rattle.mdv_engine_law.specs.Answers.{accepted}
-use Rattle.mdv_engine_law.specs.Efforts.{BootCalls, EndCalls}
+use Rattle.mdv_engine_law.specs.Efforts.{BootCalls, EndCalls, in_hand, least_of, most_of}
 use Rattle.mdv_engine_law.specs.Line.{IsLeftBy, IsReadOf, IsRebooted, IsUpBy, Memory, WritesTo, answered_by, booted_with, contents, kept_at, opened_by}
 use Rattle.mdv_engine_law.specs.declared.answer.Answer.{Answer}
 use Rattle.mdv_engine_law.specs.declared.host.Host.{Host}
 use Rattle.mdv_engine_law.proofs.Keeping.{open_on, same_beside}
+use Rattle.mdv_engine_law.proofs.Taking.{end_within, end_wrote, memory_still, unwritten_within}
 
 at_true : (A B : Type 0) (b : Bool) → b ≡ true → MatchBool b A B → A
 at_true A B b is m = subst (λ (c : Bool). MatchBool c A B) is m
@@ -128,7 +129,7 @@ module _ {S : Type 0} (shelf : Ghosts S) (old new : S) (host : Host) (answer : B
   AreAway survey at = (drive : DriveNo) → Contains host.site.drives drive → has_drive at.calm drive ≡ false → (calls drive.0).some
 
   module _ (t u : Tale) (told_old : shelf.tale old ≡ Some t) (told_new : shelf.tale new ≡ Some u) where
-    pub read_of : (survey : Survey) (at : IsReadAt shelf old new host.drives host.site answer survey) → AreAway survey at → IsReadOf calls host (contents t) answer.up survey
+    pub read_of : (survey : Survey) (at : IsReadAt shelf old new host.drives host.site answer survey) → AreAway survey at → IsReadOf calls host (contents t) answer.up answer.end survey
     read_of survey at away = record {
       calm = at.calm;
       were_up = at.up;
@@ -136,7 +137,22 @@ module _ {S : Type 0} (shelf : Ghosts S) (old new : S) (host : Host) (answer : B
       survey_is = at.survey_is;
       of = at.of t told_old;
       none = at.none;
+      answered = λ still drive there. ap (λ (x : S). shelf.faults x (OnDrive drive.0)) (at.still still) ∙ at.answered drive there;
     }
+
+    -- those by which it writes, and of one that doesn't
+    within_of : IsBootCounted shelf old new host.drives host.site answer → (made_of shelf old new).within (least_of answer.end) (2 * length host.site.drives + most_reads host.site + 8 * in_hand answer.end) (most_of answer.end)
+    within_of counted = by booted.ended where
+      by : (is_memory answer.end ≡ true) ⊎ ((survey : Survey) × (at : IsReadAt shelf old new host.drives host.site answer survey) × IsEndBy calls (Rewrites shelf at.looked new host.site.key) host.site survey answer.end)
+          → (made_of shelf old new).within (least_of answer.end) (2 * length host.site.drives + most_reads host.site + 8 * in_hand answer.end) (most_of answer.end)
+      by (inl memory) = unwritten_within shelf old new _ answer.end (memory_still answer.end memory) (counted.still (memory_still answer.end memory))
+      by (inr (survey, at, end_by)) = end_within shelf old at.looked new _ at.reads calls host.site at.calm survey at.survey_is answer.end end_by counted.still
+
+    wrote_of : has_written answer.end ≡ true → (made_of shelf old new).wrote
+    wrote_of written = by booted.ended where
+      by : (is_memory answer.end ≡ true) ⊎ ((survey : Survey) × (at : IsReadAt shelf old new host.drives host.site answer survey) × IsEndBy calls (Rewrites shelf at.looked new host.site.key) host.site survey answer.end) → (made_of shelf old new).wrote
+      by (inl memory) = absurd (let still = memory_still answer.end memory in cc (still, written))
+      by (inr (survey, at, end_by)) = end_wrote shelf old at.looked new _ at.reads calls host.site at.calm survey at.survey_is answer.end end_by written
 
     -- its calls, as a line counts them
     pub boot_calls : IsUnclean → IsBootCounted shelf old new host.drives host.site answer
@@ -149,7 +165,8 @@ module _ {S : Type 0} (shelf : Ghosts S) (old new : S) (host : Host) (answer : B
       clean = answer.clean;
       by = up_by unclean;
       tied = λ ok. (let is = memory_is ok in (ap (λ (m : Memory). m.opened) is, ap (λ (m : Memory). m.up) is, ap (λ (m : Memory). m.clean) is));
-      still = counted.still;
+      within = within_of counted;
+      wrote = wrote_of;
       exactly = λ clean. (let by = counted.clean clean t told_old in (by.0, by.1, end_calls shelf old new _ answer.end by.2));
     }
 
@@ -163,10 +180,10 @@ module _ {S : Type 0} (shelf : Ghosts S) (old new : S) (host : Host) (answer : B
 
     -- its end, as a line tells it
     module _ (unclean : IsUnclean) (away : (survey : Survey) (at : IsReadAt shelf old new host.drives host.site answer survey) → AreAway survey at) (moment : BootMoment host.drives host.site answer.end t u) (failed : ℕ → Type 0) (ends : BootEnds failed host.drives host.site answer t u) where
-      pub ended : (is_memory answer.end ≡ true) ⊎ ((survey : Survey) × IsReadOf calls host (contents t) answer.up survey × IsEndBy calls (λ hand table. WritesTo (contents t) (contents u) hand.seats) host.site survey answer.end)
+      pub ended : (is_memory answer.end ≡ true) ⊎ ((survey : Survey) × IsReadOf calls host (contents t) answer.up answer.end survey × IsEndBy calls (λ hand table. WritesTo (contents t) (contents u) hand.seats) host.site survey answer.end)
       ended = by (is_memory answer.end) refl booted.ended where
         by : (b : Bool) → is_memory answer.end ≡ b → (is_memory answer.end ≡ true) ⊎ ((survey : Survey) × (at : IsReadAt shelf old new host.drives host.site answer survey) × IsEndBy calls (Rewrites shelf at.looked new host.site.key) host.site survey answer.end)
-            → (is_memory answer.end ≡ true) ⊎ ((survey : Survey) × IsReadOf calls host (contents t) answer.up survey × IsEndBy calls (λ hand table. WritesTo (contents t) (contents u) hand.seats) host.site survey answer.end)
+            → (is_memory answer.end ≡ true) ⊎ ((survey : Survey) × IsReadOf calls host (contents t) answer.up answer.end survey × IsEndBy calls (λ hand table. WritesTo (contents t) (contents u) hand.seats) host.site survey answer.end)
         by true is end_by = inl is
         by false is (inl memory) = inl memory
         by false is (inr (survey, at, end_by)) = inr (survey, read_of survey at (away survey at), wrote_more shelf at.looked new host.site.key calls (λ seats. WritesTo (contents t) (contents u) seats) (wrote_to survey at) host.site survey answer.end end_by)

@@ -118,12 +118,13 @@ module _ (failed more : Outcomes) (cause : AreWithin failed more) where
     calm = match_more clean _ _ _ _ (λ calm drive. (cause drive.0).none (calm drive)) (some_more host e) is.calm;
   }
 
-  pub read_more : (host : Host) (content : Image) (up : Drives) (survey : Survey) → IsReadOf failed host content up survey → IsReadOf more host content up survey
-  read_more host content up survey is = record {
+  pub read_more : (host : Host) (content : Image) (up : Drives) (e : BootEnd) (survey : Survey) → IsReadOf failed host content up e survey → IsReadOf more host content up e survey
+  read_more host content up e survey is = record {
     calm = is.calm;
     were_up = is.were_up;
     failed = λ drive one_of away. (cause drive.0).some (is.failed drive one_of away);
     survey_is = is.survey_is;
     of = is.of;
     none = is.none;
+    answered = λ still drive there. (cause drive.0).none (is.answered still drive there);
   }

@@ -1,11 +1,12 @@
 -- The blocks that a line may write, and those that it leaves, where more calls write none.
 use Rattle.std.proofs.Common.{inl, inr, ℕ, ◌-◌, List, [], ◌∷◌, length, slice_index_or, refl}
 use Rattle.mdv_map.proofs.Joining.{kept_is_old, old_or_new_more}
+use Rattle.mdv_shelf.proofs.Everywhere.{everywhere_kept}
 use Rattle.mdv_shelf.proofs.Frame.{kept_outside_more, settled_still}
-use Rattle.mdv_engine_law.specs.Below.{Command, Create, DriveBlock, KeptOutside, Print, Read, Settling, Write, nowhere, site_area, range, Changed, Created, Saw, Tale, Wrote}
+use Rattle.mdv_engine_law.specs.Below.{Command, Create, DriveBlock, Head, IsOwn, KeptOutside, Print, Read, Settling, Spells, Write, nowhere, site_area, site_of, range, Changed, Created, Saw, Tale, Wrote}
 use Rattle.mdv_words.specs.declared.command.Command.TheVariants.{MakeStripe}
 use Rattle.mdv_engine_law.specs.declared.host.Host.{Host}
-use Rattle.mdv_engine_law.specs.Hosts.{opened_area, places_area}
+use Rattle.mdv_engine_law.specs.Hosts.{identity_of, key_of, opened_area, places_area}
 use Rattle.mdv_engine_law.specs.Line.{Ask, Memory, Nothing, ToBoot, ToDo, ToMake, ToSee}
 use Rattle.mdv_engine_law.specs.Standing.{ArePutBy, LeavesDone, WritesOnly}
 
@@ -48,7 +49,7 @@ module _ (host : Host) (memory : Memory) where
 
   -- what a command left that was done
   pub done_still : (command : Command) (t m : Tale) → KeptOutside nowhere t m → LeavesDone host memory command t → LeavesDone host memory command m
-  done_still (Create slices force count blocks) t m kept left = tt
+  done_still (Create slices force count blocks) t m kept left = λ r has. everywhere_kept (λ image. (head : Head) × IsOwn (Spells host.drives) (site_of host.drives (key_of host)) (identity_of host memory.begun) r.line r.number image r.first head) t m kept (left r has)
   done_still (MakeStripe volume slice) t m kept left = tt
   done_still (Read volume at count) t m kept left = tt
   done_still (Write volume at block) t m kept left = (left.0, left.1, settled_still left.0.drive left.0.block (block ∷ []) t m kept left.2)

@@ -24,6 +24,12 @@ IsQuiet (Said (outcome.Refused IoFault)) = ⊥
 IsQuiet (Said (outcome.Refused refusal)) = Unit {0}
 IsQuiet other = ⊥
 
+-- a boot with which the run is over writes nothing, but for one that is lost
+abbrev pub EndsUnwritten : Answer → Type 0
+EndsUnwritten (Over (ended.Lost active listed)) = ⊥
+EndsUnwritten (Over other) = Unit {0}
+EndsUnwritten other = ⊥
+
 -- a boot ended the run by what it read: too few places, or two databases
 abbrev pub EndsByReads : Answer → Type 0
 EndsByReads (Over (ended.NoQuorum readable needed)) = Unit {0}

@@ -1,5 +1,5 @@
 -- How many calls on the drives a line makes, and how many blocks it writes.
-use Rattle.std.specs.Prelude.{◌≡◌, ℕ, ◌+◌, ◌*◌, Bool, true, false, List, length, Option, Some}
+use Rattle.std.specs.Prelude.{◌≡◌, ℕ, ◌+◌, ◌*◌, Bool, true, if◌then◌else◌, List, length, Option, Some}
 use Rattle.mdv_base.specs.DriveSet.{no_drives}
 use Rattle.mdv_shelf.specs.Everywhere.{Image}
 use Rattle.mdv_shelf.specs.Failing.{Outcomes}
@@ -7,7 +7,7 @@ use Rattle.mdv_shelf.specs.Made.{Made, and_more}
 use Rattle.mdv_store.specs.BootCounts.{most_blocks, most_reads}
 use Rattle.mdv_store.specs.Booting.{has_written}
 use Rattle.mdv_store.specs.Counts.{drives_lost}
-use Rattle.mdv_store.specs.Create.{blanked_asked}
+use Rattle.mdv_store.specs.Create.{blanked_asked, seats_asked}
 use Rattle.mdv_store.specs.Text.{blocks_for}
 use Rattle.mdv_store.specs.declared.booting.BootEnd.TheVariants as end
 use Rattle.mdv_survey.specs.Counts.{AreLinesBy}
@@ -37,14 +37,15 @@ pub record PassCalls (made : Made) (text : ℕ) (before now : List Seat) : Type 
 abbrev pub places_on : List SliceLine → ℕ → ℕ
 places_on lines count = length lines * count
 
--- each place is formatted by six calls, and gets its table by six; masters are blanked by two each where a slice gets several
-pub record CreationCalls (made : Made) (lines : List SliceLine) (count : ℕ) (o : Opened) : Type 0 where
+-- Each place is formatted by six calls, and gets its table by six; masters are blanked by two each where a slice gets several. Some places may be lost behind the formats, on each of whose drives a call was made.
+pub record CreationCalls (made : Made) (lines : List SliceLine) (count blocks : ℕ) (o : Opened) : Type 0 where
   pub all : active_of o.seats ≡ places_on lines count → made.exactly (2 * blanked_asked lines count + 12 * places_on lines count) (blanked_asked lines count + (7 + blocks_for (length (record_text o.table))) * places_on lines count)
-  pub some : made.within (2 * blanked_asked lines count + 6 * places_on lines count) (2 * blanked_asked lines count + 12 * places_on lines count) (blanked_asked lines count + 4103 * places_on lines count)
+  pub some : made.within (2 * blanked_asked lines count + 6 * places_on lines count + (6 * active_of o.seats + drives_lost (seats_asked o.key o.identity lines count blocks) o.seats))
+      (2 * blanked_asked lines count + 12 * places_on lines count) (blanked_asked lines count + 4103 * places_on lines count)
 
 -- the calls of a creation that is done, and of a change, by what was open before and what is then
 abbrev pub MadeCallsOf : Made → Command → Host → Option Opened → Option Opened → Type 0
-MadeCallsOf made (Create slices force count blocks) host old (Some o) = CreationCalls made (lines_asked host slices) count o
+MadeCallsOf made (Create slices force count blocks) host old (Some o) = CreationCalls made (lines_asked host slices) count blocks o
 MadeCallsOf made (MakeStripe volume slice) host (Some old) (Some o) = PassCalls made (blocks_for (length (record_text o.table))) old.seats o.seats
 MadeCallsOf made (Read volume at count) host old new = made.exactly 1 0
 MadeCallsOf made (Write volume at block) host old new = made.exactly 2 1
@@ -94,8 +95,32 @@ EndCalls made reads (end.Lost active listed) = Unit {0}
 EndCalls made reads end.Spent = made.within reads reads 0
 EndCalls made reads end.Memory = Unit {0}
 
--- A boot reads a block of each of the host's drives and syncs it, and each head and each body of an open slot once, where no call failed; and then writes to each active place. Whatever failed, it takes no more looks than there are drives, and one, and
--- writes nothing where it adopts nothing and isn't lost.
+-- how many places the list has of a boot that writes
+abbrev pub in_hand : BootEnd → ℕ
+in_hand (end.Adopted o) = length o.seats
+in_hand end.Empty = 0
+in_hand (end.TwoDatabases a b) = 0
+in_hand (end.NoQuorum readable needed) = 0
+in_hand (end.Lost active listed) = listed
+in_hand end.Spent = 0
+in_hand end.Memory = 0
+
+-- it makes one call at least, and another one none
+abbrev pub least_of : BootEnd → ℕ
+least_of e = if has_written e then 1 else 0
+
+-- and how many blocks it writes at most: a claim, two gates and the table's text at each of these places
+abbrev pub most_of : BootEnd → ℕ
+most_of (end.Adopted o) = (3 + blocks_for (length (record_text o.table))) * length o.seats
+most_of end.Empty = 0
+most_of (end.TwoDatabases a b) = 0
+most_of (end.NoQuorum readable needed) = 0
+most_of (end.Lost active listed) = 4097 * listed
+most_of end.Spent = 0
+most_of end.Memory = 0
+
+-- A boot reads a block of each of the host's drives and syncs it, and each head and each body of an open slot once, where no call failed; and then writes to each active place. Whatever failed, it takes no more looks than there are drives, and one; where it
+-- adopts or is lost it began to write, by no more calls, and no more blocks, than the places of its list take, found or not, fifty at most; and else it writes nothing.
 pub record BootCalls (calls : Outcomes) (made : Made) (host : Host) (answer : Answer) (memory : Memory) (content : Image) : Type 0 where
   pub most : made.within 0 (2 * length host.site.drives + most_reads host.site + 8 * 50) most_blocks
   pub end : BootEnd
@@ -104,7 +129,8 @@ pub record BootCalls (calls : Outcomes) (made : Made) (host : Host) (answer : An
   pub clean : Bool
   pub by : IsUpBy calls host end up clean
   pub tied : answer ≡ accepted → (memory.opened ≡ opened_by end) × (memory.up ≡ up) × (memory.clean ≡ clean)
-  pub still : has_written end ≡ false → made.within 0 (2 * length host.site.drives + most_reads host.site) 0
+  pub within : made.within (least_of end) (2 * length host.site.drives + most_reads host.site + 8 * in_hand end) (most_of end)
+  pub wrote : has_written end ≡ true → made.wrote
   pub exactly : clean ≡ true → (reads : ℕ) × AreLinesBy host.drives host.site up no_drives content host.site.lines reads × EndCalls made (2 * length host.site.drives + reads) end
 
 -- and of a line, or a block of entries, which makes none

@@ -177,21 +177,22 @@ IsLeftBy g other content = Unit {0}
 abbrev pub WritesTo : Image → Image → List Seat → Type 0
 WritesTo old new seats = IsSameBeside (seats_area seats) old new
 
--- Which drives a boot brought up, and whether no call failed in it: of the host's drives all but those on which one failed, and no other; on each of them just one failed, or none, if memory wasn't wanting.
+-- Which drives a boot brought up, and whether no call failed in it: of the host's drives all but some on which one failed, and no other; one on which it failed later is up. On each of them just one failed, or none, if memory wasn't wanting; and where none failed on any the boot is clean.
 pub record IsUpBy (calls : Outcomes) (host : Host) (end : BootEnd) (up : Drives) (clean : Bool) : Type 0 where
   pub down : is_memory end ≡ false → (drive : DriveNo) → Contains host.site.drives drive → has_drive up drive ≡ false → (calls drive.0).some
   pub others : (drive : DriveNo) → (Contains host.site.drives drive → ⊥) → (has_drive up drive ≡ false) × (calls drive.0).none
   pub once : (is_memory end ≡ true) ⊎ ((drive : DriveNo) → Contains host.site.drives drive → IsOnce (calls drive.0))
   pub calm : MatchBool clean ((drive : DriveNo) → (calls drive.0).none) ((is_memory end ≡ true) ⊎ ((drive : DriveNo) × Contains host.site.drives drive × (calls drive.0).some))
 
--- The last look read what the blocks held of these drives, each of which was up; on each other one of the host's a call failed.
-pub record IsReadOf (calls : Outcomes) (host : Host) (content : Image) (up : Drives) (survey : Survey) : Type 0 where
+-- The last look read what the blocks held of these drives, each of which was up; on each other one of the host's a call failed, and on none of these, where the boot wrote nothing then.
+pub record IsReadOf (calls : Outcomes) (host : Host) (content : Image) (up : Drives) (end : BootEnd) (survey : Survey) : Type 0 where
   pub calm : Drives
   pub were_up : (drive : DriveNo) → has_drive calm drive ≡ true → has_drive up drive ≡ true
   pub failed : (drive : DriveNo) → Contains host.site.drives drive → has_drive calm drive ≡ false → (calls drive.0).some
   pub survey_is : IsSurvey host.site calm survey
   pub of : IsSurveyOf host.drives host.site calm content survey
   pub none : (drive : DriveNo) → has_drive calm drive ≡ true → has_drive survey.failed drive ≡ false
+  pub answered : has_written end ≡ false → (drive : DriveNo) → has_drive calm drive ≡ true → (calls drive.0).none
 
 -- What a boot comes to, by what the blocks held of the drives that answered every read: its end follows from that, or memory was wanting; nothing else is in memory than what it found, which drives are up, and
 -- how many creations were begun before. Each block that it can't have written is as it was.
@@ -200,7 +201,7 @@ pub record IsRebooted (calls : Outcomes) (host : Host) (kept : Kept) (answer : A
   pub up : Drives
   pub clean : Bool
   pub up_by : IsUpBy calls host end up clean
-  pub by : (is_memory end ≡ true) ⊎ ((survey : Survey) × IsReadOf calls host kept.content up survey × IsEndBy calls (λ hand table. WritesTo kept.content next.content hand.seats) host.site survey end)
+  pub by : (is_memory end ≡ true) ⊎ ((survey : Survey) × IsReadOf calls host kept.content up end survey × IsEndBy calls (λ hand table. WritesTo kept.content next.content hand.seats) host.site survey end)
   pub answer_is : answer ≡ answered_by end
   pub memory : answer ≡ accepted → next.memory ≡ booted_with (opened_by end) up clean kept.memory.begun
   pub content : IsLeftBy host.drives end next.content

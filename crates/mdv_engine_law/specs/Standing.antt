@@ -1,6 +1,6 @@
 -- How the drives stand with their history at each moment of a line.
 use Rattle.std.specs.Prelude.{◌≡◌, ◌⊎◌, ◌<◌, ℕ, Bool, ◌-◌, true, false, List, [], ◌∷◌, ◌++◌, length, slice_index_or, take, None, IfSome, Contains}
-use Rattle.mdv_engine_law.specs.Below.{Command, Database, Write, DriveBlock, DriveNo, Drives, has_drive, Identity, IsOldOrNew, IsSettled, KeptOutside, covers, nowhere, range, Wrote, Tale, told, MayLeave, last, Line, Changed, VolId, Map, IsMapOf, area_of_map, HasNoTable, IsOpenIn, IsOpenedAt, site_area, History, Deed, Created, Event, history_after, Adds, AreWoken, CanTell}
+use Rattle.mdv_engine_law.specs.Below.{Command, Create, Database, Write, DriveBlock, DriveNo, Drives, has_drive, Identity, IsOldOrNew, IsSettled, KeptOutside, covers, nowhere, range, Wrote, Tale, told, MayLeave, last, Line, Changed, VolId, Map, IsMapOf, area_of_map, HasNoTable, IsOpenIn, IsOpenedAt, site_area, History, Deed, Created, Event, history_after, Adds, AreWoken, CanTell}
 use Rattle.mdv_store_law.specs.Machine as machine
 use Rattle.mdv_shelf.specs.Calls.{OnDrive}
 use Rattle.mdv_shelf.specs.Made.{Made}
@@ -14,7 +14,9 @@ use Rattle.mdv_engine_law.specs.declared.host.Host.{Host}
 use Rattle.mdv_engine_law.specs.Answers.{IsQuiet}
 use Rattle.mdv_engine_law.specs.Awake.{Happening, HasBooted, is_in}
 use Rattle.mdv_shelf.specs.Failing.{Outcomes}
-use Rattle.mdv_engine_law.specs.Hosts.{StaysHome, key_of, opened_area, places_area, plain_area}
+use Rattle.mdv_engine_law.specs.Hosts.{StaysHome, identity_of, key_of, lines_asked, opened_area, places_area, plain_area}
+use Rattle.mdv_store.specs.Create.{seats_asked}
+use Rattle.mdv_store.specs.Seats.{AreTheirs}
 use Rattle.mdv_engine_law.specs.Commands.{ComesTo}
 use Rattle.mdv_engine_law.specs.Efforts.{LineCalls, replied_to}
 use Rattle.mdv_engine_law.specs.Line.{Ask, AreBlocksAt, Kept, Nothing, ToBoot, ToDo, ToMake, ToSee, Memory, IsSame, asked_by_line, deeds, contents, kept_at}
@@ -124,9 +126,11 @@ WritesOnly host (ToSee key volume at count) memory t m = KeptOutside nowhere t m
 abbrev pub LineWrites : Host → Line → Memory → Tale → Tale → Type 0
 LineWrites host line memory t m = WritesOnly host (asked_by_line host line) memory t m
 
--- what a command leaves that was told `ok`: of a write its block on the disk, with all that the drive was given before
+-- What a command leaves that was told `ok`: of a write its block on the disk, with all that the drive was given before; and of a creation at each of its places, whatever a crash leaves, a replica of the new database.
 abbrev pub LeavesDone : Host → Memory → Command → Tale → Type 0
 LeavesDone host memory (Write volume at block) u = (place : DriveBlock) × AreBlocksAt host memory volume at 1 place × IsSettled place.drive place.block (block ∷ []) u
+LeavesDone host memory (Create slices force count blocks) u =
+    AreTheirs host.drives (key_of host) (identity_of host memory.begun) (seats_asked (key_of host) (identity_of host memory.begun) (lines_asked host slices) count blocks) u
 LeavesDone host memory other u = Unit {0}
 
 -- a moment while a line is carried out that asks this, with nothing told, and nothing done outside the host's blocks, nor outside those that it may write

@@ -7,7 +7,7 @@ use Rattle.mdv_engine_law.specs.declared.answer.Outcome.{Outcome}
 use Rattle.mdv_engine_law.specs.declared.answer.Outcome.TheVariants as outcome
 use Rattle.mdv_engine_law.specs.declared.answer.Reply.TheVariants as reply
 use Rattle.mdv_engine_law.specs.Line.{Nothing, Ask, asked_by}
-use Rattle.std.proofs.Common.{◌≡◌, Option, Some, inl, inr, ℕ, ◌<◌, List, [], length, take, refl, sym, ◌∙◌, subst, arith}
+use Rattle.std.proofs.Common.{◌≡◌, Option, Some, None, inl, inr, ℕ, ◌<◌, List, [], length, take, refl, sym, ◌∙◌, subst, arith}
 use Rattle.mdv_run.specs.Below.{OutOfMemory, TooMany, Answer, IsAnswered, Kept, LinesMoment, Script, line, tab_text, told, Tale, Spelled, Boot, IsLine, Reply, IsReplied, IsTold, IsTurnedDown, FailedOnSite, Host, IsLostOnSite, Memory, Engine, Executed, Knows, StaysHome, Turned, RanTo, key_of, kept_at}
 use Rattle.mdv_run.specs.Promise.{IsUncut, IsWorkOf, LineStays, LineStaysAs, LinesStay}
 use Rattle.mdv_run.specs.Turns.{LineAnswered}
@@ -24,9 +24,10 @@ use Rattle.mdv_base.specs.declared.refusal.Refusal.TheVariants.{IoFault}
 use Rattle.mdv_shelf.specs.Made.{Made}
 use Rattle.mdv_shelf.proofs.Made.{IsToo}
 use Rattle.mdv_engine_law.proofs.Efforts.{line_too, none_too, replied_too}
+use Rattle.mdv_engine_law.proofs.Opening.{only_boot}
 use Rattle.mdv_engine_law.proofs.Staying.{stays_still}
 use Rattle.mdv_engine_law.proofs.Widening.{AreWithin}
-use Rattle.mdv_run_law.specs.Run.{AreSynced, IsQuiet, TextCalls}
+use Rattle.mdv_run_law.specs.Run.{AreSynced, IsQuiet, IsUnwritten, TextCalls}
 use Rattle.mdv_engine.specs.Counts.{IsQuietRefusal}
 use Rattle.mdv_engine_law.specs.Standing.{LeavesDone, LineWrites, TurnMoment, WritesOnly}
 use Rattle.mdv_engine_law.specs.declared.answer.Answer.TheVariants.{Said, Over as Ends}
@@ -41,6 +42,7 @@ use Rattle.mdv_run_law.specs.Standing.{HasEntries, IsWanting}
 use Rattle.mdv_engine_law.proofs.Plain.{memory_plain, taken_front}
 use Rattle.mdv_engine_law.proofs.Turning.{refusal_told}
 use Rattle.mdv_engine_law.specs.Commands as came
+use Rattle.mdv_engine_law.specs.Commands.{ComesTo}
 use Rattle.mdv_engine_law.specs.Replies.{ok_line, refusal_line}
 use Rattle.mdv_engine_law.specs.Standing.{TellMoment}
 use Rattle.std.proofs.lemmas.List.{append_cancel_left, take_all}
@@ -111,19 +113,22 @@ said_reads failed said given (inr cut) reads = subst IsReadAlone cut.0 reads
 
 -- a line that was carried out is answered
 pub line_executed : (text : List ℕ) (spelled : Spelled) → IsLine text spelled → (outcomes : Outcomes) (replies : Type 0) (made : Made) (host : Host) (old new : Memory) (given : Reply) (t u : Tale) → Executed outcomes replies made host spelled old new given t u → LineWrites host spelled old t u
-    → (IsQuietRefusal given → KeptOutside nowhere t u) → (IsReadAlone given → KeptOutside nowhere t u) → (given ≡ reply.Ok → (command : Command) → spelled ≡ words.Exec command → LeavesDone host old command u) → (given ≡ reply.Ok → spelled ≡ Boot → AreSynced host outcomes u) → LineAnswered outcomes replies made host text old new given t u
-line_executed text spelled is outcomes replies made host old new given t u done writes unwritten unread leaves synced = record {
+    → (IsQuietRefusal given → KeptOutside nowhere t u) → (IsReadAlone given → KeptOutside nowhere t u) → (spelled ≡ Boot → new.opened ≡ None → KeptOutside nowhere t u) → (given ≡ reply.Ok → (command : Command) → spelled ≡ words.Exec command → LeavesDone host old command u) → (given ≡ reply.Ok → spelled ≡ Boot → AreSynced host outcomes u) → LineAnswered outcomes replies made host text old new given t u
+line_executed text spelled is outcomes replies made host old new given t u done writes unwritten unread empty leaves synced = record {
   answer = done.answer;
   done = inr (inl (spelled, is, done.carried));
   calls = inr (inl (spelled, is, done.effort));
   writes = inr (spelled, is, writes);
-  unwritten = λ on quiet. unwritten (quiet_reply replies done.answer given done.replied.piece done.replied.as_told on quiet);
+  unwritten = none;
   unread = λ reads. unread (read_reply replies done.answer given done.replied.piece done.replied.as_told reads);
   leaves = λ on ok.
       let told = accepted_reply replies done.answer given done.replied.piece done.replied.as_told on ok in
       record { done = λ command here. leaves told command (one_line text spelled (words.Exec command) is here); synced = λ here. synced told (one_line text spelled Boot is here) };
   replied = done.replied;
-}
+} where
+  none : IsReplied given → IsUnwritten done.answer new → KeptOutside nowhere t u
+  none on (inl quiet) = unwritten (quiet_reply replies done.answer given done.replied.piece done.replied.as_told on quiet)
+  none on (inr (told, closed)) = empty (only_boot outcomes host (kept_at old t) (kept_at new u) spelled (subst (λ (a : Answer). ComesTo outcomes host (kept_at old t) spelled a (kept_at new u)) told done.carried) closed) closed
 
 -- what came of the calls of a stretch, told of itself
 pub same_within : (outcomes : Outcomes) → AreWithin outcomes outcomes

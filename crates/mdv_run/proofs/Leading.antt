@@ -15,7 +15,7 @@ use Rattle.mdv_volumes.specs.Happening.{IsIssue}
 use Rattle.mdv_volumes.specs.History.{Event}
 use Rattle.std.proofs.Common.{◌≡◌, ◌≤◌, inl, inr, ℕ, Bool, true, List, [], ◌∷◌, ◌++◌, Option, Some, refl, sym, ◌∙◌, ap, subst}
 use Rattle.mdv_run.specs.Below.{LineTooLong, Items, Script, at_end, spent, too_long, line, asked_before, IsItem, IsItemTurn, Item, TooLong, End, Spent, Tale, told, Answer, Reply, Host, IsLostOnSite, Memory, IsTold, IsReplied, Kept, IsTurnedDown, kept_at, Replied, RunStatus, NoQuorum, Panic, ReadFault, TwoDatabases, WriteFault, NoMemory, NumbersSpent, At, Counts, NextLine, OnDrive, OnReplies, RanTo, Stretch, IsAnswered, IsSame, contents}
-use Rattle.mdv_run_law.specs.Run.{AreInTime, EndsAt, FromTo, IsPassage, IsQuiet, Leads as LeadsOn, NextCalls, NextLeaves, NextWrites, giving_failed, OnlyReplying, OnlyUngiven, OnlyUnread, RoseCalmly, drive_failures, Over as IsOver, broken, ended as script_ended, unread, EndsAs, EndsWith, IsSaid, refused_by}
+use Rattle.mdv_run_law.specs.Run.{AreInTime, EndsAt, FromTo, IsPassage, IsUnwritten, Leads as LeadsOn, NextCalls, NextLeaves, NextWrites, giving_failed, OnlyReplying, OnlyUngiven, OnlyUnread, RoseCalmly, drive_failures, Over as IsOver, broken, ended as script_ended, unread, EndsAs, EndsWith, IsSaid, refused_by}
 use Rattle.mdv_engine_law.specs.Answers.{EndsByReads, accepted, refusing}
 use Rattle.mdv_engine_law.specs.Standing.{IsOfRun}
 use Rattle.mdv_engine_law.specs.Replies.{HasReplyCause, IsLost, outcome_text, reply_at, reply_to, text_of}
@@ -149,7 +149,7 @@ led_on host script left old new t u ran = λ h known. (
 
 -- what its answer says of the drives, where it was told whole, and of each history
 record Tells (host : Host) (from : At) (then : Point) (answer : Answer) (next : Kept) : Type 0 where
-  pub unwritten : IsQuiet answer → FromTo (KeptOutside nowhere) from.story then.story
+  pub unwritten : IsUnwritten answer next.memory → FromTo (KeptOutside nowhere) from.story then.story
   pub leaves : answer ≡ accepted → FromTo (λ t u. NextLeaves (drive_failures from.counts then.counts) host from.kept.memory from.script u) from.story then.story
   pub leads : FromTo (LeadsOn host from.kept.memory next.memory) from.story then.story
 

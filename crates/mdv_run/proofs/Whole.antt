@@ -30,14 +30,14 @@ use Rattle.std.proofs.lemmas.List.{append-nil}
 use Rattle.mdv_run.specs.Below.{Script, Tale, site_area, told, Ended, Host, Memory, IsRebooted, kept_at, unbooted, HasBootCause, boot_answer, RunStatus, Counts, Stretch, IsWholeRun, HasStatusCause}
 use Rattle.mdv_engine_law.specs.Line.{contents}
 use Rattle.mdv_run_law.specs.Run.{IsLostStatus, IsPoint, RoseCalmly, drive_failures, status_at}
-use Rattle.mdv_engine_law.specs.Answers.{EndsByReads, accepted}
+use Rattle.mdv_engine_law.specs.Answers.{EndsByReads, EndsUnwritten, accepted}
 use Rattle.mdv_engine_law.specs.declared.answer.Ended.TheVariants as ended
 use Rattle.mdv_run.specs.Turns.{LinesRun}
 
 module _ (host : Host) (stretch : Stretch) (start : Counts) (t : Tale) (script : Script) (tale : Option Tale) where
   -- a run that is over with its boot
   pub whole_over : (T : Type 0) (end : Counts) → RoseCalmly start end → (u : Tale) (memory : Memory) (r : Ended) → IsPoint stretch start.source end (record { story = stretch.new; effort = stretch.after.effort }) (contents u) → tale ≡ Some u → told u ≡ told t → IsRebooted (drive_failures start end) host (kept_at (unbooted 0) t) (boot_answer {T = T} (Err r)) (kept_at memory u)
-      → BootCalls (drive_failures start end) (made_between stretch.before.effort stretch.after.effort) host (boot_answer {T = T} (Err r)) memory (contents t) → FromTo (KeptOutside (site_area host.site)) stretch.old stretch.new → (EndsByReads (boot_answer {T = T} (Err r)) → FromTo (KeptOutside nowhere) stretch.old stretch.new) → IsWholeRun host stretch start end t script tale (status_at r)
+      → BootCalls (drive_failures start end) (made_between stretch.before.effort stretch.after.effort) host (boot_answer {T = T} (Err r)) memory (contents t) → FromTo (KeptOutside (site_area host.site)) stretch.old stretch.new → (EndsUnwritten (boot_answer {T = T} (Err r)) → FromTo (KeptOutside nowhere) stretch.old stretch.new) → IsWholeRun host stretch start end t script tale (status_at r)
   whole_over T end rose u memory r point is quiet rebooted calls writes unread = record {
     u = u;
     tells = is;
@@ -54,7 +54,7 @@ module _ (host : Host) (stretch : Stretch) (start : Counts) (t : Tale) (script :
     lost ended.Spent = tt
     lost ended.Memory = tt
 
-    unwritten : EndsByReads (boot_answer {T = T} (Err r)) ⊎ ((boot_answer {T = T} (Err r) ≡ accepted) × (memory.opened ≡ None)) → FromTo (KeptOutside nowhere) stretch.old stretch.new
+    unwritten : EndsUnwritten (boot_answer {T = T} (Err r)) ⊎ ((boot_answer {T = T} (Err r) ≡ accepted) × (memory.opened ≡ None)) → FromTo (KeptOutside nowhere) stretch.old stretch.new
     unwritten (inl reads) = unread reads
     unwritten (inr none) = absurd (cc (none.0))
 
@@ -70,7 +70,7 @@ module _ (host : Host) (stretch : Stretch) (start : Counts) (t : Tale) (script :
     left = lines.left;
     runs = record { answer = accepted; booted = mid; rose = rose; kept = kept_at memory u; boots = rebooted; by = record { story = story; effort = effort }; calls = calls; writes = writes; unwritten = unwritten; point = point; runs = lines.runs };
   } where
-    unwritten : EndsByReads accepted ⊎ ((accepted ≡ accepted) × (memory.opened ≡ None)) → FromTo (KeptOutside nowhere) stretch.old story
+    unwritten : EndsUnwritten accepted ⊎ ((accepted ≡ accepted) × (memory.opened ≡ None)) → FromTo (KeptOutside nowhere) stretch.old story
     unwritten (inl reads) = absurd reads
     unwritten (inr none) = empty none.1
 
@@ -80,7 +80,7 @@ boot_writes shelf telling host a b moments s u is_s is_u =
     let end = moments_end (BootMoment host) (shelf.tale a) (shelf.tale b) moments (tale_of s) (telling a ∙ ap (λ (o : Option Story). option_map tale_of o) is_s) in
     subst (KeptOutside (site_area host.site) (tale_of s)) (some_is (shelf.tale b) end.0 (tale_of u) end.1 (telling b ∙ ap (λ (o : Option Story). option_map tale_of o) is_u)) end.2.kept
 
--- a boot that found no database, or ended the run by what it read, has written nothing
+-- a boot that found no database, or ended the run without being lost, has written nothing
 empty_unwritten : (end : BootEnd) → accepted ≡ answered_by end → opened_by end ≡ None → has_written end ≡ false
 empty_unwritten (end.Adopted o) is none = absurd (cc (none))
 empty_unwritten end.Empty is none = refl
@@ -90,17 +90,28 @@ empty_unwritten (end.Lost active listed) is none = absurd (cc (is))
 empty_unwritten end.Spent is none = refl
 empty_unwritten end.Memory is none = refl
 
-reads_unwritten : (e : Ended) (end : BootEnd) → Over e ≡ answered_by end → EndsByReads (Over e) → has_written end ≡ false
-reads_unwritten e (end.Adopted o) is reads = absurd (cc (is))
-reads_unwritten e end.Empty is reads = refl
-reads_unwritten e (end.TwoDatabases a b) is reads = refl
-reads_unwritten e (end.NoQuorum readable needed) is reads = refl
-reads_unwritten e (end.Lost active listed) is reads = absurd (subst EndsByReads is reads)
-reads_unwritten e end.Spent is reads = refl
-reads_unwritten e end.Memory is reads = refl
+lost_unwritten : (e : Ended) (end : BootEnd) → Over e ≡ answered_by end → EndsUnwritten (Over e) → has_written end ≡ false
+lost_unwritten e (end.Adopted o) is never = absurd (cc (is))
+lost_unwritten e end.Empty is never = refl
+lost_unwritten e (end.TwoDatabases a b) is never = refl
+lost_unwritten e (end.NoQuorum readable needed) is never = refl
+lost_unwritten e (end.Lost active listed) is never = absurd (subst EndsUnwritten is never)
+lost_unwritten e end.Spent is never = refl
+lost_unwritten e end.Memory is never = refl
+
+pub ended_unwritten : {calls : Outcomes} {made : Made} {host : Host} {old new : Memory} {t u : Tale} (e : Ended) → IsBootEnd calls made host old (Over e) new t u → EndsUnwritten (Over e) → KeptOutside nowhere t u
+ended_unwritten e end never = end.unwritten (lost_unwritten e end.rebooted.end end.rebooted.answer_is never)
+
+-- one that ended the run by what it read isn't lost
+reads_alone : (e : Ended) → EndsByReads (Over e) → EndsUnwritten (Over e)
+reads_alone (ended.NoQuorum readable needed) reads = tt
+reads_alone (ended.TwoDatabases a b) reads = tt
+reads_alone (ended.Lost active listed) reads = reads
+reads_alone ended.Spent reads = tt
+reads_alone ended.Memory reads = tt
 
 pub ended_unread : {calls : Outcomes} {made : Made} {host : Host} {old new : Memory} {t u : Tale} (e : Ended) → IsBootEnd calls made host old (Over e) new t u → EndsByReads (Over e) → KeptOutside nowhere t u
-ended_unread e end reads = end.unwritten (reads_unwritten e end.rebooted.end end.rebooted.answer_is reads)
+ended_unread e end reads = ended_unwritten e end (reads_alone e reads)
 
 pub none_opened : {calls : Outcomes} {made : Made} {host : Host} {old new : Memory} {t u : Tale} → IsBootEnd calls made host old accepted new t u → new.opened ≡ None → KeptOutside nowhere t u
 none_opened end none = end.unwritten (empty_unwritten end.rebooted.end end.rebooted.answer_is (sym (ap (λ (m : Memory). m.opened) (end.rebooted.memory refl)) ∙ none))

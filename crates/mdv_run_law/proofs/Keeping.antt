@@ -206,7 +206,7 @@ module _ (host : Host) (has : IsOfTable host) (once : AreOnce host.drives.slices
     beside : IsSameBeside (boot_area host.site (has_written e)) k.content n.content
 
   module _ (calls : Outcomes) (calm : NoneFailed calls) (k n : Kept) where
-    read_all : (up : Drives) (survey : Survey) → IsReadOf calls host k.content up survey → IsAllOf host.drives host.site ok once_there brought k.content survey
+    read_all : (up : Drives) {e : BootEnd} (survey : Survey) → IsReadOf calls host k.content up e survey → IsAllOf host.drives host.site ok once_there brought k.content survey
     read_all up survey is = record {
       calm = is.calm;
       each = λ drive one_of. elim (cases_Bool (has_drive is.calm drive)) [ inl there ↦ there | inr never ↦ absurd (calm drive.0 (is.failed drive one_of never)) ];

@@ -16,7 +16,7 @@ use Rattle.mdv_engine_law.specs.declared.answer.Ended.{Ended}
 use Rattle.mdv_engine_law.specs.declared.answer.Ended.TheVariants as stop
 use Rattle.mdv_engine_law.specs.declared.answer.Outcome.TheVariants as outcome
 pub use Rattle.mdv_engine_law.specs.Answers.{IsQuiet}
-use Rattle.mdv_engine_law.specs.Answers.{EndsByReads, accepted, refusing}
+use Rattle.mdv_engine_law.specs.Answers.{EndsByReads, EndsUnwritten, accepted, refusing}
 use Rattle.mdv_engine_law.specs.Line.{Memory}
 use Rattle.mdv_engine_law.specs.Awake.{Happening}
 use Rattle.mdv_engine_law.specs.Standing.{IsKnown, IsOfRun, LeavesDone, LineWrites, StandsAt}
@@ -199,7 +199,7 @@ abbrev pub AreSynced : Host → Outcomes → Tale → Type 0
 AreSynced host calls u = (drive : DriveNo) → Contains host.site.drives drive → ((calls drive.0).some → ⊥) → IsSynced drive.0 u
 
 -- What a line with this text leaves that was told `ok`, where its calls came out so and this was in memory: a write its blocks on the disk, with all that the drive was
--- given before; and `boot` each of the host's own drives synced on which no call failed.
+-- given before; a creation its replica at each of its places, whatever a crash leaves; and `boot` each of the host's own drives synced on which no call failed.
 pub record TextLeaves (calls : Outcomes) (host : Host) (memory : Memory) (text : List ℕ) (u : Tale) : Type 0 where
   pub done : (command : Command) → IsLine text (Exec command) → LeavesDone host memory command u
   pub synced : IsLine text Boot → AreSynced host calls u
@@ -213,15 +213,19 @@ NextLeaves calls host memory other u = Unit {0}
 abbrev pub Leads : Host → Memory → Memory → Tale → Tale → Type 0
 Leads host old new t u = (h : History) → IsKnown host old h t → machine.Goes history_after (Happening host) (machine.AreAll (IsIssue (IsOfRun host))) (λ g. StandsAt host g u) (λ es after. IsKnown host new after u) h
 
+-- by such an answer, behind which this is in memory, a line wrote nothing: a refusal for another cause than a failed call, or that of a boot which found nothing
+abbrev pub IsUnwritten : Answer → Memory → Type 0
+IsUnwritten answer next = IsQuiet answer ⊎ ((answer ≡ accepted) × (next.opened ≡ None))
+
 -- A line that was answered, and whose reply was told whole: by as many calls as it takes, and one, by which no block was written but those that it may write, none where it was
--- refused for another cause than a failed call; and a write that was told `ok` is on the disk, and behind a `boot` that was told it the own drives are synced on which
--- none of its calls failed.
+-- refused for another cause than a failed call, nor by a boot that found nothing; and a write that was told `ok` is on the disk, a creation that was told it has a replica at each of its places, and behind
+-- a `boot` that was told it the own drives are synced on which none of its calls failed.
 pub record LineTold (host : Host) (now : At) (piece : List ℕ) (later : At) : Type 0 where
   pub answer : Answer
   pub comes : NextLine host now.counts now.kept now.script answer later.counts later.kept later.script
   pub calls : NextCalls (drive_failures now.counts later.counts) (replied_to answer (made_between now.effort later.effort)) host now.kept now.script answer later.kept
   pub writes : FromTo (NextWrites host now.kept.memory now.script) now.story later.story
-  pub unwritten : IsQuiet answer → FromTo (KeptOutside nowhere) now.story later.story
+  pub unwritten : IsUnwritten answer later.kept.memory → FromTo (KeptOutside nowhere) now.story later.story
   pub leaves : answer ≡ accepted → FromTo (λ t u. NextLeaves (drive_failures now.counts later.counts) host now.kept.memory now.script u) now.story later.story
   pub leads : FromTo (Leads host now.kept.memory later.kept.memory) now.story later.story
   pub said : IsSaid answer
@@ -356,7 +360,7 @@ RunsFrom host stretch end (Ends over) later by kept script told status last = (e
 
 -- A whole run, from these counts to those: the boot answers from what the drive's blocks held, by as many calls as that takes, excused by the one that failed until the counts `booted`, and
 -- the script is run from there. They are those of a point of the run, by which the drive's blocks read as the boot left them: the first of the points between two lines, each of which is
--- behind the one before. A boot that found no database, or ended the run by what it read, wrote no block.
+-- behind the one before. A boot that found no database, or ended the run without being lost, wrote no block.
 pub record IsRun (host : Host) (stretch : Stretch) (start end : Counts) (content : Image) (script : Script) (told : List ℕ) (status : RunStatus) (last : Kept) : Type 0 where
   pub answer : Answer
   pub booted : Counts
@@ -366,7 +370,7 @@ pub record IsRun (host : Host) (stretch : Stretch) (start end : Counts) (content
   pub by : Progress
   pub calls : BootCalls (drive_failures start booted) (made_between stretch.before.effort by.effort) host answer kept.memory content
   pub writes : FromTo (KeptOutside (site_area host.site)) stretch.old by.story
-  pub unwritten : EndsByReads answer ⊎ ((answer ≡ accepted) × (kept.memory.opened ≡ None)) → FromTo (KeptOutside nowhere) stretch.old by.story
+  pub unwritten : EndsUnwritten answer ⊎ ((answer ≡ accepted) × (kept.memory.opened ≡ None)) → FromTo (KeptOutside nowhere) stretch.old by.story
   pub point : IsPoint stretch start.source booted by kept.content
   pub runs : RunsFrom host stretch end answer booted by kept script told status last
 

@@ -71,6 +71,7 @@ use Rattle.mdv_databases.proofs.Lasting.{stand_crashed}
 use Rattle.mdv_databases.proofs.Nothing.{nothing_told}
 use Rattle.mdv_engine_law.specs.Hosts.{key_of}
 use Rattle.mdv_engine_law.specs.Line.{HasNoTableOn, IsReadOf, IsSame, contents, WritesTo}
+use Rattle.mdv_store.specs.declared.booting.BootEnd.{BootEnd}
 use Rattle.mdv_engine_law.specs.Standing.{StandsAt}
 use Rattle.mdv_engine_law.specs.declared.host.Host.{Host}
 use Rattle.mdv_volumes.specs.History.{History}
@@ -121,7 +122,7 @@ pub record Adopts (g : Geometry) (site : Site) (content : Image) (table : Table)
   pub is_table : newest.table ≡ table
 
 -- what a boot has adopted it might adopt
-pub adopts_of : (calls : Outcomes) (host : Host) (content new : Image) (up : Drives) (survey : Survey) (o : Opened) → IsReadOf calls host content up survey → IsAdopted calls (λ hand of. WritesTo content new hand.seats) host.site survey o → Adopts host.drives host.site content o.table
+pub adopts_of : (calls : Outcomes) (host : Host) (content new : Image) (up : Drives) {e : BootEnd} (survey : Survey) (o : Opened) → IsReadOf calls host content up e survey → IsAdopted calls (λ hand of. WritesTo content new hand.seats) host.site survey o → Adopts host.drives host.site content o.table
 adopts_of calls host content new up survey o read a = record {
   calm = read.calm;
   survey = survey;
@@ -292,7 +293,7 @@ pub record IsBlind (host : Host) (calls : Outcomes) (content : Image) : Type 0 w
   pub failed : (drive : DriveNo) → Contains host.site.drives drive → up drive.0 ≡ false → (calls drive.0).some
   pub none : (r : Replica) → IsFoundIn host.drives host.site content r → up r.line.at.drive.0 ≡ true → shows r.head ≡ false
 
-pub blind_boot : (calls : Outcomes) (host : Host) (content : Image) (up : Drives) (survey : Survey) → IsReadOf calls host content up survey → IsChoice survey chosen.Empty → IsBlind host calls content
+pub blind_boot : (calls : Outcomes) (host : Host) (content : Image) (up : Drives) {e : BootEnd} (survey : Survey) → IsReadOf calls host content up e survey → IsChoice survey chosen.Empty → IsBlind host calls content
 blind_boot calls host content up survey read empty = record {
   up = λ n. has_drive read.calm (record { 0 = n });
   failed = λ drive own off. read.failed drive own off;

@@ -85,7 +85,7 @@ module _ (host : Host) (sound : IsSound host.drives) (site : host.site ≡ site_
   rose drive once = rose_within _ _ _ _ (l.low.drives drive) (l.high drive) (rose_of_once (l.before.drives drive) (l.after.drives drive) once)
 
   -- what was read of the drives, whatever it came to
-  module _ (up : Drives) (survey : Survey) (read : IsReadOf calls host l.kept.content up survey) where
+  module _ (up : Drives) {e : BootEnd} (survey : Survey) (read : IsReadOf calls host l.kept.content up e survey) where
     of : IsSurveyOf host.drives (site_of host.drives (key_of host)) read.calm (last at) survey
     of = subst (λ (x : Site). IsSurveyOf host.drives x read.calm (last at) survey) site (subst (λ (c : Image). IsSurveyOf host.drives host.site read.calm c survey) same read.of)
 
@@ -122,7 +122,7 @@ module _ (host : Host) (sound : IsSound host.drives) (site : host.site ≡ site_
           (subst (λ (x : Site). length places < 2 * count_by (λ (place : Place). is_on (answers_on read.calm survey) (slice_at x.lines place.slice)) places) site up) readable needed short
 
   abbrev By : BootEnd → Type 0
-  By e = (is_memory e ≡ true) ⊎ ((survey : Survey) × IsReadOf calls host l.kept.content l.boots.up survey × IsEndBy calls (λ hand table. WritesTo l.kept.content l.next.content hand.seats) host.site survey e)
+  By e = (is_memory e ≡ true) ⊎ ((survey : Survey) × IsReadOf calls host l.kept.content l.boots.up e survey × IsEndBy calls (λ hand table. WritesTo l.kept.content l.next.content hand.seats) host.site survey e)
 
   two_never : (a b : Identity) (e : BootEnd) → By e → Ends (stop.TwoDatabases a b) ≡ answered_by e → ⊥
   two_never a b (end.TwoDatabases c d) (inl never) is_end = cc (never)
@@ -136,15 +136,16 @@ module _ (host : Host) (sound : IsSound host.drives) (site : host.site ≡ site_
 
   -- what was read where the boot was short
   record WasShort : Type 0 where
+    ended : BootEnd
     survey : Survey
-    read : IsReadOf calls host l.kept.content l.boots.up survey
+    read : IsReadOf calls host l.kept.content l.boots.up ended survey
     readable : ℕ
     needed : ℕ
     short : IsShort survey readable needed
 
   few_read : (readable needed : ℕ) (e : BootEnd) → By e → Ends (stop.NoQuorum readable needed) ≡ answered_by e → WasShort
   few_read readable needed (end.NoQuorum some more) (inl never) is_end = absurd (cc (never))
-  few_read readable needed (end.NoQuorum some more) (inr (survey, read, short)) is_end = record { survey = survey; read = read; readable = some; needed = more; short = short }
+  few_read readable needed (end.NoQuorum some more) (inr (survey, read, short)) is_end = record { ended = end.NoQuorum some more; survey = survey; read = read; readable = some; needed = more; short = short }
   few_read readable needed (end.TwoDatabases a b) by is_end = absurd (cc (is_end))
   few_read readable needed (end.Adopted o) by is_end = absurd (cc (is_end))
   few_read readable needed end.Empty by is_end = absurd (cc (is_end))

@@ -166,7 +166,7 @@ module _ (drives : Geometry) (name : List ℕ) (sound : IsSound drives) (of_tabl
     -- What is open before it is what lasts behind it.
     pub line_leaves : (now mid : At) (piece : List ℕ) (line_told : LineTold host now piece mid) (s v : Story) → now.story ≡ Some s → mid.story ≡ Some v → Into now.kept.memory → AreLeft (said_of now.script (text_of line_told.answer)) (tale_of s) (tale_of v)
     line_leaves now mid piece line_told s v is is_v into =
-        script_leaves now.counts mid.counts now.kept mid.kept now.script mid.script line_told.answer (tale_of s) (tale_of v) line_told.comes line_told.said (line_told.writes s v is is_v) (λ quiet. line_told.unwritten quiet s v is is_v) into
+        script_leaves now.counts mid.counts now.kept mid.kept now.script mid.script line_told.answer (tale_of s) (tale_of v) line_told.comes line_told.said (line_told.writes s v is is_v) (λ quiet. line_told.unwritten (inl quiet) s v is is_v) into
 
     -- what lasts there has no volume but those of that table
     abbrev pub AreInto : Memory → Tale → Type 0

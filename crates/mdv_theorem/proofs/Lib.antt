@@ -1,5 +1,6 @@
 mod Telling
 mod Living
+mod Zeros
 mod Lines
 mod Lined
 mod Owned

@@ -122,7 +122,7 @@ module _ (host : Host) (is_host : IsOfTable host) where
     HasFailedThere = (line : SliceLine) × Contains host.site.lines line × (calls line.at.drive.0).some
 
     -- what a boot has in hand lies on them
-    in_hand_own : (content : Image) (up : Drives) (survey : Survey) (newest : Newest) (replica : Replica) (seats : List Seat) → IsReadOf calls host content up survey → IsInHand survey newest replica seats → (r : Replica) → Contains (replicas_of seats) r
+    in_hand_own : (content : Image) (up : Drives) {e : BootEnd} (survey : Survey) (newest : Newest) (replica : Replica) (seats : List Seat) → IsReadOf calls host content up e survey → IsInHand survey newest replica seats → (r : Replica) → Contains (replicas_of seats) r
         → Contains host.site.lines r.line
     in_hand_own content up survey newest replica seats read hand r has =
         let among = subst (λ (l : List Seat). Contains (replicas_of l) r) hand.seats_are has in
@@ -133,7 +133,7 @@ module _ (host : Host) (is_host : IsOfTable host) where
     own_enough : (seats : List Seat) (enough : Bool) → is_enough host.site.key seats ≡ enough → is_half_active seats ≡ enough
     own_enough seats enough is = subst (λ (k : Key). is_enough k seats ≡ enough) (ap (λ (s : Site). s.key) is_host.site ∙ is_host.key) is
 
-    module _ (content : Image) (up : Drives) (survey : Survey) (read : IsReadOf calls host content up survey) (Wrote : _) where
+    module _ (content : Image) (up : Drives) {e : BootEnd} (survey : Survey) (read : IsReadOf calls host content up e survey) (Wrote : _) where
       adopted_held : (o : Opened) → IsAdopted calls Wrote host.site survey o → IsHeld o
       adopted_held o a = record {
         half = own_enough o.seats true a.enough;
@@ -165,7 +165,7 @@ module _ (host : Host) (is_host : IsOfTable host) where
     -- a boot: what it opens, and why it is over
     module _ (kept next : Kept) (answer : Answer) where
       abbrev By : BootEnd → Drives → Type 0
-      By end up = (is_memory end ≡ true) ⊎ ((survey : Survey) × IsReadOf calls host kept.content up survey × IsEndBy calls (λ hand table. WritesTo kept.content next.content hand.seats) host.site survey end)
+      By end up = (is_memory end ≡ true) ⊎ ((survey : Survey) × IsReadOf calls host kept.content up end survey × IsEndBy calls (λ hand table. WritesTo kept.content next.content hand.seats) host.site survey end)
 
       open_end : (end : BootEnd) (up : Drives) (clean : Bool) → By end up → answer ≡ answered_by end → (answer ≡ accepted → next.memory ≡ booted_with (opened_by end) up clean kept.memory.begun) → IsSaid answer → Holds next
       open_end (end.Adopted o) up clean (inl never) is memory said = absurd (false≢true never)

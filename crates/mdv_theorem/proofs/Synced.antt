@@ -1,5 +1,5 @@
 -- Over the lines of a run by which no call failed on its drive a block stays such that a crash leaves what a read gives.
-use Rattle.std.proofs.Common.{◌≡◌, ℕ, ◌+◌, ◌≤◌, false, List, length, length-append, Some, refl, arith}
+use Rattle.std.proofs.Common.{◌≡◌, inl, ℕ, ◌+◌, ◌≤◌, false, List, length, length-append, Some, refl, arith}
 use Rattle.mdv_base.specs.Causes.{Rose}
 use Rattle.mdv_base.proofs.Causes.{rose_of_once, rose_within}
 use Rattle.mdv_engine_law.specs.Answers.{accepted}
@@ -70,7 +70,7 @@ module _ (host : Host) (start : Counts) (m : Moment) (stretch : Stretch) (sound 
       let on = lines_rise host start m stretch drive (bytes + length piece) mid at left lines in
       let behind = sure_on host now mid piece told there.sure in
       let unfailed : (drive_failures now.counts mid.counts drive).some → ⊥ = λ once. calm (rose_within (start.drives drive) (now.counts.drives drive) (mid.counts.drives drive) (at.counts.drives drive) low on (rose_of_once (now.counts.drives drive) (mid.counts.drives drive) once)) in
-      let settled = next_settled now mid told.answer now.script mid.script told.comes told.said unfailed (sure_of host now there.sure) there.sure.story behind.story there.sure.is behind.is told.writes told.unwritten told.leaves there.settled in
+      let settled = next_settled now mid told.answer now.script mid.script told.comes told.said unfailed (sure_of host now there.sure) there.sure.story behind.story there.sure.is behind.is told.writes (λ quiet. told.unwritten (inl quiet)) told.leaves there.settled in
       lines_settled (bytes + length piece) mid at left lines (omega (arith, low, rises)) calm (record { sure = behind; settled = settled })
 
 -- the story goes on over lines

@@ -164,7 +164,7 @@ module _ (host : Host) (sound : IsSound host.drives) (sees : SeesOwn host) where
   -- what a boot comes to that is answered
   pub has_booted : (calls : Outcomes) (kept next : Kept) (answer : Answer) → IsRebooted calls host kept answer next → IsSaid answer → HasBooted host calls kept next
   has_booted calls kept next answer r said = by r.end r.by r.beside r.answer_is r.memory where
-    by : (e : BootEnd) → (is_memory e ≡ true) ⊎ ((survey : Survey) × IsReadOf calls host kept.content r.up survey × IsEndBy calls (λ hand of. WritesTo kept.content next.content hand.seats) host.site survey e) → IsSameBeside (boot_area host.site (has_written e)) kept.content next.content
+    by : (e : BootEnd) → (is_memory e ≡ true) ⊎ ((survey : Survey) × IsReadOf calls host kept.content r.up e survey × IsEndBy calls (λ hand of. WritesTo kept.content next.content hand.seats) host.site survey e) → IsSameBeside (boot_area host.site (has_written e)) kept.content next.content
         → answer ≡ answered_by e → (answer ≡ accepted → next.memory ≡ booted_with (opened_by e) r.up r.clean kept.memory.begun) → HasBooted host calls kept next
     by (ending.Adopted o) (inl never) beside is memory = absurd (cc (never))
     by (ending.Adopted o) (inr (survey, read, a)) beside is memory = adopted o (ap (λ (m : Memory). m.opened) (memory is)) (adopts_of calls host kept.content next.content r.up survey o read a) beside

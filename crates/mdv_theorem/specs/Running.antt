@@ -1,5 +1,5 @@
 -- Runs of the hosts of one table of drives, as the contract of `run` has them, one behind the other, and one more that is under way.
-use Rattle.std.specs.Prelude.{◌≡◌, ℕ, List, [], ◌∷◌, Some, Contains}
+use Rattle.std.specs.Prelude.{◌≡◌, ◌⊎◌, ℕ, List, [], ◌∷◌, Some, Contains, replicate}
 use Rattle.mdv_base.specs.Causes.{Rose}
 use Rattle.mdv_base.specs.declared.drive.DriveNo.{DriveNo}
 use Rattle.mdv_base.specs.declared.name.Key.TheVariants.{Local}
@@ -117,3 +117,7 @@ RunsGoOn =
     → (run : Running drives name before script) → run.fresh ≡ fresh → run.stretch ≡ stretch → run.start ≡ start → run.t ≡ t
     → (later : LivesOn drives name made before fresh script stretch start t m) → MayBeFound m.tale next
     → (went : WentOn run next) × (went.m ≡ m) × (ran_on run next went ≡ ran_now later.run)
+
+-- On new drives of zeros, with nothing past their ends, a life begins: no host finds a replica there.
+abbrev pub LivesBegin : Type 0
+LivesBegin = (drives : Geometry) (made : Image) (told : List ℕ) → IsSound drives → ((drive block : ℕ) → (made drive block ≡ replicate 512 0) ⊎ (made drive block ≡ [])) → Lived drives made [] (restarted made told)

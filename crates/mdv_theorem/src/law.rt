@@ -1,5 +1,5 @@
 ghost use Rattle.mdv_theorem.specs.Observed.{BlocksBegin, DatabasesStay, PrintsOfAll, PrintsOfNames, ReadsAgree, ReadsAreTold, RunsAgree, RunsAnswer, RunsEnd, RunsFindEnough, RunsFindOne, VolumesStay, WritesLast};
-ghost use Rattle.mdv_theorem.specs.Running.{RunsGoOn, RunsLiveOn};
+ghost use Rattle.mdv_theorem.specs.Running.{LivesBegin, RunsGoOn, RunsLiveOn};
 
 /// Whatever ran on the drives before, whatever failed and crashed then: a run whose script can be read and whose replies can be told ends with Panic only where a call failed on a
 /// drive on which its database's replicas may lie; a volume that was made, read or written stays, and a read of it is told as long as it keeps its copies, both as long as enough
@@ -46,4 +46,9 @@ pub fn lines_are_answered()
 pub fn runs_live_on()
     ensures lives { RunsLiveOn }
     ensures goes { RunsGoOn }
+{}
+
+/// Lives of which the law speaks there are: one begins on new drives of zeros, with nothing past their ends, since no host finds a replica there.
+pub fn lives_begin()
+    ensures { LivesBegin }
 {}

@@ -4,6 +4,6 @@
 mod law;
 
 pub use law::{
-    blocks_keep_their_values, databases_stay, lines_are_answered, prints_are_told,
+    blocks_keep_their_values, databases_stay, lines_are_answered, lives_begin, prints_are_told,
     runs_keep_their_word, runs_live_on,
 };

@@ -65,7 +65,7 @@ returns-in-Ok-Command-clause-end g c = λ t told.
       end.1,
       record {
         answered = λ knows. line_executed c.args.line.now (words.Exec command) is outcomes replies made host old new c.exec.result t end.0 (end.2.answered knows) (turn_writes host (asked_by host command) old _ _ c.exec.ensures.moments.each t end.0 told end.1)
-            end.2.quiet (λ reads. absurd (command_reads _ _ _ c.exec.result c.exec.ensures.answer.cause reads)) (λ ok other same. subst (λ (x : Command). LeavesDone host old x end.0) (cc (same)) (end.2.done ok)) (λ ok same. absurd (cc (same)));
+            end.2.quiet (λ reads. absurd (command_reads _ _ _ c.exec.result c.exec.ensures.answer.cause reads)) (λ same none. absurd (cc (same))) (λ ok other same. subst (λ (x : Command). LeavesDone host old x end.0) (cc (same)) (end.2.done ok)) (λ ok same. absurd (cc (same)));
         ran = λ on more. line_ran host c.args.line.now (asked_by host command) more old new t end.0 (end.2.turned on) (turn_home host (asked_by host command) old _ _ c.exec.ensures.moments.each t end.0 told end.1) (inl (inr (words.Exec command, is, refl))) (inl (no_boot c.args.line.now (words.Exec command) is (λ same. cc (same))))
             (λ knows. command_entries outcomes replies made host old new c.exec.result t end.0 c.args.line.now (end.2.turned on).bytes (end.2.turned on).is_told command is (end.2.answered knows) on);
         knows = end.2.knows;
@@ -123,7 +123,7 @@ returns-in-Ok-Tab-clause-end g c = λ t told.
       end.0,
       end.1,
       record {
-        answered = λ knows. line_executed c.args.line.now (words.Tab lines) is outcomes replies made host old new c.keep_tab.result t end.0 end.2.answered end.2.kept (λ quiet. end.2.kept) (λ reads. absurd (said_reads _ c.keep_tab.ensures.answer.said c.keep_tab.result c.keep_tab.ensures.answer.cause reads)) (λ ok command same. absurd (cc (same))) (λ ok same. absurd (cc (same)));
+        answered = λ knows. line_executed c.args.line.now (words.Tab lines) is outcomes replies made host old new c.keep_tab.result t end.0 end.2.answered end.2.kept (λ quiet. end.2.kept) (λ reads. absurd (said_reads _ c.keep_tab.ensures.answer.said c.keep_tab.result c.keep_tab.ensures.answer.cause reads)) (λ same none. absurd (cc (same))) (λ ok command same. absurd (cc (same))) (λ ok same. absurd (cc (same)));
         ran = λ on more. line_ran host c.args.line.now Nothing more old new t end.0 (end.2.turned on) (stays_still host t end.0 end.2.kept) (inl (inr (words.Tab lines, is, refl))) (inl (no_boot c.args.line.now (words.Tab lines) is (λ same. cc (same))))
             (λ knows. tab_entries outcomes replies made host old new c.keep_tab.result t end.0 c.args.line.now (end.2.turned on).bytes (end.2.turned on).is_told lines is end.2.answered on);
         knows = λ kept. end.2.knows;

@@ -1,5 +1,5 @@
 use Rattle.mdv_run.proofs.Counting.{accepted_calls, over_calls}
-use Rattle.mdv_run.proofs.Whole.{ended_unread}
+use Rattle.mdv_run.proofs.Whole.{ended_unread, none_opened}
 use Rattle.mdv_engine_law.specs.declared.answer.Outcome.TheVariants as outcome
 use Rattle.std.proofs.Common.{◌≡◌, ◌≤◌, ◌+◌, ℕ, List, [], inl, inr, Option, refl, sym, ◌∙◌, ap, subst, arith}
 use Rattle.mdv_engine_law.specs.Line.{Nothing, ToBoot}
@@ -26,7 +26,8 @@ use Rattle.mdv_shelf.specs.Made.{and_more, made_of}
 use Rattle.mdv_shelf.proofs.Made.{with_more}
 use Rattle.mdv_shelf.proofs.Settled.{synced_still}
 use Rattle.mdv_engine_law.specs.Line.{contents}
-use Rattle.mdv_shelf.specs.Area.{KeptOutside}
+use Rattle.mdv_shelf.proofs.Frame.{kept_outside_more}
+use Rattle.mdv_shelf.specs.Area.{KeptOutside, nowhere}
 use Rattle.mdv_engine_law.proofs.Efforts.{boot_too}
 use Rattle.mdv_engine_law.proofs.Knowing.{knows_kept}
 use Rattle.mdv_engine_law.proofs.Staying.{both_stay, boot_stays, stays_still, turn_stays}
@@ -77,7 +78,7 @@ returns-in-Ok-clause-end g c = λ text boots.
             (ap told (some_is _ up.0 quiet.0 up.1 quiet.1) ∙ quiet.2.quiet) up.2.rebooted end.2
             (boot_too (DriveFailures g.B.Shelf c.args.bench.now c.reboot.new.shelf) (DriveFailures g.B.Shelf c.args.bench.now c.reboot.new.shelf) (same_within (DriveFailures g.B.Shelf c.args.bench.now c.reboot.new.shelf)) (made_of g.B.Shelf c.args.bench.now c.reboot.new.shelf) (and_more 1 made) (with_more g.B.Shelf.calls g.B.Shelf.written _ _ _ 1 c.accept.ensures.counted.once) host accepted new (contents t) up.2.effort))
             (turn_writes host ToBoot old _ _ (both_turns host c.reboot.new.self.host c.in-Ok.ensures.answer.host old new c.in-Ok.ensures.answer.begun _ _ _ c.reboot.ensures.moments (λ s start. (let there = c.in-Ok.ensures.end s start in (there.0, there.1, there.2.booted refl))) c.accept.ensures.moments.each) t end.0 is end.1)
-            (λ quiet. absurd (loud_ok _ c.accept.result c.accept.ensures.answer.cause quiet)) (λ reads. absurd (said_reads _ outcome.Ok c.accept.result c.accept.ensures.answer.cause reads)) (λ ok command same. absurd (cc (same)))
+            (λ quiet. absurd (loud_ok _ c.accept.result c.accept.ensures.answer.cause quiet)) (λ reads. absurd (said_reads _ outcome.Ok c.accept.result c.accept.ensures.answer.cause reads)) (λ same none. kept_outside_more nowhere t up.0 end.0 (none_opened up.2 none) end.2.kept) (λ ok command same. absurd (cc (same)))
             (λ ok same drive own calm. synced_still drive.0 up.0 end.0 (λ block. end.2.kept drive.0 block refl) (up.2.synced refl drive own (λ once. calm ((within_calm _ _ _ (c.accept.ensures.answer.calm drive.0)).some once))));
         ran = λ on more. booted_ran host old new t up.0 (up.2.booted refl) c.in-Ok.ensures.answer.begun text more boots c.in-Ok.ensures.answer.fresh end.0 (accepted_turned host new _ c.accept.result up.0 end.0 end.2 on) (stays_still host up.0 end.0 end.2.kept) (accepted_ok host new _ c.accept.result up.0 end.0 end.2 on);
         knows = λ kept known. knows_kept host up.0 end.0 end.2.kept new (up.2.booted refl).knows;
@@ -121,7 +122,7 @@ returns-in-Err-clause-end g c = λ text boots t is.
           answer = Over c.in-Err.end;
           done = inr (inl (Boot, boots, done.2.rebooted));
           calls = inr (inl (Boot, boots, done.2.effort));
-          unwritten = λ on quiet. absurd quiet;
+          unwritten = λ on quiet. absurd (never_ended c.in-Err.end (subst IsReplied c.reply_at.ensures on));
           unread = ended_unread c.in-Err.end done.2;
           leaves = λ on ok. absurd (cc (ok));
           writes = inr (Boot, boots, subst (KeptOutside (site_area host.site) t) (some_is _ quiet.0 done.0 quiet.1 done.1) quiet.2.kept);

@@ -11,7 +11,7 @@ use Rattle.mdv_shelf.proofs.Moments.{moments_after, moments_weaker, moments_end,
 use Rattle.mdv_run.specs.Turns.{LinesRun}
 use Rattle.mdv_run_law.proofs.Booting.{boot_run, lines_run}
 use Rattle.mdv_shelf.specs.Area.{KeptOutside, nowhere}
-use Rattle.mdv_run.proofs.Whole.{boot_calm, boot_writes, ended_unread, from_ends, none_opened, point_between, whole_over, whole_lines, over_cause}
+use Rattle.mdv_run.proofs.Whole.{boot_calm, boot_writes, ended_unwritten, from_ends, none_opened, point_between, whole_over, whole_lines, over_cause}
 use Rattle.mdv_run.specs.Promise.{between, point_at}
 use Rattle.mdv_shelf.specs.Shelves.{AtEachMoment}
 use Rattle.mdv_run.proofs.Fronting.{IsBooting, RunFront, fronts_quiet, fronts_whole}
@@ -83,7 +83,7 @@ returns-in-Err-clause-has_run g c = record {
       (whole_over host (between g.B.Shelf c.args.bench.now c.boot.new.shelf) start t (asked_of input) _ Engine end (boot_calm g.B.Shelf c.args.bench.now c.boot.new.shelf c.args.host.site.drives (g.I.Source.faults c.args.script.now) c.boot.ensures.kept)
       done.0 (unbooted 0) c.in-Err.end (point_between g.B.Shelf g.met.B.Shelf.telling _ c.boot.new.shelf _ (g.I.Source.faults c.args.script.now) done.0 done.1 (in_time_of_among c.boot.ensures.kept) (moments_weaker (BootMoment host) (λ t m. told m ≡ told t) _ _ (λ t m moment. moment.quiet) c.boot.ensures.moments) (kept_itself g.B.Shelf c.boot.new.shelf).goes) done.1 (ap told (some_is _ done.0 quiet.0 done.1 quiet.1) ∙ quiet.2.quiet) done.2.rebooted
       (boot_too (drive_failures start end) (drive_failures start end) (same_within (drive_failures start end)) _ _ (by_efforts g.B.Shelf c.args.bench.now c.boot.new.shelf) host (boot_answer {T = Engine} (Err c.in-Err.end)) (unbooted 0) (contents t) done.2.effort) (boot_writes g.B.Shelf g.met.B.Shelf.telling host _ _ c.boot.ensures.moments)
-      (λ reads. from_ends g.B.Shelf g.met.B.Shelf.telling (KeptOutside nowhere) _ _ (λ s start. (let up = c.in-Err.ensures.end s start in (up.0, up.1, ended_unread c.in-Err.end up.2 reads))))));
+      (λ never. from_ends g.B.Shelf g.met.B.Shelf.telling (KeptOutside nowhere) _ _ (λ s start. (let up = c.in-Err.ensures.end s start in (up.0, up.1, ended_unwritten c.in-Err.end up.2 never))))));
   stands = λ input left.
       let host = c.args.host in
       moments_of_tales g.B.Shelf g.met.B.Shelf.telling _ _ (RunMoment host (asked_of input)) c.boot.ensures.kept.goes

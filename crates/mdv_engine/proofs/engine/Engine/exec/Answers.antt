@@ -12,6 +12,7 @@ use Rattle.mdv_engine_law.proofs.Writing.{done_still}
 use Rattle.mdv_engine_law.proofs.Turning.{Carried, carried_ends, turn_carry, turn_tell, turned, knows_after}
 use Rattle.mdv_engine.specs.Ends.{CarriesOut, LeavesMade}
 use Rattle.mdv_engine_law.specs.Efforts.{LossCalls}
+use Rattle.mdv_engine.specs.Counts.{HasTriedAll}
 use Rattle.mdv_shelf.specs.Made.{made_of}
 use Rattle.mdv_engine_law.specs.Replies.{IsLost}
 use Rattle.mdv_engine_law.specs.Commands.{MaySpend, blame_of}
@@ -119,14 +120,14 @@ returns-clause-counted g c =
     record {
       most = then_told g.B.Shelf _ _ _ c.tell.result _ _ (command_most g.B.Shelf _ _ host command before now answer by) c.tell.ensures.counted;
       done = λ is. done_then g.B.Shelf _ _ _ host command before now (done_told g.B.Shelf _ _ host command before now _ answer piece (rw is at answers) by).exactly (c.tell.ensures.counted.once (λ lost. subst IsLost is lost));
-      wrote = λ is. wrote_then g.B.Shelf _ _ _ command before now (done_told g.B.Shelf _ _ host command before now _ answer piece (rw is at answers) by).wrote (c.tell.ensures.counted.once (λ lost. subst IsLost is lost));
+      wrote = λ is. wrote_then g.B.Shelf _ _ _ host command before now (done_told g.B.Shelf _ _ host command before now _ answer piece (rw is at answers) by).wrote (c.tell.ensures.counted.once (λ lost. subst IsLost is lost));
       unlooked = λ is. then_told g.B.Shelf _ _ _ c.tell.result 0 0 (none_within g.B.Shelf _ _ 0 0 (unlooked_told g.B.Shelf _ _ host command before now _ answer c.tell.result _ answers is by)) c.tell.ensures.counted;
       unwritten = λ is. then_told g.B.Shelf _ _ _ c.tell.result _ 0 (unwritten_told g.B.Shelf _ _ host command before now _ answer c.tell.result _ answers is by) c.tell.ensures.counted;
       wanting = λ is. then_told g.B.Shelf _ _ _ c.tell.result _ 0 (wanting_told g.B.Shelf _ _ host command before now _ answer piece (rw is at answers) by) c.tell.ensures.counted;
       faulted = λ is. fault_then g.B.Shelf _ _ _ host command (fault_told g.B.Shelf _ _ host command before now _ answer piece (rw is at answers) by) (c.tell.ensures.counted.once (λ lost. subst IsLost is lost));
       lost = λ active listed is.
           let same = c.tell.ensures.counted.silent (subst IsLost (sym is) tt) in
-          subst (λ (x : g.row.B.Denot). LossCalls (made_of g.B.Shelf c.args.bench.now x) command host before) (sym same) (lost_told g.B.Shelf _ _ host command before now _ answer active listed piece (rw is at answers) by);
+          subst (λ (x : g.row.B.Denot). LossCalls (made_of g.B.Shelf c.args.bench.now x) command host before × HasTriedAll g.B.Shelf c.args.bench.now x host command before active) (sym same) (lost_told g.B.Shelf _ _ host command before now _ answer active listed piece (rw is at answers) by);
       spent = λ is.
           let same = c.tell.ensures.counted.silent (subst IsLost (sym is) tt) in
           none_within g.B.Shelf _ _ 0 0 (same ∙ spent_told g.B.Shelf _ _ host command before now _ answer piece (rw is at answers) by);

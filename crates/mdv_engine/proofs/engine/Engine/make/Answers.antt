@@ -25,7 +25,7 @@ returns-in-Some-clause-end g c =
     command_ends _ v (Create c.args.slices.now c.args.force c.args.count c.args.blocks) (outcome.Refused c.in-Some.refusal) v _ _
     (λ t start. (t, start, λ known. came.refused (λ drive. refl) c.in-Some.refusal (sym c.creation_refusal.ensures ∙ c.in-Some.is) (refl, record { memory = refl; content = λ drive block. refl })))
     (refused_carried v.host (ToMake (key_of v.host) (lines_asked v.host c.args.slices.now) c.args.count c.args.blocks) v.state _ _ refl c.in-Some.refusal)
-    (λ on u. tt)
+    (λ on u. absurd on)
 
 pub returns-in-Some-clause-answer : goal.returns-in-Some-clause-answer
 returns-in-Some-clause-answer g c =

@@ -90,6 +90,7 @@ pub returns-clause-counted : goal.returns-clause-counted
 returns-clause-counted g c = λ force.
     let v = c.args.self.now in
     makes.unmade_counted g.S.Shelf c.args.shelf.now c.create.new.shelf v c.requires.ready c.args.slices.now c.args.count c.args.blocks c.requires.form c.requires.begun c.in-Err.fault c.unmade.result c.unmade.ensures
+    (makes.to_old v _ c.self.view_is c.as_slice.result.now c.args.slices.now (c.as_slice.ensures.value ∙ c.in-Ok.ensures) (λ key identity lines. IsCreated g.S.Shelf c.args.shelf.now c.create.new.shelf key identity lines c.args.count c.args.blocks (Err c.in-Err.fault)) c.in-Err.ensures.answer)
     (makes.to_old v _ c.self.view_is c.as_slice.result.now c.args.slices.now (c.as_slice.ensures.value ∙ c.in-Ok.ensures) (λ key identity lines. IsCreationCounted g.S.Shelf c.args.shelf.now c.create.new.shelf lines c.args.count c.args.blocks (Err c.in-Err.fault)) c.in-Err.ensures.counted)
     force c.self.inside.0.1.0.database
 
@@ -97,5 +98,6 @@ pub returns-in-Ok-create-clause-counted : goal.returns-in-Ok-create-clause-count
 returns-in-Ok-create-clause-counted g c = λ force.
     let v = c.args.self.now in
     makes.made_counted g.S.Shelf c.args.shelf.now c.create.new.shelf v c.requires.ready c.args.slices.now c.args.count c.args.blocks c.requires.form c.requires.begun c.in-Ok-create.store
+    (makes.to_old v _ c.self.view_is c.as_slice.result.now c.args.slices.now (c.as_slice.ensures.value ∙ c.in-Ok.ensures) (λ key identity lines. IsCreated g.S.Shelf c.args.shelf.now c.create.new.shelf key identity lines c.args.count c.args.blocks (Ok c.in-Ok-create.store)) c.in-Ok-create.ensures.answer)
     (makes.to_old v _ c.self.view_is c.as_slice.result.now c.args.slices.now (c.as_slice.ensures.value ∙ c.in-Ok.ensures) (λ key identity lines. IsCreationCounted g.S.Shelf c.args.shelf.now c.create.new.shelf lines c.args.count c.args.blocks (Ok c.in-Ok-create.store)) c.in-Ok-create.ensures.counted)
     force
