@@ -16,6 +16,7 @@ use Rattle.mdv_shelf.proofs.Moments.{moments_end, moments_weaker, some_is}
 use Rattle.mdv_store.specs.Boot.{IfAdopted, IsAdopted, IsEndBy, IsInHand, IsLost, IsOnce, IsShort, TakesBoth, TakesClaimOrBoth, is_enough, is_memory, seats_of}
 use Rattle.mdv_store.specs.BootCounts.{IsBootCounted, IsEndCounted}
 use Rattle.mdv_store.specs.Booted.{IsBooted, IsReadAt}
+use Rattle.mdv_store.specs.Letters.{AreLettersOf}
 use Rattle.mdv_store.specs.Booting.{BootEnds, IsBootedTo, boot_area, has_written}
 use Rattle.mdv_store.specs.Booting as store
 use Rattle.mdv_replica.specs.Form.{shows}
@@ -184,9 +185,9 @@ module _ {S : Type 0} (shelf : Ghosts S) (old new : S) (host : Host) (ready : Is
 
   read : (e : BootEnd) → answer.end ≡ e → is_memory e ≡ false → Read e
   read e so remembered = by is.ended where
-    by : (is_memory answer.end ≡ true) ⊎ Read answer.end → Read e
+    by : (is_memory answer.end ≡ true) ⊎ ((survey : Survey) × (at : IsReadAt shelf old new host.drives host.site answer survey) × IsEndBy calls (Rewrites shelf at.looked new host.site.key) host.site survey answer.end × AreLettersOf host.site survey at.calm answer.letters) → Read e
     by (inl wanting) = absurd (let none = ap is_memory so in cc (wanting, none, remembered))
-    by (inr end_by) = subst Read so end_by
+    by (inr (survey, at, end_by, letters)) = subst Read so (survey, at, end_by)
 
   -- each place in hand has a replica that was read on a drive that answered
   in_hand : (survey : Survey) (at : IsReadAt shelf old new host.drives host.site answer survey) (newest : Newest) (replica : Replica) (seats : List Seat) → IsInHand survey newest replica seats → (r : Replica) → Contains (replicas_of seats) r → IsListed host.site at.calm r

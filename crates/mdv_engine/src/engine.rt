@@ -150,7 +150,7 @@ fn boot_from<S: Shelf>(
     ensures counted { IsBootedCounted S.Shelf shelf.old shelf.new host.now (boot_answer result) (kept_by begun result) }
     ensures kept { KeptAmong S.Shelf shelf.old shelf.new host.now.site.drives }
 {
-    let Booted { end, up, clean } = boot(shelf, alloc, &host.drives, &host.site);
+    let Booted { end, up, clean, .. } = boot(shelf, alloc, &host.drives, &host.site);
     match end {
         BootEnd::Adopted(store) => {
             let database = fitting(host, store);

@@ -14,6 +14,7 @@ use Rattle.mdv_store.proofs.Few.{reads_between}
 use Rattle.mdv_store.specs.BootCounts.{IsBootCounted, IsEndCounted, most_reads}
 use Rattle.mdv_store.specs.Boot.{IfAdopted, IsEndBy, IsOnce, is_memory}
 use Rattle.mdv_store.specs.Booted.{IsBooted, IsReadAt}
+use Rattle.mdv_store.specs.Letters.{AreLettersOf}
 use Rattle.mdv_store.specs.Booting.{BootEnds, BootMoment, IsBootedTo, boot_area, has_written}
 use Rattle.mdv_look.specs.Quiet.{IsUnwritten}
 use Rattle.mdv_store.specs.Taking.{RewriteMoment, Rewrites}
@@ -140,19 +141,23 @@ module _ {S : Type 0} (shelf : Ghosts S) (old new : S) (host : Host) (answer : B
       answered = λ still drive there. ap (λ (x : S). shelf.faults x (OnDrive drive.0)) (at.still still) ∙ at.answered drive there;
     }
 
+    -- memory was wanting, or its end is by what was read, and the letters of the listed places
+    abbrev WasEnded : Type 0
+    WasEnded = (is_memory answer.end ≡ true) ⊎ ((survey : Survey) × (at : IsReadAt shelf old new host.drives host.site answer survey) × IsEndBy calls (Rewrites shelf at.looked new host.site.key) host.site survey answer.end × AreLettersOf host.site survey at.calm answer.letters)
+
     -- those by which it writes, and of one that doesn't
     within_of : IsBootCounted shelf old new host.drives host.site answer → (made_of shelf old new).within (least_of answer.end) (2 * length host.site.drives + most_reads host.site + 8 * in_hand answer.end) (most_of answer.end)
     within_of counted = by booted.ended where
-      by : (is_memory answer.end ≡ true) ⊎ ((survey : Survey) × (at : IsReadAt shelf old new host.drives host.site answer survey) × IsEndBy calls (Rewrites shelf at.looked new host.site.key) host.site survey answer.end)
+      by : WasEnded
           → (made_of shelf old new).within (least_of answer.end) (2 * length host.site.drives + most_reads host.site + 8 * in_hand answer.end) (most_of answer.end)
       by (inl memory) = unwritten_within shelf old new _ answer.end (memory_still answer.end memory) (counted.still (memory_still answer.end memory))
-      by (inr (survey, at, end_by)) = end_within shelf old at.looked new _ at.reads calls host.site at.calm survey at.survey_is answer.end end_by counted.still
+      by (inr (survey, at, end_by, letters)) = end_within shelf old at.looked new _ at.reads calls host.site at.calm survey at.survey_is answer.end end_by counted.still
 
     wrote_of : has_written answer.end ≡ true → (made_of shelf old new).wrote
     wrote_of written = by booted.ended where
-      by : (is_memory answer.end ≡ true) ⊎ ((survey : Survey) × (at : IsReadAt shelf old new host.drives host.site answer survey) × IsEndBy calls (Rewrites shelf at.looked new host.site.key) host.site survey answer.end) → (made_of shelf old new).wrote
+      by : WasEnded → (made_of shelf old new).wrote
       by (inl memory) = absurd (let still = memory_still answer.end memory in cc (still, written))
-      by (inr (survey, at, end_by)) = end_wrote shelf old at.looked new _ at.reads calls host.site at.calm survey at.survey_is answer.end end_by written
+      by (inr (survey, at, end_by, letters)) = end_wrote shelf old at.looked new _ at.reads calls host.site at.calm survey at.survey_is answer.end end_by written
 
     -- its calls, as a line counts them
     pub boot_calls : IsUnclean → IsBootCounted shelf old new host.drives host.site answer
@@ -182,11 +187,11 @@ module _ {S : Type 0} (shelf : Ghosts S) (old new : S) (host : Host) (answer : B
     module _ (unclean : IsUnclean) (away : (survey : Survey) (at : IsReadAt shelf old new host.drives host.site answer survey) → AreAway survey at) (moment : BootMoment host.drives host.site answer.end t u) (failed : ℕ → Type 0) (ends : BootEnds failed host.drives host.site answer t u) where
       pub ended : (is_memory answer.end ≡ true) ⊎ ((survey : Survey) × IsReadOf calls host (contents t) answer.up answer.end survey × IsEndBy calls (λ hand table. WritesTo (contents t) (contents u) hand.seats) host.site survey answer.end)
       ended = by (is_memory answer.end) refl booted.ended where
-        by : (b : Bool) → is_memory answer.end ≡ b → (is_memory answer.end ≡ true) ⊎ ((survey : Survey) × (at : IsReadAt shelf old new host.drives host.site answer survey) × IsEndBy calls (Rewrites shelf at.looked new host.site.key) host.site survey answer.end)
+        by : (b : Bool) → is_memory answer.end ≡ b → WasEnded
             → (is_memory answer.end ≡ true) ⊎ ((survey : Survey) × IsReadOf calls host (contents t) answer.up answer.end survey × IsEndBy calls (λ hand table. WritesTo (contents t) (contents u) hand.seats) host.site survey answer.end)
         by true is end_by = inl is
         by false is (inl memory) = inl memory
-        by false is (inr (survey, at, end_by)) = inr (survey, read_of survey at (away survey at), wrote_more shelf at.looked new host.site.key calls (λ seats. WritesTo (contents t) (contents u) seats) (wrote_to survey at) host.site survey answer.end end_by)
+        by false is (inr (survey, at, end_by, letters)) = inr (survey, read_of survey at (away survey at), wrote_more shelf at.looked new host.site.key calls (λ seats. WritesTo (contents t) (contents u) seats) (wrote_to survey at) host.site survey answer.end end_by)
 
       pub left : IsLeftBy host.drives answer.end (contents u)
       left = by answer.end ends.adopted where

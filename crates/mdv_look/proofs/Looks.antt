@@ -232,6 +232,7 @@ module _ {S : Type 0} (shelf : Ghosts S) (g : Geometry) (site : Site) (old mid :
         each = λ r one_of. (let listed = answer.each r one_of in record { seated = listed.seated; is_up = still_up r.line.at.drive (brought r.line listed.seated.one_of) listed.is_up; of_key = listed.of_key });
         ordered = answer.ordered;
         marked = answer.marked;
+        others_on = λ o one_of. (let on = answer.others_on o one_of in (on.0, still_up o.line.at.drive (brought o.line on.0) on.1));
       };
       of = λ t is. (
           let was = gave t is in
@@ -241,6 +242,10 @@ module _ {S : Type 0} (shelf : Ghosts S) (g : Geometry) (site : Site) (old mid :
                 let so = and_first (has_drive left r.line.at.drive) (not (has_drive found.failed r.line.at.drive)) answers in
                 was.all r there (sym (are.each r.line.at.drive (are.only r.line.at.drive so)) ∙ so);
             table = was.table;
+            others = was.others;
+            told = λ line number at one_of answers comes.
+                let so = and_first (has_drive left line.at.drive) (not (has_drive found.failed line.at.drive)) answers in
+                was.told line number at one_of (sym (are.each line.at.drive (are.only line.at.drive so)) ∙ so) comes;
           });
     }
 

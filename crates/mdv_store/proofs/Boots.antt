@@ -6,6 +6,7 @@ use Rattle.std.specs.Option.{option_map}
 use Rattle.std.proofs.Math.Nat.{mul-le-mul_left}
 use Rattle.std.proofs.lemmas.List.Elements.{All-contains}
 use Rattle.mdv_base.specs.Causes.{RoseOnce}
+use Rattle.mdv_base.specs.declared.flags.Flags.{Flags}
 use Rattle.mdv_base.specs.DriveSet.{no_drives}
 use Rattle.mdv_replica.specs.Images.{IsSame}
 use Rattle.mdv_shelf.proofs.Among.{among_wider}
@@ -44,6 +45,7 @@ use Rattle.mdv_store.specs.Commit.{AnyLog, AnyWorld}
 use Rattle.mdv_store.specs.Counts.{MadeCallsBetween}
 use Rattle.mdv_look.specs.Looking.{AreCalmBy, HaveAnswered, IsLookedAt}
 use Rattle.mdv_look.specs.Quiet.{IsUnwritten}
+use Rattle.mdv_store.specs.Letters.{AreLettersOf}
 use Rattle.mdv_store.specs.Records.{Spells}
 use Rattle.mdv_store.specs.Seats.{AreLaid, active_of, drive_of, replicas_of, seats_area, spots_of}
 use Rattle.mdv_store.specs.Taking.{IsCalmOn, IsTaken, Rewrites, IsTakingCounted, StaySynced, TakingEnds, TakingMoment, WasRead, drives_read}
@@ -300,7 +302,7 @@ module _ {S : Type 0} (shelf : Ghosts S) (site : Site) (old m1 : S) (up : Drives
 
     -- what was read was made something of
     module _ (sound : IsSound g) (on : IsOnShelf (shelf.sizes old) site) (of_site : site ≡ site_of g site.key) (looked : Looked) (at : IsLookedAt shelf m1 m2 g site up looked) (new : S) (taken : Taken) (answer : IsTaken shelf m2 new site looked taken)
-        (t_kept : KeptAmong shelf m2 new (drives_read looked.survey.replicas)) (calm : Bool) (all : AreAllIn calm site.drives looked.calm) (clean : Bool) (clean_is : clean ≡ (calm && (taken.calm && not (is_memory taken.end)))) where
+        (t_kept : KeptAmong shelf m2 new (drives_read looked.survey.replicas)) (calm : Bool) (all : AreAllIn calm site.drives looked.calm) (clean : Bool) (clean_is : clean ≡ (calm && (taken.calm && not (is_memory taken.end)))) (letters : List Flags) (letters_are : AreLettersOf site looked.survey looked.calm letters) where
       abbrev faults_at : S → DriveNo → ℕ
       faults_at s drive = shelf.faults s (OnDrive drive.0)
 
@@ -368,7 +370,7 @@ module _ {S : Type 0} (shelf : Ghosts S) (site : Site) (old m1 : S) (up : Drives
       clean_by false b c out none memory = inr (out.0, out.1, out_once out.0 out.1 out.2)
 
       abbrev made : Booted
-      made = record { end = taken.end; up = up; clean = clean }
+      made = record { end = taken.end; up = up; clean = clean; letters = letters }
 
       abbrev read_at : IsReadAt shelf old new g site made looked.survey
       read_at = record {
@@ -395,9 +397,9 @@ module _ {S : Type 0} (shelf : Ghosts S) (site : Site) (old m1 : S) (up : Drives
       }
 
       ended_by : (is_memory taken.end ≡ true) ⊎ IsEndBy (DriveFailures shelf m2 new) (Rewrites shelf m2 new site.key) site looked.survey taken.end
-          → (is_memory taken.end ≡ true) ⊎ ((survey : Survey) × (at_look : IsReadAt shelf old new g site made survey) × IsEndBy (DriveFailures shelf old new) (Rewrites shelf at_look.looked new site.key) site survey taken.end)
+          → (is_memory taken.end ≡ true) ⊎ ((survey : Survey) × (at_look : IsReadAt shelf old new g site made survey) × IsEndBy (DriveFailures shelf old new) (Rewrites shelf at_look.looked new site.key) site survey taken.end × AreLettersOf site survey at_look.calm letters)
       ended_by (inl memory) = inl memory
-      ended_by (inr by) = inr (looked.survey, read_at, told_end by)
+      ended_by (inr by) = inr (looked.survey, read_at, told_end by, letters_are)
 
       each_once : (drive : DriveNo) → Contains site.drives drive → IsOnce (DriveFailures shelf old new drive.0)
       each_once drive one_of = elim (cases_bool (has_drive looked.calm drive)) [

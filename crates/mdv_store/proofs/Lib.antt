@@ -16,6 +16,7 @@ pub mod Given
 pub mod Halves
 pub mod Holding
 pub mod Leaving
+pub mod Lettering
 pub mod Locating
 pub mod Losing
 pub mod Making

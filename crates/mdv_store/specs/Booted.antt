@@ -8,6 +8,7 @@ use Rattle.mdv_survey.specs.declared.replica.Survey.{Survey}
 use Rattle.mdv_store.specs.Below.{DriveNo, Drives, Geometry, Ghosts, Site, Tale, has_drive, last}
 use Rattle.mdv_look.specs.Bringing.{AreUpBy, BringingEnds, IsBringingCounted}
 use Rattle.mdv_look.specs.Quiet.{IsUnwritten}
+use Rattle.mdv_store.specs.Letters.{AreLettersOf}
 use Rattle.mdv_store.specs.Seats.{AreLaid}
 use Rattle.mdv_store.specs.declared.booting.Booted.{Booted}
 use Rattle.mdv_base.specs.DriveSet.{no_drives}
@@ -46,11 +47,11 @@ pub record IsReadAt {S : Type 0} (shelf : Ghosts S) (old new : S) (g : Geometry)
   pub of : (t : Tale) → shelf.tale old ≡ Some t → IsSurveyOf g site calm (last t) survey
   pub none : (drive : DriveNo) → has_drive calm drive ≡ true → has_drive survey.failed drive ≡ false
 
--- A boot's answer: which drives came up, and its end by what was read; on each drive of the site no call failed, or just one did, if memory wasn't wanting; it is clean where
+-- A boot's answer: which drives came up, and its end and the letters of the listed places by what was read; on each drive of the site no call failed, or just one did, if memory wasn't wanting; it is clean where
 -- none failed on any of them, and else one did.
 pub record IsBooted {S : Type 0} (shelf : Ghosts S) (old new : S) (g : Geometry) (site : Site) (answer : Booted) : Type 0 where
   pub brought : WasBroughtUp shelf old new site answer
-  pub ended : (is_memory answer.end ≡ true) ⊎ ((survey : Survey) × (at : IsReadAt shelf old new g site answer survey) × IsEndBy (DriveFailures shelf old new) (Rewrites shelf at.looked new site.key) site survey answer.end)
+  pub ended : (is_memory answer.end ≡ true) ⊎ ((survey : Survey) × (at : IsReadAt shelf old new g site answer survey) × IsEndBy (DriveFailures shelf old new) (Rewrites shelf at.looked new site.key) site survey answer.end × AreLettersOf site survey at.calm answer.letters)
   pub once : (is_memory answer.end ≡ true) ⊎ ((drive : DriveNo) → Contains site.drives drive → IsOnce (DriveFailures shelf old new drive.0))
   pub clean : MatchBool answer.clean
       ((is_memory answer.end ≡ false) × ((drive : DriveNo) → Contains site.drives drive → (DriveFailures shelf old new drive.0).none))

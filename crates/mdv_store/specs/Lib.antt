@@ -11,6 +11,7 @@ pub mod Opened
 pub mod Commit
 pub mod Counts
 pub mod Boot
+pub mod Letters
 pub mod Booting
 pub mod BootCounts
 pub mod Taking

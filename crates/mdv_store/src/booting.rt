@@ -1,5 +1,5 @@
 // How a boot finds the database and writes it anew.
-ghost use Rattle.std.specs.Prelude.{◌≡◌, ◌≤◌, ◌<◌, ◌&&◌, not, true, false, length, Contains, IfOk};
+ghost use Rattle.std.specs.Prelude.{◌≡◌, ◌≤◌, ◌<◌, ◌&&◌, [], not, true, false, length, Contains, IfOk};
 ghost use Rattle.std.specs.List.{find};
 ghost use Rattle.mdv_name.specs.Sound.{IsSound};
 ghost use Rattle.mdv_shelf.specs.Drives.{AreDrives, KeptAmong};
@@ -18,6 +18,7 @@ ghost use Rattle.mdv_store.specs.Booting.{BootEnds, BootMoment};
 ghost use Rattle.mdv_store.specs.Seats.{AreLaid, active_of, drives_of};
 ghost use Rattle.mdv_store.specs.Taking.{AreNumbered, IsHandOf, IsReadied, IsRewriteAnswer, IsTaken, IsTakingCounted, RewriteEnds, RewriteMoment, StaySynced, TakingEnds, TakingMoment, drives_read};
 
+use crate::letters::{Letters, letters_of};
 use crate::seats::{Seat, active, claim_all, is_half_active, slot_all};
 use crate::store::Store;
 use crate::text::{blocks_for, room_for, slot_room, spell};
@@ -59,6 +60,8 @@ pub struct Booted {
     pub up: DriveSet,
     /// No call of the boot failed, on any drive. It isn't told of a boot that was refused memory.
     pub clean: bool,
+    /// What was seen of the places that the newest table lists; of none where no table was found. It isn't told of a boot that was refused memory.
+    pub letters: Letters,
 }
 
 /// Brings the site's drives up: it reads the first block of each and syncs it, whatever came of those before. It looks at the site's slices on those
@@ -77,21 +80,33 @@ pub fn boot<S: Shelf>(shelf: &mut S, alloc: Global, geometry: &Geometry, site: &
 {
     let drives = site.drives.as_slice();
     let up = bring_up(shelf, drives);
-    match look(shelf, alloc, geometry, site, &up) {
-        Ok(looked) => {
-            let calm = are_all(drives, &looked.calm);
-            let taken = take(shelf, alloc, site, looked);
-            Booted {
-                clean: is_clean(&taken, calm),
-                end: taken.end,
-                up,
-            }
-        }
-        Err(AllocError) => Booted {
-            end: BootEnd::Memory,
-            up,
-            clean: false,
-        },
+    let looked = match look(shelf, alloc, geometry, site, &up) {
+        Ok(looked) => looked,
+        Err(AllocError) => return wanting(alloc, up),
+    };
+    let letters = match letters_of(alloc, site, &looked) {
+        Ok(letters) => letters,
+        Err(AllocError) => return wanting(alloc, up),
+    };
+    let calm = are_all(drives, &looked.calm);
+    let taken = take(shelf, alloc, site, looked);
+    Booted {
+        clean: is_clean(&taken, calm),
+        end: taken.end,
+        up,
+        letters,
+    }
+}
+
+// Memory was wanting.
+fn wanting(alloc: Global, up: DriveSet) -> Booted
+    ensures { result ≡ record { end = BootEnd.Memory; up = up; clean = false; letters = [] } }
+{
+    Booted {
+        end: BootEnd::Memory,
+        up,
+        clean: false,
+        letters: Letters::none(alloc),
     }
 }
 
@@ -160,11 +175,13 @@ fn take_newest<S: Shelf>(shelf: &mut S, alloc: Global, site: &Site, looked: Look
     ensures synced { AtEnd S.Shelf (StaySynced S.Shelf shelf.old shelf.new) shelf.old shelf.new }
     ensures counted { IsTakingCounted S.Shelf shelf.old shelf.new result × KeptAmong S.Shelf shelf.old shelf.new (drives_read looked.survey.replicas) }
 {
+    let Looked { survey, calm: _ } = looked;
     let Survey {
         replicas,
         newest,
+        others: _,
         failed: _,
-    } = looked.survey;
+    } = survey;
     match newest {
         Some(newest) => adopt(shelf, alloc, site, replicas.as_slice(), newest),
         None => quiet(BootEnd::Empty),
@@ -325,7 +342,7 @@ fn seats_of(
     Ok(seats)
 }
 
-fn replica_at(
+pub(crate) fn replica_at(
     replicas: &[Replica],
     identity: Identity,
     place: Place,
@@ -339,7 +356,7 @@ fn replica_at(
         .find(|replica| is_seated(replica, identity, place, text))
 }
 
-fn is_of(replica: &Replica, identity: Identity) -> bool
+pub(crate) fn is_of(replica: &Replica, identity: Identity) -> bool
     ensures { result ≡ spec_is_of identity replica.now }
 {
     let its = replica.head.master.identity;
@@ -354,13 +371,13 @@ fn is_seated(replica: &Replica, identity: Identity, place: Place, text: usize) -
         && text <= slot_room(replica.first.blocks)
 }
 
-fn is_same(one: Place, other: Place) -> bool
+pub(crate) fn is_same(one: Place, other: Place) -> bool
     ensures { result ≡ same_place one other }
 {
     one == other
 }
 
-fn place_of(replica: &Replica) -> Place
+pub(crate) fn place_of(replica: &Replica) -> Place
     ensures { result ≡ spec_place_of replica.now }
 {
     let master = &replica.head.master;

@@ -5,6 +5,7 @@
 mod booting;
 mod creating;
 mod law;
+mod letters;
 mod seats;
 mod store;
 mod text;
@@ -13,5 +14,6 @@ mod writing;
 pub use booting::{BootEnd, Booted, boot};
 pub use creating::{CreateFault, create};
 pub use law::seats_tell;
+pub use letters::Letters;
 pub use seats::Seat;
 pub use store::{CommitFault, Store};

@@ -1,15 +1,18 @@
 // An open database, and how the next table is committed to it.
-ghost use Rattle.std.specs.Prelude.{◌≡◌, ◌≤◌, ◌<◌, length, IfErr, OnOk};
+ghost use Rattle.std.specs.Prelude.{◌≡◌, ◌≤◌, ◌<◌, ◌↔◌, length, Contains, IfErr, IsSome, OnOk};
 ghost use Rattle.mdv_record.specs.Text.{record_text};
 ghost use Rattle.mdv_shelf.specs.Drives.{KeptAmong};
 ghost use Rattle.mdv_shelf.specs.Shelves.{AtEachTale, AtEnd};
+ghost use Rattle.mdv_table.specs.Plan.{places_of};
 ghost use Rattle.mdv_store.specs.Commit.{CommitAnswer, CommitDone, CommitMoment, room_in};
 ghost use Rattle.mdv_store.specs.Counts.{IsCommitCounted};
+ghost use Rattle.mdv_store.specs.Letters.{flags_at as spec_flags_at};
 ghost use Rattle.mdv_store.specs.Seats.{AreLaid, active_of, drives_of};
 
+use crate::letters::{Letters, flags_at};
 use crate::seats::{Seat, active, is_half_active};
 use crate::writing::write_all;
-use mdv_base::{BLOCK_BYTES, Block, Identity, Key, Mark, NUMBER_LIMIT};
+use mdv_base::{BLOCK_BYTES, Block, Flags, Identity, Key, Mark, NUMBER_LIMIT, Place};
 use mdv_record::{TooLong, least_room, text_bytes};
 use mdv_shelf::Shelf;
 use mdv_table::Table;
@@ -81,6 +84,15 @@ impl Store {
         ensures { result ≡ self.now.identity }
     {
         self.identity
+    }
+
+    /// A place's nine letters, by what was seen of the listed places as the database was opened; none where the place isn't listed. It is active and
+    /// up to date as long as no call on its drive failed; one that was active then and isn't now has a write error.
+    pub fn flags(&self, letters: &Letters, place: &Place) -> Option<Flags>
+        ensures is { result ≡ spec_flags_at self.now.seats letters.now place.now }
+        ensures listed { IsSome result ↔ Contains (places_of self.now.table.plan.lists) place.now }
+    {
+        flags_at(self.seats.as_slice(), letters.as_slice(), *place)
     }
 
     /// Writes the next table, with the lists of this one, to each active place: three writes and three syncs at each. Its text is spelled once. It takes

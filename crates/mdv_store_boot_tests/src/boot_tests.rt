@@ -4,7 +4,7 @@ use mdv_store_tests::{Committed, Drives, End, Layout, Made};
 use std::alloc::Global;
 use std::test::Fail;
 
-#[derive(Clone, Copy, Debug)]
+#[derive(Clone, Copy)]
 enum Want {
     Adopts,
     Empty,
@@ -14,7 +14,6 @@ enum Want {
 
 // Where the places are, how many on each line, which drives are lost, and what a boot comes to. On five drives slice 7 of drive n is line 2n, and
 // slice 6 the line behind.
-#[derive(Debug)]
 struct Case {
     layout: Layout,
     on: &'static [usize],
@@ -163,8 +162,8 @@ fn boots_to(case: &Case, want: Want) -> Step {
     }
 }
 
-// The first of the case's boots that comes to something else.
-fn wrong_boot(alloc: Global, case: &Case) -> Result<Option<(Drives, Want)>, Fail> {
+// The drives that are lost in the first of the case's boots that comes to something else.
+fn wrong_boot(alloc: Global, case: &Case) -> Result<Option<Drives>, Fail> {
     for (lost, want) in case.boots {
         let steps = [
             Step::Make(7, case.on, case.count, Made::Done),
@@ -172,7 +171,17 @@ fn wrong_boot(alloc: Global, case: &Case) -> Result<Option<(Drives, Want)>, Fail
             boots_to(case, *want),
         ];
         if first_wrong(alloc, case.layout, &steps)?.is_some() {
-            return Ok(Some((*lost, *want)));
+            return Ok(Some(*lost));
+        }
+    }
+    Ok(None)
+}
+
+// The number of the first case with such a boot, and those drives.
+fn wrong_case(alloc: Global) -> Result<Option<(usize, Drives)>, Fail> {
+    for number in 0..CASES.len() {
+        if let Some(lost) = wrong_boot(alloc, &CASES[number])? {
+            return Ok(Some((number, lost)));
         }
     }
     Ok(None)
@@ -180,15 +189,15 @@ fn wrong_boot(alloc: Global, case: &Case) -> Result<Option<(Drives, Want)>, Fail
 
 #[test]
 fn boots_need_a_majority(rt: HostRuntime) -> Result<(), Fail> {
-    for case in CASES {
-        let wrong = wrong_boot(rt.alloc(), case)?;
-        assert!(rt; wrong.is_none(), "{:?} {}: {wrong:?}", case.on, case.count);
-    }
+    let wrong = wrong_case(rt.alloc())?;
+    assert!(rt; wrong.is_none(), "{wrong:?}");
     Ok(())
 }
 
 // Behind an adoption tables are committed, and the next boot draws the next number.
-const GOES_ON: &[(&[usize], u8, Drives)] = &[
+type GoesOn = (&'static [usize], u8, Drives);
+
+const GOES_ON: &[GoesOn] = &[
     (&[0, 2, 4], 1, 0),
     (&[0, 2, 4], 1, 0b00100),
     (&[0, 2], 3, 0),
@@ -196,24 +205,28 @@ const GOES_ON: &[(&[usize], u8, Drives)] = &[
     (&[0, 1, 2], 1, 0b00010),
 ];
 
+fn wrong_behind(alloc: Global, (on, count, lost): GoesOn) -> Result<Option<usize>, Fail> {
+    let listed = places(on, count);
+    let steps = [
+        Step::Make(7, on, count, Made::Done),
+        Step::Commits(1, Committed::Done),
+        Step::Commits(2, Committed::Done),
+        Step::Lose(lost),
+        Step::Adopts(2, 2, listed),
+        Step::Commits(3, Committed::Done),
+        Step::Adopts(3, 3, listed),
+        Step::Back(lost),
+        Step::Adopts(4, 3, listed),
+        Step::Adopts(5, 3, listed),
+    ];
+    first_wrong(alloc, Layout::Five, &steps)
+}
+
 #[test]
 fn goes_on_behind_a_boot(rt: HostRuntime) -> Result<(), Fail> {
-    for (on, count, lost) in GOES_ON {
-        let listed = places(on, *count);
-        let steps = [
-            Step::Make(7, on, *count, Made::Done),
-            Step::Commits(1, Committed::Done),
-            Step::Commits(2, Committed::Done),
-            Step::Lose(*lost),
-            Step::Adopts(2, 2, listed),
-            Step::Commits(3, Committed::Done),
-            Step::Adopts(3, 3, listed),
-            Step::Back(*lost),
-            Step::Adopts(4, 3, listed),
-            Step::Adopts(5, 3, listed),
-        ];
-        let wrong = first_wrong(rt.alloc(), Layout::Five, &steps)?;
-        assert!(rt; wrong.is_none(), "{on:?} {count}: {wrong:?}");
+    for number in 0..GOES_ON.len() {
+        let wrong = wrong_behind(rt.alloc(), GOES_ON[number])?;
+        assert!(rt; wrong.is_none(), "{number}: {wrong:?}");
     }
     Ok(())
 }

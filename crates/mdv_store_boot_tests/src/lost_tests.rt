@@ -1,11 +1,7 @@
 //! What makes a creation, a commit or a boot end for want of places or of numbers.
-use crate::step::{Step, first_wrong};
+use crate::step::{Case, Step, first_of, name_of};
 use mdv_store_tests::{Committed, End, Found, Image, Layout, Made};
-use std::alloc::Global;
 use std::test::Fail;
-
-// What it shows, and its steps.
-type Case = (&'static str, &'static [Step]);
 
 // A creation takes twelve calls for each place, six of them for its format, and two more for each place of a slice that gets several. A commit takes six
 // for each.
@@ -513,25 +509,6 @@ const SET_HALVES: &[Case] = &[
     ),
 ];
 
-// The number of the first case of which something else comes, and of its step.
-fn first_of(alloc: Global, layout: Layout, cases: &[Case]) -> Result<Option<(usize, usize)>, Fail> {
-    for number in 0..cases.len() {
-        let (_, steps) = cases[number];
-        if let Some(step) = first_wrong(alloc, layout, steps)? {
-            return Ok(Some((number, step)));
-        }
-    }
-    Ok(None)
-}
-
-// The name of the case.
-fn name_of(cases: &[Case], wrong: Option<(usize, usize)>) -> &'static str {
-    match wrong {
-        Some((number, _)) if number < cases.len() => cases[number].0,
-        _ => "",
-    }
-}
-
 #[test]
 fn commits_need_half(rt: HostRuntime) -> Result<(), Fail> {
     let wrong = first_of(rt.alloc(), Layout::Five, COMMITS)?;
@@ -555,19 +532,21 @@ fn texts_and_numbers_have_limits(rt: HostRuntime) -> Result<(), Fail> {
     Ok(())
 }
 
+const RUNS: &[(Layout, &[Case])] = &[
+    (Layout::Three, BOOTS),
+    (Layout::Shared, BOOTS),
+    (Layout::Three, HALVES),
+    (Layout::Shared, SET_HALVES),
+];
+
 #[test]
 fn boots_need_half_and_sets_more(rt: HostRuntime) -> Result<(), Fail> {
-    let runs = [
-        (Layout::Three, BOOTS),
-        (Layout::Shared, BOOTS),
-        (Layout::Three, HALVES),
-        (Layout::Shared, SET_HALVES),
-    ];
-    for (layout, cases) in runs {
+    for number in 0..RUNS.len() {
+        let (layout, cases) = RUNS[number];
         let wrong = first_of(rt.alloc(), layout, cases)?;
         assert!(rt;
             wrong.is_none(),
-            "{layout:?}, {}: {wrong:?}",
+            "{number}, {}: {wrong:?}",
             name_of(cases, wrong)
         );
     }

@@ -1,10 +1,7 @@
 //! Boots where replicas of several databases lie on the drives.
-use crate::step::{Step, first_wrong};
+use crate::step::{Case, Step, first_of, name_of};
 use mdv_store_tests::{Committed, End, Found, Layout, Made};
 use std::test::Fail;
-
-// What it shows, and its steps.
-type Case = (&'static str, &'static [Step]);
 
 // The first places of the drives 0 to 2, and of those behind them.
 const FRONT: &[usize] = &[0, 2, 4];
@@ -189,9 +186,7 @@ const CASES: &[Case] = &[
 
 #[test]
 fn boots_take_one_database(rt: HostRuntime) -> Result<(), Fail> {
-    for (name, steps) in CASES {
-        let wrong = first_wrong(rt.alloc(), Layout::Five, steps)?;
-        assert!(rt; wrong.is_none(), "{name}: {wrong:?}");
-    }
+    let wrong = first_of(rt.alloc(), Layout::Five, CASES)?;
+    assert!(rt; wrong.is_none(), "{}: {wrong:?}", name_of(CASES, wrong));
     Ok(())
 }

@@ -1,10 +1,7 @@
 //! What a peek tells of the drives, beside the boots there.
-use crate::step::{Step, first_wrong};
+use crate::step::{Case, Step, first_of, name_of};
 use mdv_store_tests::{Committed, End, Image, Layout, Made, Peeked};
 use std::test::Fail;
-
-// What it shows, and its steps.
-type Case = (&'static str, &'static [Step]);
 
 // The first places of the drives 0 to 2, and of those behind them.
 const FRONT: &[usize] = &[0, 2, 4];
@@ -97,9 +94,7 @@ const CASES: &[Case] = &[
 
 #[test]
 fn tells_what_a_boot_takes(rt: HostRuntime) -> Result<(), Fail> {
-    for (what, steps) in CASES {
-        let wrong = first_wrong(rt.alloc(), Layout::Five, steps)?;
-        assert!(rt; wrong.is_none(), "{what}: {wrong:?}");
-    }
+    let wrong = first_of(rt.alloc(), Layout::Five, CASES)?;
+    assert!(rt; wrong.is_none(), "{}: {wrong:?}", name_of(CASES, wrong));
     Ok(())
 }

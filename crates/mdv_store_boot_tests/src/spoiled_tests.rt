@@ -178,16 +178,20 @@ fn spoiled_replicas_hide_those_behind(rt: HostRuntime) -> Result<(), Fail> {
 // What lies in front of the first replica, and a slot whose gate is closed, counts for nothing.
 const UNREAD: &[(u64, usize)] = &[(2, 0), (17, 511), (28, 0), (33, 511)];
 
+fn wrong_unread(alloc: Global, at: u64, byte: usize) -> Result<Option<usize>, Fail> {
+    let steps = [
+        Step::Make(7, &[0, 2, 4], 1, Made::Done),
+        Step::Spoil(1, at, byte),
+        Step::Lose(0b00001),
+        Step::Adopts(2, 0, 3),
+    ];
+    first_wrong(alloc, Layout::Five, &steps)
+}
+
 #[test]
 fn other_blocks_count_for_nothing(rt: HostRuntime) -> Result<(), Fail> {
     for (at, byte) in UNREAD {
-        let steps = [
-            Step::Make(7, &[0, 2, 4], 1, Made::Done),
-            Step::Spoil(1, *at, *byte),
-            Step::Lose(0b00001),
-            Step::Adopts(2, 0, 3),
-        ];
-        let wrong = first_wrong(rt.alloc(), Layout::Five, &steps)?;
+        let wrong = wrong_unread(rt.alloc(), *at, *byte)?;
         assert!(rt; wrong.is_none(), "{at} {byte}: {wrong:?}");
     }
     Ok(())

@@ -1,4 +1,5 @@
 //! Steps of a database's life, each with what has to come of it, and the walk over a list of them.
+use mdv_base::{Flags, Place};
 use mdv_replica::claim_block;
 use mdv_store_tests::{
     Boot, Committed, Drives, End, Found, Ground, Host, Image, Layout, Made, Peeked, bit, local_on,
@@ -8,7 +9,7 @@ use std::alloc::Global;
 use std::test::Fail;
 
 /// What is done, and what comes of it. The first replica on slice 7 begins at block 18 of its drive.
-#[derive(Clone, Copy, Debug)]
+#[derive(Clone, Copy)]
 pub(crate) enum Step {
     /// A creation of a database with this fresh word: on which lines of the site, how many places on each, and what comes of it.
     Make(u64, &'static [usize], u8, Made),
@@ -37,6 +38,8 @@ pub(crate) enum Step {
     Spoil(u32, u64, usize),
     /// A drive's block is a claim of this number.
     Claim(u32, u64, u64),
+    /// The letters of the listed places, in their order.
+    Tells(&'static [&'static str]),
 }
 
 #[derive(Drop)]
@@ -58,6 +61,48 @@ fn writes(end: End) -> bool {
     matches!(end, End::Adopted(_) | End::Lost(_, _))
 }
 
+// The nine letters, each in its place, or a dash.
+fn spelled(flags: &Flags) -> [u8; 9] {
+    let all = [
+        (flags.active, b'a'),
+        (flags.master, b'm'),
+        (flags.updated, b'u'),
+        (flags.located, b'l'),
+        (flags.write_error, b'W'),
+        (flags.read_error, b'R'),
+        (flags.form_fault, b'F'),
+        (flags.master_fault, b'M'),
+        (flags.body_fault, b'D'),
+    ];
+    all.map(|(is, letter)| if is { letter } else { b'-' })
+}
+
+fn tells_at(host: &Host, place: &Place, letters: &str) -> bool {
+    match host.flags(place) {
+        Some(flags) => spelled(&flags).as_slice() == letters.as_bytes(),
+        None => false,
+    }
+}
+
+// Of a place that isn't listed, as one that would be longer, no letters are told.
+fn tells(host: &Host, letters: &[&str]) -> bool {
+    let places = host.places();
+    places.len() == letters.len()
+        && places
+            .iter()
+            .zip(letters)
+            .all(|(place, letters)| tells_at(host, place, letters))
+        && places.iter().all(|place| is_untold(host, *place))
+}
+
+fn is_untold(host: &Host, place: Place) -> bool {
+    let longer = Place {
+        blocks: place.blocks.saturating_add(1),
+        ..place
+    };
+    host.flags(&longer).is_none()
+}
+
 impl Life {
     fn new(alloc: Global, ground: Ground) -> Result<Life, Fail> {
         Ok(Life {
@@ -69,11 +114,8 @@ impl Life {
 
     // It comes to this, and nothing was written where there was nothing to write.
     fn boots_to(&mut self, alloc: Global, want: Boot) -> Result<bool, Fail> {
-        let before = self.host.blocks(alloc)?;
-        let boot = self.host.boot(alloc)?;
-        let after = self.host.blocks(alloc)?;
-        let is_kept = writes(boot.end) || before.as_slice() == after.as_slice();
-        Ok(is_kept && boot == want)
+        let (boot, is_same) = self.host.boot_watched(alloc)?;
+        Ok((is_same || writes(boot.end)) && boot == want)
     }
 
     fn boots(&mut self, alloc: Global, end: End) -> Result<bool, Fail> {
@@ -91,8 +133,7 @@ impl Life {
     fn peeks(&mut self, alloc: Global, want: Peeked) -> Result<bool, Fail> {
         let before = self.host.blocks(alloc)?;
         let peeked = self.host.peek(alloc)?;
-        let after = self.host.blocks(alloc)?;
-        Ok(peeked == want && before.as_slice() == after.as_slice())
+        Ok(peeked == want && self.host.holds(alloc, before.as_slice())?)
     }
 
     fn commits_nothing(
@@ -103,15 +144,13 @@ impl Life {
     ) -> Result<bool, Fail> {
         let before = self.host.blocks(alloc)?;
         let committed = self.host.commit(alloc, number)?;
-        let after = self.host.blocks(alloc)?;
-        Ok(committed == want && before.as_slice() == after.as_slice())
+        Ok(committed == want && self.host.holds(alloc, before.as_slice())?)
     }
 
     fn commits_many(&mut self, alloc: Global, count: u16, want: Committed) -> Result<bool, Fail> {
         let before = self.host.blocks(alloc)?;
         let committed = self.host.commit_many(alloc, count)?;
-        let after = self.host.blocks(alloc)?;
-        Ok(committed == want && before.as_slice() == after.as_slice())
+        Ok(committed == want && self.host.holds(alloc, before.as_slice())?)
     }
 
     fn lose(&mut self, drives: Drives) {
@@ -165,6 +204,7 @@ impl Life {
             Step::Commits(number, want) => Ok(self.host.commit(alloc, number)? == want),
             Step::CommitsNothing(number, want) => self.commits_nothing(alloc, number, want),
             Step::CommitsMany(count, want) => self.commits_many(alloc, count, want),
+            Step::Tells(letters) => Ok(tells(&self.host, letters)),
             _ => {
                 self.change(alloc, step)?;
                 Ok(true)
@@ -189,6 +229,32 @@ pub(crate) fn first_wrong(
 ) -> Result<Option<usize>, Fail> {
     let mut life = Life::new(alloc, ground_on(layout)?)?;
     walk(alloc, &mut life, steps)
+}
+
+/// What it shows, and its steps.
+pub(crate) type Case = (&'static str, &'static [Step]);
+
+/// The number of the first case of which something else comes, and of its step.
+pub(crate) fn first_of(
+    alloc: Global,
+    layout: Layout,
+    cases: &[Case],
+) -> Result<Option<(usize, usize)>, Fail> {
+    for number in 0..cases.len() {
+        let (_, steps) = cases[number];
+        if let Some(step) = first_wrong(alloc, layout, steps)? {
+            return Ok(Some((number, step)));
+        }
+    }
+    Ok(None)
+}
+
+/// The name of the case.
+pub(crate) fn name_of(cases: &[Case], wrong: Option<(usize, usize)>) -> &'static str {
+    match wrong {
+        Some((number, _)) if number < cases.len() => cases[number].0,
+        _ => "",
+    }
 }
 
 fn walk(alloc: Global, life: &mut Life, steps: &[Step]) -> Result<Option<usize>, Fail> {

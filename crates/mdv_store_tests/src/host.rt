@@ -13,14 +13,16 @@ ghost use Rattle.mdv_store.specs.Seats.{AreLaid};
 ghost use Rattle.mdv_survey.specs.Replica.{IsOnShelf};
 ghost use Rattle.mdv_store_tests.specs.Lines.{EndsWithin, HasRoom};
 
-use mdv_base::{Block, DriveName, DriveNo, DriveSet, Identity, Key, SliceName, VolId, ZERO_BLOCK};
+use mdv_base::{
+    Block, DriveName, DriveNo, DriveSet, Flags, Identity, Key, Place, SliceName, VolId, ZERO_BLOCK,
+};
 use mdv_home::has_drives;
 use mdv_look::{PeekRefusal, peek};
 use mdv_name::{Geometry, SliceLine, read_geometries_are_sound};
 use mdv_quorum_tests::Draws;
 use mdv_shelf::{MemShelf, Shelf};
 use mdv_shown::{Site, site_of, sites_are};
-use mdv_store::{BootEnd, CommitFault, CreateFault, Store, boot, create};
+use mdv_store::{BootEnd, CommitFault, CreateFault, Letters, Store, boot, create};
 use mdv_table::{Table, Volume, Volumes};
 use std::alloc::{AllocError, Global};
 use std::test::Fail;
@@ -29,7 +31,7 @@ use std::test::Fail;
 pub type Drives = u32;
 
 /// What a boot came to.
-#[derive(Clone, Copy, Debug, PartialEq, Eq)]
+#[derive(Clone, Copy, PartialEq, Eq)]
 pub enum End {
     Adopted(Found),
     Empty,
@@ -45,7 +47,7 @@ pub enum End {
 
 /// An adopted table: of which database, under which boot number, its own number, and how many places it lists. The number of a table without volumes is 0,
 /// and else that of its only volume.
-#[derive(Clone, Copy, Debug, PartialEq, Eq)]
+#[derive(Clone, Copy, PartialEq, Eq)]
 pub struct Found {
     pub fresh: u64,
     pub boot: u64,
@@ -54,7 +56,7 @@ pub struct Found {
 }
 
 /// A boot's end, which drives were up, and whether it was clean.
-#[derive(Clone, Copy, Debug, PartialEq, Eq)]
+#[derive(Clone, Copy, PartialEq, Eq)]
 pub struct Boot {
     pub end: End,
     pub up: Drives,
@@ -62,7 +64,7 @@ pub struct Boot {
 }
 
 /// What a peek told.
-#[derive(Clone, Copy, Debug, PartialEq, Eq)]
+#[derive(Clone, Copy, PartialEq, Eq)]
 pub enum Peeked {
     /// The table's number, as in `Found`, and how many places it lists.
     Table(u16, usize),
@@ -75,7 +77,7 @@ pub enum Peeked {
 }
 
 /// How a crash picks the values of blocks: what was stable, what was written last, or as the numbers from that seed are drawn.
-#[derive(Clone, Copy, Debug, PartialEq, Eq)]
+#[derive(Clone, Copy)]
 pub enum Image {
     Stable,
     Last,
@@ -83,7 +85,7 @@ pub enum Image {
 }
 
 /// What came of a creation.
-#[derive(Clone, Copy, Debug, PartialEq, Eq)]
+#[derive(Clone, Copy, PartialEq, Eq)]
 pub enum Made {
     Done,
     Failed,
@@ -93,7 +95,7 @@ pub enum Made {
 }
 
 /// What came of a commit.
-#[derive(Clone, Copy, Debug, PartialEq, Eq)]
+#[derive(Clone, Copy, PartialEq, Eq)]
 pub enum Committed {
     Done,
     /// So many places are active, and so many are listed.
@@ -126,6 +128,7 @@ pub struct Host {
     site: Site,
     shelf: MemShelf,
     store: Option<Store>,
+    letters: Letters,
     ghost sound: { IsSound geometry },
     ghost of: { site ≡ spec_site_of geometry site.key },
     ghost sized: { shelf_sizes shelf ≡ site.sizes },
@@ -382,6 +385,7 @@ impl Host {
             site,
             shelf,
             store: None,
+            letters: Letters::none(alloc),
         })
     }
 
@@ -408,11 +412,19 @@ impl Host {
         let shelf = &mut self.shelf;
         match create(shelf, alloc, key, identity, lines, count, BLOCKS) {
             Ok(store) => {
+                self.letters = Letters::made(alloc, store.table().plan.lists.places())?;
                 self.store = Some(store);
                 Ok(Made::Done)
             }
             Err(fault) => Ok(unmade(fault)),
         }
+    }
+
+    /// A boot, and whether the drives that aren't lost hold what they held before. That takes a call for each drive before it, and one behind it.
+    pub fn boot_watched(&mut self, alloc: Global) -> Result<(Boot, bool), Fail> {
+        let before = self.blocks(alloc)?;
+        let boot = self.boot(alloc)?;
+        Ok((boot, self.holds(alloc, before.as_slice())?))
     }
 
     /// What was open is forgotten.
@@ -424,6 +436,7 @@ impl Host {
         let booted = boot(&mut self.shelf, alloc, &self.geometry, &self.site);
         let end = end_of(&booted.end);
         self.store = store_of(&self.shelf, booted.end);
+        self.letters = booted.letters;
         Ok(Boot {
             end,
             up: mask_of(&booted.up),
@@ -437,6 +450,19 @@ impl Host {
             return Err("drives of the table".into());
         }
         Ok(told(peek(&mut self.shelf, alloc, &self.geometry, &self.site)))
+    }
+
+    /// The places that the open database lists.
+    pub fn places(&self) -> &[Place] {
+        match &self.store {
+            Some(store) => store.table().plan.lists.places(),
+            None => &[],
+        }
+    }
+
+    /// The nine letters of a listed place.
+    pub fn flags(&self, place: &Place) -> Option<Flags> {
+        self.store.as_ref()?.flags(&self.letters, place)
     }
 
     pub fn commit(&mut self, alloc: Global, number: u16) -> Result<Committed, Fail> {
@@ -549,6 +575,12 @@ impl Host {
             self.add_blocks(alloc, drive, &mut all)?;
         }
         Ok(all)
+    }
+
+    /// Whether they hold these blocks. It takes a call for each drive.
+    pub fn holds(&mut self, alloc: Global, blocks: &[Block]) -> Result<bool, Fail> {
+        let all = self.blocks(alloc)?;
+        Ok(all.as_slice() == blocks)
     }
 
     fn add_blocks(&mut self, alloc: Global, drive: u32, all: &mut Vec<Block>) -> Result<(), Fail> {

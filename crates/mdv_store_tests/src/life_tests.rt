@@ -17,7 +17,7 @@ struct Life {
 }
 
 // What happened in a life.
-#[derive(Clone, Copy, Debug)]
+#[derive(Clone, Copy)]
 struct Seen {
     adopted: u32,
     refused: u32,
@@ -38,23 +38,15 @@ fn count(number: &mut u32) {
     *number = number.saturating_add(1);
 }
 
-fn new_life(
-    alloc: Global,
-    ground: &Ground,
-    on: &[usize],
-    places: u8,
-) -> Result<Option<Life>, Fail> {
-    let mut host = Host::new(alloc, ground.layout.text(), ground.own)?;
-    let made = host.create(alloc, &ground.own, 7, on, places)?;
-    let world = World::new(alloc, on, places)?;
-    let life = Life {
-        host,
+// Of a database that isn't made yet.
+fn new_life(alloc: Global, ground: &Ground, world: World) -> Result<Life, Fail> {
+    Ok(Life {
+        host: Host::new(alloc, ground.layout.text(), ground.own)?,
         world,
         next: 1,
         told: 0,
         seen: NOTHING,
-    };
-    Ok(Some(life).filter(|_| made == Made::Done))
+    })
 }
 
 impl Life {
@@ -63,10 +55,8 @@ impl Life {
         let want = self.world.boot();
         let End::Adopted(found) = want else {
             count(&mut self.seen.refused);
-            let before = self.host.blocks(alloc)?;
-            let boot = self.host.boot(alloc)?;
-            let after = self.host.blocks(alloc)?;
-            return Ok(boot.end == want && before.as_slice() == after.as_slice());
+            let (boot, is_same) = self.host.boot_watched(alloc)?;
+            return Ok(boot.end == want && is_same);
         };
         count(&mut self.seen.adopted);
         let boot = self.host.boot(alloc)?;
@@ -131,28 +121,39 @@ impl Life {
 
 const TURNS: u32 = 60;
 
-fn plays(alloc: Global, life: &mut Life, draws: &mut Draws) -> Result<bool, Fail> {
+// On which lines the places are, how many on each, and a seed.
+type Drawn = (&'static [usize], u8, u64);
+
+fn plays(alloc: Global, life: &mut Life, seed: u64) -> Result<bool, Fail> {
+    let mut draws = Draws::new(seed);
     for _ in 0..TURNS {
-        if !life.turn(alloc, draws)? {
+        if !life.turn(alloc, &mut draws)? {
             return Ok(false);
         }
     }
     Ok(true)
 }
 
-// What was seen of a life; nothing, where the store did something else than the world.
-fn lives(alloc: Global, on: &[usize], places: u8, seed: u64) -> Result<Option<Seen>, Fail> {
-    let ground = local_on(Layout::Five)?;
-    let mut draws = Draws::new(seed);
-    let Some(mut life) = new_life(alloc, &ground, on, places)? else {
-        return Ok(None);
-    };
-    let is_kept = plays(alloc, &mut life, &mut draws)?;
-    Ok(Some(life.seen).filter(|_| is_kept))
+fn makes_and_plays(
+    alloc: Global,
+    ground: &Ground,
+    life: &mut Life,
+    (on, places, seed): Drawn,
+) -> Result<bool, Fail> {
+    let made = life.host.create(alloc, &ground.own, 7, on, places)?;
+    Ok(made == Made::Done && plays(alloc, life, seed)?)
 }
 
-// On which lines the places are, how many on each, and a seed.
-const LIVES: &[(&[usize], u8, u64)] = &[
+// Whether the store did what the world does, and what was seen.
+fn lives(alloc: Global, drawn: Drawn) -> Result<(bool, Seen), Fail> {
+    let ground = local_on(Layout::Five)?;
+    let world = World::new(alloc, drawn.0, drawn.1)?;
+    let mut life = new_life(alloc, &ground, world)?;
+    let is_kept = makes_and_plays(alloc, &ground, &mut life, drawn)?;
+    Ok((is_kept, life.seen))
+}
+
+const LIVES: &[Drawn] = &[
     (&[0, 2, 4, 6, 8], 1, 1),
     (&[0, 2, 4, 6, 8], 1, 2),
     (&[0, 2, 4], 1, 3),
@@ -172,16 +173,24 @@ fn sum(a: Seen, b: Seen) -> Seen {
     }
 }
 
+// The number of the first life that went another way; and where none did, whether enough was seen.
+fn first_apart(alloc: Global) -> Result<(Option<usize>, bool), Fail> {
+    let mut all = NOTHING;
+    for number in 0..LIVES.len() {
+        let (is_kept, seen) = lives(alloc, LIVES[number])?;
+        if !is_kept {
+            return Ok((Some(number), false));
+        }
+        all = sum(all, seen);
+    }
+    let is_full = all.adopted > 40 && all.refused > 20 && all.done > 40 && all.lost > 20;
+    Ok((None, is_full))
+}
+
 // There are boots that adopt and boots that don't, and commits that are done and others that aren't.
 #[test]
 fn lives_go_as_in_a_plain_world(rt: HostRuntime) -> Result<(), Fail> {
-    let mut all = NOTHING;
-    for (on, places, seed) in LIVES {
-        let seen = lives(rt.alloc(), on, *places, *seed)?;
-        assert!(rt; seen.is_some(), "{on:?} {places} {seed}");
-        all = sum(all, seen.unwrap_or(NOTHING));
-    }
-    let is_full = all.adopted > 40 && all.refused > 20 && all.done > 40 && all.lost > 20;
-    assert!(rt; is_full, "{all:?}");
+    let (apart, is_full) = first_apart(rt.alloc())?;
+    assert!(rt; apart.is_none() && is_full, "{apart:?}");
     Ok(())
 }

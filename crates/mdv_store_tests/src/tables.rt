@@ -57,7 +57,7 @@ slice c0t2d0s7 2 64 db
 ";
 
 /// Which table of drives.
-#[derive(Clone, Copy, Debug)]
+#[derive(Clone, Copy)]
 pub enum Layout {
     Five,
     Three,

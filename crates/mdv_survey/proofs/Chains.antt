@@ -1,5 +1,5 @@
 -- Which replicas of a slice are found, as far as a look has come.
-use Rattle.std.proofs.Common.{◌≡◌, ◌⊎◌, inl, inr, ℕ, ◌+◌, ◌*◌, ◌<◌, ◌≤◌, Bool, true, List, [], ◌∷◌, ◌++◌, sym, ap, subst, None, arith}
+use Rattle.std.proofs.Common.{◌≡◌, ◌⊎◌, inl, inr, ℕ, ◌+◌, ◌*◌, ◌<◌, ◌≤◌, Bool, true, List, [], ◌∷◌, ◌++◌, refl, sym, ◌∙◌, ap, subst, None, arith}
 use Rattle.std.specs.Prelude.{Contains}
 use Rattle.std.proofs.lemmas.Bool.{cases_lt}
 use Rattle.std.proofs.lemmas.List.Elements.{Contains-append_left, Contains-push, Contains-push_cases}
@@ -9,13 +9,19 @@ use Rattle.mdv_shown.proofs.Elsewhere.{one_master, places_step}
 use Rattle.mdv_survey.specs.Below.{Counts, DriveNo, First, Geometry, Head, IsFound, IsHead, IsInChain, IsMasterAt, IsTextOf, Master, PlaceAt, Second, Site, SliceLine, SlotFits, place_on, size_on, with_blocks}
 use Rattle.mdv_survey.specs.Newest.{HasTable}
 use Rattle.mdv_survey.specs.Replica.{Contents, IsFoundIn, at_of}
-use Rattle.mdv_survey.specs.Slice.{AreFound, IsAhead, IsHeadThere, WasLookedAt, first_at, most_on}
+use Rattle.mdv_survey.specs.Others.{ComesTo, IsAhead, IsOtherIn, first_at, most_on}
+use Rattle.mdv_survey.specs.Slice.{AreFound, IsHeadThere, WasLookedAt}
 use Rattle.mdv_survey.specs.Slots.{BothFit}
 use Rattle.mdv_survey.specs.declared.replica.Finds.{Finds}
+use Rattle.mdv_survey.specs.declared.replica.Other.{Other}
 use Rattle.mdv_survey.specs.declared.replica.Replica.{Replica}
+use Rattle.mdv_survey.proofs.Told.{told_end, told_fewer, told_other, told_replica, with_other}
 
 abbrev InChain : Geometry → Site → SliceLine → ℕ → (ℕ → List ℕ) → Master → Head → Type 0
 InChain g site line k content first head = IsInChain (IsTextOf g) site line k content first head
+
+next_place : (n b : ℕ) → (n + 1) * b ≡ n * b + b
+next_place n b = grind arith
 
 -- The first place of a slice, with whatever length.
 module _ (line : SliceLine) (size : ℕ) (content : ℕ → List ℕ) (head : Head) where
@@ -127,13 +133,6 @@ module _ (g : Geometry) (site : Site) (content : Contents) (line : SliceLine) wh
           | inr most ↦ (let equal : r.number * first.blocks ≡ number * first.blocks = ap (λ (n : ℕ). n * first.blocks) (omega (arith, most, from)) in absurd (omega (arith, equal, beyond, within)))
         ]
 
-    -- nor behind the last one that the first master tells of
-    pub none_behind : (number : ℕ) → 0 < number → first.count ≤ number → (r : Replica) → r.line ≡ line → number ≤ r.number → IsFoundIn g site content r → ⊥
-    none_behind number some last r same from is = elim (found_here r same is).numbered [
-      | inl zero ↦ absurd (omega (arith, zero, some, from))
-      | inr less ↦ absurd (omega (arith, less, last, from))
-    ]
-
     -- a replica of the number that was looked at
     module _ (number : ℕ) (head : Head) (chain : InChain g site line number (content line.at.drive.0) first head) where
       same_head : (r : Replica) → r.line ≡ line → r.number ≡ number → IsFoundIn g site content r → r.head ≡ head
@@ -158,20 +157,29 @@ module _ (g : Geometry) (site : Site) (content : Contents) (line : SliceLine) wh
         | inr most ↦ (head, subst (λ (n : ℕ). InChain g site line n (content line.at.drive.0) first head) (omega (arith, less, most)) chain)
       ]
 
-      pub ahead_more : IsAhead g site line first number (content line.at.drive.0) → IsAhead g site line first (number + 1) (content line.at.drive.0)
-      ahead_more ahead = record { located = ahead.located; before = ahead_chain ahead.before }
+      pub ahead_more : 16 + number * first.blocks + first.blocks ≤ line.at.blocks → IsAhead g site line first number (content line.at.drive.0) → IsAhead g site line first (number + 1) (content line.at.drive.0)
+      ahead_more within ahead = record {
+        located = ahead.located;
+        before = ahead_chain ahead.before;
+        within = (let product : (number + 1) * first.blocks ≡ number * first.blocks + first.blocks = next_place number first.blocks in omega (arith, product, within));
+      }
+
+      -- none is found there where it is of another key
+      pub never_key : (head.master.key ≡ site.key → ⊥) → (r : Replica) → r.line ≡ line → r.number ≡ number → IsFoundIn g site content r → ⊥
+      never_key other r same numbered is = (let one = same_head r same numbered is in other (subst (λ (h : Head). h.master.key ≡ site.key) one is.of_key))
 
       module _ (answers : DriveNo → Bool) (lines : List SliceLine) where
         -- it was added
-        pub found_more : (old new : Finds) → IsFoundIn g site content this → new.replicas ≡ old.replicas ++ this ∷ [] → (HasTable g content old.replicas old.newest → HasTable g content new.replicas new.newest)
+        pub found_more : (old new : Finds) → IsFoundIn g site content this → new.replicas ≡ old.replicas ++ this ∷ [] → new.others ≡ old.others → (HasTable g content old.replicas old.newest → HasTable g content new.replicas new.newest)
             → AreFound g site answers lines line number content old → AreFound g site answers lines line (number + 1) content new
-        found_more old new is more table found = record {
+        found_more old new is more others table found = record {
           each = λ x has. elim (Contains-push_cases old.replicas this x (subst (λ (rs : List Replica). Contains rs x) more has)) [
             | inl before ↦ found.each x before
             | inr same ↦ subst (IsFoundIn g site content) same is
           ];
           all = λ r there answered looked. subst (λ (rs : List Replica). Contains rs r) (sym more) (all r there answered looked);
           table = table found.table;
+          told = told_replica g site content answers lines line number old new this refl refl more others found.told;
         }
           where
             kept : (r : Replica) → Contains old.replicas r → Contains (old.replicas ++ this ∷ []) r
@@ -184,21 +192,43 @@ module _ (g : Geometry) (site : Site) (content : Contents) (line : SliceLine) wh
               | inr most ↦ subst (λ (x : Replica). Contains (old.replicas ++ this ∷ []) x) (sym (same_replica r same (omega (arith, less, most)) there)) (Contains-push old.replicas this)
             ]
 
-        -- it is of another key
-        pub found_other : (finds : Finds) → (head.master.key ≡ site.key → ⊥) → AreFound g site answers lines line number content finds → AreFound g site answers lines line (number + 1) content finds
-        found_other finds other found = record { each = found.each; all = all; table = found.table }
-          where
-            all : (r : Replica) → IsFoundIn g site content r → answers r.line.at.drive ≡ true → WasLookedAt lines line (number + 1) r → Contains finds.replicas r
-            all r there answered (inl earlier) = found.all r there answered (inl earlier)
-            all r there answered (inr (same, less)) = elim (cases_lt r.number number) [
-              | inl before ↦ found.all r there answered (inr (same, before))
-              | inr most ↦ (let one = same_head r same (omega (arith, less, most)) there in absurd (other (subst (λ (h : Head). h.master.key ≡ site.key) one there.of_key)))
-            ]
+  -- a place that has none
+  pub found_other : (answers : DriveNo → Bool) (lines : List SliceLine) (old : Finds) (o : Other) → o.line ≡ line → IsOtherIn g site content o
+      → AreFound g site answers lines line o.number content old → AreFound g site answers lines line (o.number + 1) content (with_other old o)
+  found_other answers lines old o here is found = record { each = found.each; all = all; table = found.table; told = told_other g site content answers lines line o.number old (with_other old o) o is here refl refl refl found.told }
+    where
+      all : (r : Replica) → IsFoundIn g site content r → answers r.line.at.drive ≡ true → WasLookedAt lines line (o.number + 1) r → Contains old.replicas r
+      all r there answered (inl earlier) = found.all r there answered (inl earlier)
+      all r there answered (inr (same, less)) = elim (cases_lt r.number o.number) [
+        | inl before ↦ found.all r there answered (inr (same, before))
+        | inr most ↦ absurd (is.never r (same ∙ sym here) (omega (arith, less, most)) there)
+      ]
 
-  -- the slice has none from this number on
-  pub found_end : (answers : DriveNo → Bool) (lines : List SliceLine) (number : ℕ) (finds : Finds) → ((r : Replica) → r.line ≡ line → number ≤ r.number → IsFoundIn g site content r → ⊥)
+  -- a look comes to where a replica is found
+  comes_found : (r : Replica) → r.line ≡ line → IsFoundIn g site content r → (at : PlaceAt) × ComesTo g site line r.number (content line.at.drive.0) at
+  comes_found r same is =
+      let found = on_slice r same is in
+      let within = found.within in
+      elim (cases_lt 0 r.number) [
+        | inr none ↦ (first_at line (most_on line), inl (omega (arith, none), refl))
+        | inl some ↦ (
+          place_on line r.first.blocks r.first.count r.number,
+          inr (
+            r.first,
+            record {
+              ahead = record { located = found.located; before = found.before; within = omega (arith, within) };
+              behind = some;
+              numbered = elim found.numbered [ inl none ↦ absurd (omega (arith, none, some)) | inr less ↦ less ];
+            },
+            refl,
+          ),
+        )
+      ]
+
+  -- the slice has no place from this number on
+  pub found_end : (answers : DriveNo → Bool) (lines : List SliceLine) (number : ℕ) (finds : Finds) → ((k : ℕ) (at : PlaceAt) → number ≤ k → ComesTo g site line k (content line.at.drive.0) at → ⊥)
       → AreFound g site answers lines line number content finds → AreFound g site answers (lines ++ line ∷ []) line 0 content finds
-  found_end answers lines number finds none found = record { each = found.each; all = all; table = found.table }
+  found_end answers lines number finds none found = record { each = found.each; all = all; table = found.table; told = told_end g site content answers lines line number finds none found.told }
     where
       all : (r : Replica) → IsFoundIn g site content r → answers r.line.at.drive ≡ true → WasLookedAt (lines ++ line ∷ []) line 0 r → Contains finds.replicas r
       all r there answered (inr (same, less)) = absurd (omega (arith, less))
@@ -206,13 +236,18 @@ module _ (g : Geometry) (site : Site) (content : Contents) (line : SliceLine) wh
         | inl earlier ↦ found.all r there answered (inl earlier)
         | inr same ↦ elim (cases_lt r.number number) [
           | inl before ↦ found.all r there answered (inr (sym same, before))
-          | inr from ↦ absurd (none r (sym same) from there)
+          | inr from ↦ (let comes = comes_found r (sym same) there in absurd (none r.number comes.0 from comes.1))
         ]
       ]
 
   -- less is said of them
   pub found_fewer : (answers : DriveNo → Bool) (lines : List SliceLine) (number : ℕ) (finds : Finds) → AreFound g site answers lines line number content finds → AreFound g site answers lines line 0 content finds
-  found_fewer answers lines number finds found = record { each = found.each; all = λ r there answered looked. found.all r there answered (fewer r looked); table = found.table }
+  found_fewer answers lines number finds found = record {
+    each = found.each;
+    all = λ r there answered looked. found.all r there answered (fewer r looked);
+    table = found.table;
+    told = told_fewer g site content answers lines line number line finds found.told;
+  }
     where
       fewer : (r : Replica) → WasLookedAt lines line 0 r → WasLookedAt lines line number r
       fewer r (inl earlier) = inl earlier

@@ -67,20 +67,12 @@ module _ (g : Geometry) (site : Site) (line : SliceLine) (first : Master) (conte
       let at = at_number k in
       one_head at (size_on site line) (content at.first) (content (at.first + 1)) (content (at.first + 2)) (content (at.first + 3)) a b one other
 
-  -- no head is there
-  pub unreadable_none : (k : ℕ) → IsHeadThere (at_number k) (size_on site line) content None → IsUnreadableBy g site line first content k 1
-  unreadable_none k there = record {
-    never = λ h chain. (let none = there.spelled h chain.readable.of_head in absurd (cc (none)));
-    headless = λ none. refl;
-    headed = λ h is. (let none = there.spelled h is in absurd (cc (none)));
-  }
-
-  -- one of another length
-  pub unreadable_other : (k : ℕ) (head : Head) → IsHead (at_number k) (size_on site line) content head → (head.master.blocks ≡ first.blocks → ⊥) → IsUnreadableBy g site line first content k 1
-  unreadable_other k head is other = record {
-    never = λ h chain. other (subst (λ (x : Head). x.master.blocks ≡ first.blocks) (one_there k h head chain.readable.of_head is) chain.length);
-    headless = λ none. refl;
-    headed = λ h also. (omega arith, omega arith);
+  -- no head of the slice's length is there
+  pub unreadable_unread : (k : ℕ) (seen : Option Head) → IsHeadThere (at_number k) (size_on site line) content seen → ((head : Head) → seen ≡ Some head → head.master.blocks ≡ first.blocks → ⊥) → IsUnreadableBy g site line first content k 1
+  unreadable_unread k seen there none = record {
+    never = λ h chain. none h (there.spelled h chain.readable.of_head) chain.length;
+    headless = λ never. refl;
+    headed = λ h is. (omega arith, omega arith);
   }
 
   -- one whose slots don't fit

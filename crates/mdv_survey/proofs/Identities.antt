@@ -12,7 +12,7 @@ use Rattle.mdv_survey.specs.declared.replica.Newest.{Newest}
 use Rattle.mdv_survey.specs.declared.replica.Replica.{Replica}
 
 -- where nothing is found, no item passes
-find_none : {X : Type 0} (p : X → Bool) (xs : List X) → find p xs ≡ None → (x : X) (k : ℕ) → k < length xs → slice_index_or xs k x ≡ x → p x ≡ false
+pub find_none : {X : Type 0} (p : X → Bool) (xs : List X) → find p xs ≡ None → (x : X) (k : ℕ) → k < length xs → slice_index_or xs k x ≡ x → p x ≡ false
 find_none p [] is x k less at = absurd (omega (arith, less))
 find_none p (y ∷ ys) is x zero less at = subst (λ (z : _). p z ≡ false) at (first (p y) is)
   where
@@ -24,6 +24,14 @@ find_none p (y ∷ ys) is x (suc k) less at = find_none p ys (rest (p y) is) x k
     rest : (b : Bool) → cond b (Some y) (find p ys) ≡ None → find p ys ≡ None
     rest true is = absurd (cc (is))
     rest false is = is
+
+-- what is found is an item that passes
+pub find_some : {X : Type 0} (p : X → Bool) (xs : List X) (x : X) → find p xs ≡ Some x → Contains xs x × (p x ≡ true)
+find_some p [] x is = absurd (cc (is))
+find_some p (y ∷ ys) x is = by (p y) refl is (find_some p ys x) where
+  by : (b : Bool) → p y ≡ b → cond b (Some y) (find p ys) ≡ Some x → (find p ys ≡ Some x → Contains ys x × (p x ≡ true)) → Contains (y ∷ ys) x × (p x ≡ true)
+  by true here same later = (let e : y ≡ x = cc (same) in ((0, omega arith, e), ap p (sym e) ∙ here))
+  by false here there later = (let rest = later there in ((suc rest.0.0, omega (arith, rest.0.1), rest.0.2), rest.1))
 
 pub same_is : (a b : Identity) → same_identity a b ≡ true → a ≡ b
 same_is a b same =

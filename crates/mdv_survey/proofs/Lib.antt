@@ -3,7 +3,10 @@ pub mod Bodies
 pub mod Tables
 pub mod Newests
 pub mod Listing
+pub mod Told
 pub mod Chains
+pub mod Coming
+pub mod Seeing
 pub mod Walking
 pub mod Among
 pub mod Lines
@@ -13,3 +16,4 @@ pub mod Identities
 pub mod Places
 pub mod Visiting
 pub mod Slicing
+pub mod Alike

@@ -13,15 +13,17 @@ use Rattle.mdv_shelf.proofs.InTime.{is_part}
 use Rattle.mdv_survey.specs.Below.{DriveNo, Drives, Geometry, Ghosts, Site, SliceLine, Tale, has_drive, last}
 use Rattle.mdv_survey.specs.Newest.{HasTable, IsMarked}
 use Rattle.mdv_survey.specs.Replica.{AreOrdered, Contents, IsFoundIn}
-use Rattle.mdv_survey.specs.Slice.{AreFound, AreListed, WasLookedAt}
+use Rattle.mdv_survey.specs.Slice.{AreFound, AreListed, IsPassed, WasLookedAt}
 use Rattle.mdv_survey.specs.Slots.{OnlyReads}
 use Rattle.mdv_survey.specs.Survey.{AreWithin, FailedOn, HaveFailed, IsSurvey, IsSurveyOf, KeptToo, ListsLine, LooksAtLine, answers_in}
 use Rattle.mdv_survey.specs.declared.replica.Finds.{Finds}
+use Rattle.mdv_survey.specs.declared.replica.Other.{Other}
 use Rattle.mdv_survey.specs.declared.replica.Replica.{Replica}
 use Rattle.mdv_survey.specs.declared.replica.Survey.{Survey}
 use Rattle.mdv_survey.proofs.Efforts.{counted_more, counted_none, counted_weaker, lines_later, lines_more}
 use Rattle.mdv_survey.specs.Counts.{AreLinesBy, IsCounted, IsLineBy, IsSliceBy}
 use Rattle.mdv_survey.proofs.Listing.{listed_line, looked_line}
+use Rattle.mdv_survey.proofs.Told.{told_fewer, told_narrower, told_unanswered}
 
 -- a slice line of no slice, where none is under way
 abbrev pub no_line : SliceLine
@@ -46,7 +48,7 @@ module _ (g : Geometry) (site : Site) (content : Contents) where
   -- of a slice whose drive doesn't pass the test nothing is said
   found_unanswered : (answers : DriveNo → Bool) (lines : List SliceLine) (line : SliceLine) (finds : Finds) → (answers line.at.drive ≡ true → ⊥)
       → AreFound g site answers lines line 0 content finds → AreFound g site answers (lines ++ line ∷ []) line 0 content finds
-  found_unanswered answers lines line finds never found = record { each = found.each; all = all; table = found.table }
+  found_unanswered answers lines line finds never found = record { each = found.each; all = all; table = found.table; told = told_unanswered g site content answers lines line finds never found.told }
     where
       all : (r : Replica) → IsFoundIn g site content r → answers r.line.at.drive ≡ true → WasLookedAt (lines ++ line ∷ []) line 0 r → Contains finds.replicas r
       all r there answered (inr (same, less)) = absurd (omega (arith, less))
@@ -62,6 +64,7 @@ module _ (g : Geometry) (site : Site) (content : Contents) where
     each = found.each;
     all = λ r there answered looked. found.all r there (within r.line.at.drive answered) looked;
     table = found.table;
+    told = told_narrower g site content answers lines line fewer finds within found.told;
   }
 
   pub found_line : (answers : DriveNo → Bool) (lines : List SliceLine) (line other : SliceLine) (finds : Finds) → AreFound g site answers lines line 0 content finds → AreFound g site answers lines other 0 content finds
@@ -69,6 +72,7 @@ module _ (g : Geometry) (site : Site) (content : Contents) where
     each = found.each;
     all = λ r there answered looked. found.all r there answered (looked_line lines other line r looked);
     table = found.table;
+    told = told_fewer g site content answers lines line 0 other finds found.told;
   }
 
   -- the drive isn't up, or a call on it had failed
@@ -165,9 +169,17 @@ never_in : {X : Type 0} (x : X) → Contains [] x → ⊥
 never_in x has = absurd (omega (arith, has.1))
 
 module _ {S : Type 0} (shelf : Ghosts S) (g : Geometry) (site : Site) (up : Drives) where
-  pub surveyed_none : (lines : List SliceLine) (start : S) (failed : Drives) (finds : Finds) → ((drive : DriveNo) → has_drive failed drive ≡ false) → finds.replicas ≡ [] → finds.newest ≡ None → SoSurveyed shelf g site up lines 0 start start failed finds
-  surveyed_none lines start failed finds none empty no_table = record {
-    reads = record { same = refl; gave = λ t is. record { each = λ r has. absurd (nothing r has); all = λ r there answered looked. absurd (nowhere r looked); table = table (last t) } };
+  pub surveyed_none : (lines : List SliceLine) (start : S) (failed : Drives) (finds : Finds) → ((drive : DriveNo) → has_drive failed drive ≡ false) → finds.replicas ≡ [] → finds.newest ≡ None → finds.others ≡ [] → SoSurveyed shelf g site up lines 0 start start failed finds
+  surveyed_none lines start failed finds none empty no_table no_others = record {
+    reads = record {
+      same = refl;
+      gave = λ t is. record {
+        each = λ r has. absurd (nothing r has);
+        all = λ r there answered looked. absurd (nowhere r.line r.number looked);
+        table = table (last t);
+        told = record { each = λ o has. absurd (no_other o has); all = λ l k at one answered passed comes. absurd (nowhere l k passed) };
+      };
+    };
     have = λ drive. subst (λ (b : Bool). MatchBool b (RoseOnce (shelf.faults start (OnDrive drive.0)) (shelf.faults start (OnDrive drive.0))) (shelf.faults start (OnDrive drive.0) ≡ shelf.faults start (OnDrive drive.0))) (sym (none drive)) refl;
     within = λ drive has. absurd (cc (has, none drive));
     kept = among_none shelf start site.drives;
@@ -176,6 +188,7 @@ module _ {S : Type 0} (shelf : Ghosts S) (g : Geometry) (site : Site) (up : Driv
       looked_at = λ r has. absurd (nothing r has);
       ordered = subst (AreOrdered site.lines) (sym empty) tt;
       marked = subst (IsMarked finds.replicas) (sym no_table) (λ r has. absurd (nothing r has));
+      others_on = λ o has. absurd (no_other o has);
     };
     counted = counted_none shelf start (765 * 0) (λ t n. AreLinesBy g site up failed (last t) [] n) (λ t. refl);
   }
@@ -183,9 +196,12 @@ module _ {S : Type 0} (shelf : Ghosts S) (g : Geometry) (site : Site) (up : Driv
       nothing : (r : Replica) → Contains finds.replicas r → ⊥
       nothing r has = never_in r (subst (λ (rs : List Replica). Contains rs r) empty has)
 
-      nowhere : (r : Replica) → WasLookedAt [] no_line 0 r → ⊥
-      nowhere r (inl has) = never_in r.line has
-      nowhere r (inr (same, less)) = absurd (omega (arith, less))
+      no_other : (o : Other) → Contains finds.others o → ⊥
+      no_other o has = never_in o (subst (λ (os : List Other). Contains os o) no_others has)
+
+      nowhere : (l : SliceLine) (k : ℕ) → IsPassed [] no_line 0 l k → ⊥
+      nowhere l k (inl has) = never_in l has
+      nowhere l k (inr (same, less)) = absurd (omega (arith, less))
 
       table : (content : Contents) → HasTable g content finds.replicas finds.newest
       table content = subst (HasTable g content finds.replicas) (sym no_table) tt
@@ -221,10 +237,10 @@ module _ {S : Type 0} (shelf : Ghosts S) (g : Geometry) (site : Site) (up : Driv
   -- all was looked at
   module _ (lines : List SliceLine) (at : ℕ) (last_one : length lines ≤ at) (at_most : at ≤ length lines) (all : site.lines ≡ lines) (start now : S) (failed : Drives) (finds : Finds) (so : SoSurveyed shelf g site up lines at start now failed finds) where
     abbrev surveyed : Survey
-    surveyed = record { replicas = finds.replicas; newest = finds.newest; failed = failed }
+    surveyed = record { replicas = finds.replicas; newest = finds.newest; others = finds.others; failed = failed }
 
     pub survey_is : IsSurvey site up surveyed
-    survey_is = record { each = so.listed.each; ordered = so.listed.ordered; marked = so.listed.marked }
+    survey_is = record { each = so.listed.each; ordered = so.listed.ordered; marked = so.listed.marked; others_on = so.listed.others_on }
 
     pub survey_of : OnlyReads shelf (λ t. IsSurveyOf g site up (last t) surveyed) start now
     survey_of = record {
@@ -234,6 +250,9 @@ module _ {S : Type 0} (shelf : Ghosts S) (g : Geometry) (site : Site) (up : Driv
         all = λ r there answered. (so.reads.gave t is).all r there answered
             (inl (subst (λ (ls : List SliceLine). Contains ls r.line) (sym (take_all at lines last_one)) (subst (λ (ls : List SliceLine). Contains ls r.line) all there.one_of)));
         table = (so.reads.gave t is).table;
+        others = (so.reads.gave t is).told.each;
+        told = λ line k place one_of answered comes. (so.reads.gave t is).told.all line k place one_of answered
+            (inl (subst (λ (ls : List SliceLine). Contains ls line) (sym (take_all at lines last_one)) (subst (λ (ls : List SliceLine). Contains ls line) all one_of))) comes;
       };
     }
 

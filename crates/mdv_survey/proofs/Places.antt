@@ -3,8 +3,9 @@ use Rattle.std.proofs.Common.{◌≡◌, ℕ, List, Option, subst}
 use Rattle.std.specs.Prelude.{slice_index_or}
 use Rattle.mdv_shelf.specs.Calls.{OnDrive}
 use Rattle.mdv_shelf.specs.Shelves.{DriveFailures, KeptOn}
+use Rattle.mdv_replica.specs.declared.looking.Seen.{Seen}
 use Rattle.mdv_survey.specs.Below.{Geometry, Ghosts, Head, PlaceAt, Tale, last}
-use Rattle.mdv_survey.specs.Slice.{IsHeadThere}
+use Rattle.mdv_survey.specs.Slice.{IsSeenThere}
 use Rattle.mdv_survey.specs.Slots.{AreSlots, HasReadCause}
 use Rattle.mdv_survey.specs.declared.body.ReadFault.{ReadFault}
 use Rattle.mdv_survey.specs.declared.slots.Slots.{Slots}
@@ -23,7 +24,5 @@ module _ (at place : PlaceAt) (same : at ≡ place) where
   pub slots_here : (g : Geometry) (head : Head) (t : Tale) (found other : Option Slots) → found ≡ other → AreSlots g at head (last t at.drive.0) found → AreSlots g place head (last t place.drive.0) other
   slots_here g head t found other is slots = subst (λ (p : PlaceAt). AreSlots g p head (last t p.drive.0) other) same (subst (AreSlots g at head (last t at.drive.0)) is slots)
 
-  pub head_here : (sizes : List ℕ) (t : Tale) (found other : Option Head) → found ≡ other → IsHeadThere at (slice_index_or sizes at.drive.0 0) (last t at.drive.0) found
-      → IsHeadThere place (slice_index_or sizes place.drive.0 0) (last t place.drive.0) other
-  head_here sizes t found other is there =
-      subst (λ (p : PlaceAt). IsHeadThere p (slice_index_or sizes p.drive.0 0) (last t p.drive.0) other) same (subst (IsHeadThere at (slice_index_or sizes at.drive.0 0) (last t at.drive.0)) is there)
+  pub seen_here : (sizes : List ℕ) (t : Tale) (seen : Seen) → IsSeenThere at (slice_index_or sizes at.drive.0 0) (last t at.drive.0) seen → IsSeenThere place (slice_index_or sizes place.drive.0 0) (last t place.drive.0) seen
+  seen_here sizes t seen there = subst (λ (p : PlaceAt). IsSeenThere p (slice_index_or sizes p.drive.0 0) (last t p.drive.0) seen) same there

@@ -4,7 +4,7 @@ use Rattle.std.specs.Prelude.{Contains, slice_index_or}
 use Rattle.std.proofs.lemmas.Nat.{mul-lt}
 use Rattle.mdv_survey.specs.Below.{Head, IsFormed, IsPlaced, Site, SliceLine, size_on}
 use Rattle.mdv_survey.specs.Replica.{IsOnShelf, IsSeated, at_of}
-use Rattle.mdv_survey.specs.Slice.{first_at, most_on}
+use Rattle.mdv_survey.specs.Others.{first_at, most_on}
 use Rattle.mdv_survey.specs.declared.replica.Replica.{Replica}
 use Rattle.mdv_survey.proofs.Chains.{lies_at_zero}
 

@@ -1,30 +1,55 @@
 -- The look at a slice, from its first replica on.
 use Rattle.std.proofs.Common.{◌≡◌, inl, inr, ℕ, ◌+◌, ◌≤◌, Bool, true, false, List, refl, sym, subst, Option, Some, None, Result, Ok, Err, arith}
-use Rattle.std.specs.Prelude.{slice_index_or}
+use Rattle.std.specs.Prelude.{Contains, IfSome, slice_index_or}
+use Rattle.mdv_replica.specs.declared.looking.Seen.{Seen}
 use Rattle.mdv_shelf.specs.Shelves.{MadeCalls}
-use Rattle.mdv_survey.specs.Below.{Geometry, Ghosts, Head, IsHead, PlaceAt, Site, SliceLine, Tale, last, size_on}
+use Rattle.mdv_survey.specs.Below.{Flags, Geometry, Ghosts, Head, IsHead, PlaceAt, Site, SliceLine, Tale, last, size_on}
 use Rattle.mdv_survey.specs.Counts.{IsBehindBy, IsCounted, IsNumberBy, IsSliceBy, IsVisitBy}
 use Rattle.mdv_survey.specs.Replica.{Contents, IsOnShelf, at_of}
-use Rattle.mdv_survey.specs.Slice.{IsAhead, IsHeadThere, ListsNext, ListsRest, LooksAtAll, LooksBehind, Visits, first_at, most_on}
+use Rattle.mdv_survey.specs.Others.{IsAhead, first_at, first_of, most_on}
+use Rattle.mdv_survey.specs.Slice.{IsHeadThere, IsSeenThere, ListsNext, ListsRest, LooksAtAll, LooksBehind, Visits}
 use Rattle.mdv_survey.specs.declared.body.ReadFault.{ReadFault}
 use Rattle.mdv_survey.specs.declared.replica.Finds.{Finds}
 use Rattle.mdv_survey.specs.declared.replica.Replica.{Replica}
-use Rattle.mdv_survey.proofs.Chains.{found_end, head_at_zero, located_first, none_headless}
+use Rattle.mdv_survey.proofs.Chains.{found_end, found_other, head_at_zero, located_first}
+use Rattle.mdv_survey.proofs.Coming.{comes_headless}
 use Rattle.mdv_survey.proofs.Efforts.{counted_more, counted_one, number_by}
-use Rattle.mdv_survey.proofs.Listing.{listed_end}
+use Rattle.mdv_survey.proofs.Listing.{listed_end, listed_other}
+use Rattle.mdv_survey.proofs.Places.{seen_here}
+use Rattle.mdv_survey.proofs.Seeing.{first_is_other}
 use Rattle.mdv_survey.proofs.Seating.{size_is}
+use Rattle.mdv_survey.proofs.Told.{with_other}
 
--- what was read of a head, by the site's sizes
-pub there_on : (sizes : List ℕ) (site : Site) → IsOnShelf sizes site → (line : SliceLine) (at : PlaceAt) (c : ℕ → List ℕ) (seen : Option Head) → IsHeadThere at (slice_index_or sizes line.at.drive.0 0) c seen → IsHeadThere at (size_on site line) c seen
-there_on sizes site on line at c seen there = subst (λ (n : ℕ). IsHeadThere at n c seen) (sym (size_is sizes site on line)) there
+-- what was read at a place, by the site's sizes
+pub there_on : (sizes : List ℕ) (site : Site) → IsOnShelf sizes site → (line : SliceLine) (at : PlaceAt) (c : ℕ → List ℕ) (seen : Seen) → IsSeenThere at (slice_index_or sizes line.at.drive.0 0) c seen → IsSeenThere at (size_on site line) c seen
+there_on sizes site on line at c seen there = subst (λ (n : ℕ). IsSeenThere at n c seen) (sym (size_is sizes site on line)) there
+
+-- a head that was
+pub head_of : (at : PlaceAt) (size : ℕ) (c : ℕ → List ℕ) (seen : Seen) (head : Head) → seen.head ≡ Some head → IsSeenThere at size c seen → IsHead at size c head
+head_of at size c seen head is there = (let value = there.there.value in subst (λ (o : Option Head). IfSome o (IsHead at size c)) is value)
+
+-- at a slice's first place
+pub first_there : (sizes : List ℕ) (site : Site) → IsOnShelf sizes site → (line : SliceLine) (at : PlaceAt) → at ≡ first_at line (most_on line) → (t : Tale) (seen : Seen)
+    → IsSeenThere at (slice_index_or sizes at.drive.0 0) (last t at.drive.0) seen → IsSeenThere (first_at line (most_on line)) (size_on site line) (last t line.at.drive.0) seen
+first_there sizes site on line at same t seen there = there_on sizes site on line (first_at line (most_on line)) (last t line.at.drive.0) seen (seen_here at (first_at line (most_on line)) same sizes t seen there)
 
 module _ (g : Geometry) (site : Site) (line : SliceLine) where
-  -- no head is at the first place
-  pub slice_headless : (content : Contents) (finds : Finds) → IsHeadThere (first_at line (most_on line)) (size_on site line) (content line.at.drive.0) None → LooksAtAll {E = ReadFault} g site line content finds finds (Ok tt)
-  slice_headless content finds there answers lines found = found_end g site content line answers lines 0 finds (λ r same from is. none_headless g site content line there r same is) found
+  headless_there : (c : ℕ → List ℕ) (seen : Seen) → seen.head ≡ None → IsSeenThere (first_at line (most_on line)) (size_on site line) c seen → IsHeadThere (first_at line (most_on line)) (size_on site line) c None
+  headless_there c seen none is = subst (IsHeadThere (first_at line (most_on line)) (size_on site line) c) none is.there
 
-  pub headless_by : (c : ℕ → List ℕ) → IsHeadThere (first_at line (most_on line)) (size_on site line) c None → IsSliceBy g site line c 1
-  headless_by c there = inl (λ h is. (let none = there.spelled h is in absurd (cc (none))), refl)
+  -- no head is at the first place
+  pub slice_headless : Contains site.lines line → 17 ≤ line.at.blocks → (content : Contents) (old : Finds) (seen : Seen) → seen.head ≡ None → IsSeenThere (first_at line (most_on line)) (size_on site line) (content line.at.drive.0) seen
+      → LooksAtAll {E = ReadFault} g site line content old (with_other old (first_of line seen.flags)) (Ok tt)
+  slice_headless one_of long content old seen none is answers lines found =
+      let other = first_of line seen.flags in
+      found_end g site content line answers lines (0 + 1) (with_other old other) (comes_headless g site line (content line.at.drive.0) (headless_there (content line.at.drive.0) seen none is))
+      (found_other g site content line answers lines old other refl (first_is_other g site line content one_of long seen is none) found)
+
+  pub lists_first : (old : Finds) (flags : Flags) → ListsNext site line 0 old (with_other old (first_of line flags))
+  lists_first old flags up lines rest split is_up listed = listed_other site up lines line 0 rest split is_up old (first_of line flags) refl listed
+
+  pub headless_by : (c : ℕ → List ℕ) (seen : Seen) → seen.head ≡ None → IsSeenThere (first_at line (most_on line)) (size_on site line) c seen → IsSliceBy g site line c 1
+  headless_by c seen none is = inl (λ h there. (let never = (headless_there c seen none is).spelled h there in absurd (cc (never))), refl)
 
   pub rest_none : (finds : Finds) → ListsRest site line 0 finds finds
   rest_none finds up lines rest split is_up listed = listed_end site up lines line 0 finds listed
@@ -44,7 +69,7 @@ module _ (g : Geometry) (site : Site) (line : SliceLine) where
     first_head c is = head_at_zero line (size_on site line) c head head.master.blocks head.master.count (most_on line) is (omega arith)
 
     first_ahead : (c : ℕ → List ℕ) → IsHead (first_at line (most_on line)) (size_on site line) c head → IsAhead g site line head.master 0 c
-    first_ahead c is = record { located = located_first line (size_on site line) c head (most_on line) is; before = λ j less. absurd (omega (arith, less)) }
+    first_ahead c is = record { located = located_first line (size_on site line) c head (most_on line) is; before = λ j less. absurd (omega (arith, less)); within = (let least = is.lies.least in let most = is.lies.in_place in omega (arith, least, most)) }
 
     module _ (content : Contents) (is : IsHead (first_at line (most_on line)) (size_on site line) (content line.at.drive.0) head) where
       -- it isn't readable

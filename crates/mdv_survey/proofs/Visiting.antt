@@ -1,22 +1,28 @@
 -- What the look at one replica says, whose head was read.
-use Rattle.std.proofs.Common.{◌≡◌, ◌↔◌, inl, inr, ℕ, ◌+◌, ◌*◌, ◌<◌, ◌≤◌, Bool, true, false, List, [], ◌∷◌, ◌++◌, refl, sym, subst, Option, Some, None, Result, Ok, Err, IfOk, IsTrue, arith}
-use Rattle.std.proofs.lemmas.Bool.{cases_lt}
-use Rattle.std.specs.Prelude.{slice_index_or}
+use Rattle.std.proofs.Common.{◌≡◌, ◌↔◌, inl, inr, ℕ, ◌+◌, ◌*◌, ◌<◌, ◌≤◌, Bool, true, false, List, [], ◌∷◌, ◌++◌, refl, sym, ◌∙◌, subst, Some, Result, Ok, Err, IfOk, IsTrue, arith}
+use Rattle.std.proofs.lemmas.Bool.{and_from, and_parts, cases_lt}
+use Rattle.std.proofs.lemmas.Bool.Decides.{nat_tests}
+use Rattle.std.specs.Prelude.{◌==◌, ◌&&◌, Contains, slice_index_or}
+use Rattle.mdv_replica.specs.declared.looking.Seen.{Seen}
 use Rattle.mdv_shelf.specs.Shelves.{MadeCalls}
-use Rattle.mdv_survey.specs.Below.{Geometry, Ghosts, Head, IsHead, IsInChain, IsTextOf, Master, PlaceAt, Site, SliceLine, Tale, last, place_on, size_on}
+use Rattle.mdv_survey.specs.Below.{Flags, Geometry, Ghosts, Head, IsHead, IsInChain, IsTextOf, Master, PlaceAt, Site, SliceLine, Tale, last, place_on, size_on}
 use Rattle.mdv_survey.specs.Newest.{HasTable, IsMarked}
 use Rattle.mdv_survey.specs.Counts.{IsCounted, IsNumberBy, IsVisitBy}
-use Rattle.mdv_survey.specs.Replica.{Contents, IsFoundIn, IsOnShelf, IsSeated, at_of}
-use Rattle.mdv_survey.specs.Slice.{IsAhead, IsChained, IsHeadThere, ListsNext, Looks, Visits}
+use Rattle.mdv_survey.specs.Replica.{Contents, IsFoundIn, IsOnShelf, IsSeated, at_of, other_of}
+use Rattle.mdv_survey.specs.Others.{AreSeen, IsAhead, IsLong, headed_flags, unread_flags}
+use Rattle.mdv_survey.specs.Slice.{IsChained, IsSeenThere, ListsNext, Looks, Visits}
 use Rattle.mdv_survey.specs.Slots.{BothFit}
 use Rattle.mdv_survey.specs.declared.body.ReadFault.{ReadFault}
 use Rattle.mdv_survey.specs.declared.replica.Finds.{Finds}
 use Rattle.mdv_survey.specs.declared.replica.Replica.{Replica}
-use Rattle.mdv_survey.proofs.Chains.{ahead_more, chain_of, found_end, found_more, found_other, none_beyond, none_unreadable, unchained}
-use Rattle.mdv_survey.proofs.Efforts.{counted_more, counted_one, number_by, unreadable_none, unreadable_other}
-use Rattle.mdv_survey.proofs.Listing.{listed_more, listed_skip}
-use Rattle.mdv_survey.proofs.Places.{head_here}
+use Rattle.mdv_survey.proofs.Chains.{ahead_more, chain_of, found_end, found_more, found_other, never_key, none_beyond, none_unreadable, unchained}
+use Rattle.mdv_survey.proofs.Efforts.{counted_more, counted_one, number_by}
+use Rattle.mdv_survey.proofs.Listing.{listed_more, listed_other, listed_skip}
+use Rattle.mdv_survey.proofs.Places.{seen_here}
+use Rattle.mdv_survey.proofs.Coming.{comes_beyond, comes_unreadable}
+use Rattle.mdv_survey.proofs.Seeing.{headed_is_other, later_is_other, seen_none}
 use Rattle.mdv_survey.proofs.Slicing.{there_on}
+use Rattle.mdv_survey.proofs.Told.{with_other}
 
 -- the replica of another number on the same slice
 abbrev pub numbered : Replica → ℕ → Replica
@@ -26,10 +32,10 @@ numbered first number = record { line = first.line; number = number; first = fir
 pub beyond_of : (r : Replica) (fits : Bool) → fits ≡ false → IsTrue fits ↔ (16 + r.number * r.first.blocks + r.first.blocks ≤ r.line.at.blocks) → r.line.at.blocks < 16 + r.number * r.first.blocks + r.first.blocks
 beyond_of r fits not test = elim (cases_lt r.line.at.blocks (16 + r.number * r.first.blocks + r.first.blocks)) [ inl less ↦ less | inr most ↦ absurd (cc (test.1 most, not)) ]
 
--- what was read of the head at the place of a replica
-pub there_of : (sizes : List ℕ) (site : Site) → IsOnShelf sizes site → (r : Replica) (at : PlaceAt) → at ≡ at_of r → (t : Tale) (found other : Option Head) → found ≡ other
-    → IsHeadThere at (slice_index_or sizes at.drive.0 0) (last t at.drive.0) found → IsHeadThere (at_of r) (size_on site r.line) (last t r.line.at.drive.0) other
-there_of sizes site on r at same t found other is there = there_on sizes site on r.line (at_of r) (last t r.line.at.drive.0) other (head_here at (at_of r) same sizes t found other is there)
+-- what was read at the place of a replica
+pub there_of : (sizes : List ℕ) (site : Site) → IsOnShelf sizes site → (r : Replica) (at : PlaceAt) → at ≡ at_of r → (t : Tale) (seen : Seen)
+    → IsSeenThere at (slice_index_or sizes at.drive.0 0) (last t at.drive.0) seen → IsSeenThere (at_of r) (size_on site r.line) (last t r.line.at.drive.0) seen
+there_of sizes site on r at same t seen there = there_on sizes site on r.line (at_of r) (last t r.line.at.drive.0) seen (seen_here at (at_of r) same sizes t seen there)
 
 module _ (g : Geometry) (site : Site) (r : Replica) (seated : IsSeated site r) where
   found_is : (content : Contents) → IsAhead g site r.line r.first r.number (content r.line.at.drive.0) → IsHead (at_of r) (size_on site r.line) (content r.line.at.drive.0) r.head → BothFit g (at_of r) r.head (content r.line.at.drive.0)
@@ -45,33 +51,38 @@ module _ (g : Geometry) (site : Site) (r : Replica) (seated : IsSeated site r) w
   }
 
   -- its slots don't both fit
-  pub visits_not : (content : Contents) (finds : Finds) → (BothFit g (at_of r) r.head (content r.line.at.drive.0) → ⊥) → Visits g site r content finds finds false
-  visits_not content finds never = record {
+  pub visits_not : (content : Contents) (old : Finds) → (BothFit g (at_of r) r.head (content r.line.at.drive.0) → ⊥) → Visits g site r content old (with_other old (other_of r (headed_flags true))) false
+  visits_not content old never = record {
     chained = λ is. unchained g site r (content r.line.at.drive.0) is seated.length never;
-    looks = λ is ahead answers lines found. found_end g site content r.line answers lines r.number finds
-        (none_unreadable g site content r.line r.first ahead.located r.number (unchained g site r (content r.line.at.drive.0) is seated.length never)) found;
+    looks = λ is ahead answers lines found.
+        let other = other_of r (headed_flags true) in
+        let away = unchained g site r (content r.line.at.drive.0) is seated.length never in
+        found_end g site content r.line answers lines (r.number + 1) (with_other old other) (comes_unreadable g site r.line (content r.line.at.drive.0) r.first ahead.located r.number away)
+        (found_other g site content r.line answers lines old other refl
+        (headed_is_other g site r content seated is ahead true (λ bad. never) (λ good. absurd (cc (good))) (λ s same numbered. none_unreadable g site content r.line r.first ahead.located r.number away s same (omega (arith, numbered)))) found);
   }
 
   -- it is readable, and of another key
-  pub visits_other : (content : Contents) (finds : Finds) → BothFit g (at_of r) r.head (content r.line.at.drive.0) → (r.head.master.key ≡ site.key → ⊥) → Visits g site r content finds finds true
-  visits_other content finds both other = record {
+  pub visits_other : (content : Contents) (old : Finds) → BothFit g (at_of r) r.head (content r.line.at.drive.0) → (r.head.master.key ≡ site.key → ⊥) → Visits g site r content old (with_other old (other_of r (headed_flags false))) true
+  visits_other content old both other = record {
     chained = λ is. chain_of g site r (content r.line.at.drive.0) is seated.length both;
     looks = λ is ahead.
         let chain = chain_of g site r (content r.line.at.drive.0) is seated.length both in (
-          ahead_more g site content r.line r.first ahead.located r.number r.head chain ahead,
-          λ answers lines found. found_other g site content r.line r.first ahead.located r.number r.head chain answers lines finds other found,
+          ahead_more g site content r.line r.first ahead.located r.number r.head chain seated.within ahead,
+          λ answers lines found. found_other g site content r.line answers lines old (other_of r (headed_flags false)) refl
+              (headed_is_other g site r content seated is ahead false (λ bad. absurd (cc (bad))) (λ good. both) (never_key g site content r.line r.first ahead.located r.number r.head chain other)) found,
         );
   }
 
   -- it was added
-  pub visits_added : (content : Contents) (old new : Finds) → BothFit g (at_of r) r.head (content r.line.at.drive.0) → r.head.master.key ≡ site.key → new.replicas ≡ old.replicas ++ r ∷ []
+  pub visits_added : (content : Contents) (old new : Finds) → BothFit g (at_of r) r.head (content r.line.at.drive.0) → r.head.master.key ≡ site.key → new.replicas ≡ old.replicas ++ r ∷ [] → new.others ≡ old.others
       → (HasTable g content old.replicas old.newest → HasTable g content new.replicas new.newest) → Visits g site r content old new true
-  visits_added content old new both key more table = record {
+  visits_added content old new both key more others table = record {
     chained = λ is. chain_of g site r (content r.line.at.drive.0) is seated.length both;
     looks = λ is ahead.
         let chain = chain_of g site r (content r.line.at.drive.0) is seated.length both in (
-          ahead_more g site content r.line r.first ahead.located r.number r.head chain ahead,
-          λ answers lines found. found_more g site content r.line r.first ahead.located r.number r.head chain answers lines old new (found_is content ahead is both key) more table found,
+          ahead_more g site content r.line r.first ahead.located r.number r.head chain seated.within ahead,
+          λ answers lines found. found_more g site content r.line r.first ahead.located r.number r.head chain answers lines old new (found_is content ahead is both key) more others table found,
         );
   }
 
@@ -79,25 +90,49 @@ module _ (site : Site) (r : Replica) where
   pub lists_skip : (finds : Finds) → ListsNext site r.line r.number finds finds
   lists_skip finds up lines rest split is_up listed = listed_skip site up lines r.line r.number finds listed
 
-  pub lists_added : (old new : Finds) → IsSeated site r → r.head.master.key ≡ site.key → new.replicas ≡ old.replicas ++ r ∷ [] → (IsMarked old.replicas old.newest → IsMarked new.replicas new.newest) → ListsNext site r.line r.number old new
-  lists_added old new seated key more marked up lines rest split is_up listed =
-      listed_more site up lines r.line r.number rest split old new r (record { seated = seated; is_up = is_up; of_key = key }) refl refl more marked listed
+  -- another place of its number was added
+  pub lists_other : (old : Finds) (flags : Flags) → ListsNext site r.line r.number old (with_other old (other_of r flags))
+  lists_other old flags up lines rest split is_up listed = listed_other site up lines r.line r.number rest split is_up old (other_of r flags) refl listed
 
-module _ (g : Geometry) (site : Site) (line : SliceLine) (first : Master) (content : Contents) (finds : Finds) (number : ℕ) where
+  pub lists_added : (old new : Finds) → IsSeated site r → r.head.master.key ≡ site.key → new.replicas ≡ old.replicas ++ r ∷ [] → new.others ≡ old.others → (IsMarked old.replicas old.newest → IsMarked new.replicas new.newest) → ListsNext site r.line r.number old new
+  lists_added old new seated key more others marked up lines rest split is_up listed =
+      listed_more site up lines r.line r.number rest split old new r (record { seated = seated; is_up = is_up; of_key = key }) refl refl more others marked listed
+
+equal_of : (a b : ℕ) → (a == b) ≡ true → a ≡ b
+equal_of a b is = grind (arith, nat_tests)
+
+equal_is : (a b : ℕ) → a ≡ b → (a == b) ≡ true
+equal_is a b is = grind (arith, nat_tests)
+
+-- the place of its number behind the first one, that has no head of the slice's length
+module _ (g : Geometry) (site : Site) (r : Replica) (one_of : Contains site.lines r.line) (some : 0 < r.number) (numbered : r.number < r.first.count) (content : Contents) (old : Finds) where
   -- the slice ends before
-  pub looks_beyond : line.at.blocks < 16 + number * first.blocks + first.blocks → Looks g site line first number content false finds finds
-  looks_beyond beyond ahead answers lines found = found_end g site content line answers lines number finds (none_beyond g site content line first ahead.located number beyond) found
+  pub looks_beyond : r.line.at.blocks < 16 + r.number * r.first.blocks + r.first.blocks → Looks g site r.line r.first r.number content false old (with_other old (other_of r (unread_flags false false)))
+  looks_beyond beyond ahead answers lines found =
+      let other = other_of r (unread_flags false false) in
+      found_end g site content r.line answers lines (r.number + 1) (with_other old other) (comes_beyond g site r.line (content r.line.at.drive.0) r.first ahead.located r.number beyond)
+      (found_other g site content r.line answers lines old other refl
+      (later_is_other g site r content some one_of numbered ahead (λ s same equal. none_beyond g site content r.line r.first ahead.located r.number beyond s same (omega (arith, equal))) (unread_flags false false) (inl (beyond, refl))) found)
 
-  looks_unreadable : ((h : Head) → IsInChain (IsTextOf g) site line number (content line.at.drive.0) first h → ⊥) → Looks g site line first number content false finds finds
-  looks_unreadable never ahead answers lines found = found_end g site content line answers lines number finds (none_unreadable g site content line first ahead.located number never) found
+  -- it was read
+  module _ (within : 16 + r.number * r.first.blocks + r.first.blocks ≤ r.line.at.blocks) (seen : Seen) (none : (head : Head) → seen.head ≡ Some head → head.master.blocks ≡ r.first.blocks → ⊥) (located : Bool)
+      (is : located ≡ (seen.flags.located && (seen.place.blocks == r.first.blocks))) where
+    abbrev its_length : (blocks : ℕ) → IsLong r.number (at_of r) blocks → blocks ≡ r.first.blocks
+    its_length blocks (inl zero) = absurd (omega (arith, zero, some))
+    its_length blocks (inr equal) = equal
 
-  -- no head is there
-  pub looks_headless : IsHeadThere (place_on line first.blocks first.count number) (size_on site line) (content line.at.drive.0) None → Looks g site line first number content false finds finds
-  looks_headless there = looks_unreadable (unreadable_none g site line first (content line.at.drive.0) number there).never
-
-  -- one of another length
-  pub looks_other : (head : Head) → IsHead (place_on line first.blocks first.count number) (size_on site line) (content line.at.drive.0) head → (head.master.blocks ≡ first.blocks → ⊥) → Looks g site line first number content false finds finds
-  looks_other head is other = looks_unreadable (unreadable_other g site line first (content line.at.drive.0) number head is other).never
+    pub looks_unread : IsSeenThere (at_of r) (size_on site r.line) (content r.line.at.drive.0) seen → Looks g site r.line r.first r.number content false old (with_other old (other_of r (unread_flags located seen.flags.form_fault)))
+    looks_unread there ahead answers lines found =
+        let other = other_of r (unread_flags located seen.flags.form_fault) in
+        let away : (h : Head) → IsInChain (IsTextOf g) site r.line r.number (content r.line.at.drive.0) r.first h → ⊥ = λ h chain. none h (there.there.spelled h chain.readable.of_head) chain.length in
+        let letters : AreSeen g (at_of r) (size_on site r.line) r.number (content r.line.at.drive.0) (unread_flags located seen.flags.form_fault) =
+        seen_none g (at_of r) (size_on site r.line) r.number (content r.line.at.drive.0) seen there.look (λ head read long. none head read (its_length head.master.blocks long)) located
+        (λ yes. let both = and_parts seen.flags.located (seen.place.blocks == r.first.blocks) (sym is ∙ yes) in (both.0, inr (equal_of seen.place.blocks r.first.blocks both.1)))
+        (λ yes long. is ∙ and_from seen.flags.located (seen.place.blocks == r.first.blocks) yes (equal_is seen.place.blocks r.first.blocks (its_length seen.place.blocks long))) in
+        found_end g site content r.line answers lines (r.number + 1) (with_other old other) (comes_unreadable g site r.line (content r.line.at.drive.0) r.first ahead.located r.number away)
+        (found_other g site content r.line answers lines old other refl
+        (later_is_other g site r content some one_of numbered ahead (λ s same equal. none_unreadable g site content r.line r.first ahead.located r.number away s same (omega (arith, equal)))
+        (unread_flags located seen.flags.form_fault) (inr (within, letters))) found)
 
 -- a replica is in the chain, or none of its number is, where the look at it was answered
 pub chained_of : (g : Geometry) (site : Site) (r : Replica) (content : Contents) (old new : Finds) → IsHead (at_of r) (size_on site r.line) (content r.line.at.drive.0) r.head → (result : Result Bool ReadFault)

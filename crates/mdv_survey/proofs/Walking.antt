@@ -7,11 +7,13 @@ use Rattle.mdv_shelf.proofs.InTime.{in_time_none, kept_on_more}
 use Rattle.mdv_shelf.proofs.Stories.{each_none}
 use Rattle.mdv_survey.specs.Below.{DriveNo, Drives, Geometry, Ghosts, IsMasterAt, Master, Site, SliceLine, Tale, has_drive, last, place_on, size_on}
 use Rattle.mdv_survey.specs.Counts.{IsBehindBy, IsCounted, IsNumberBy, IsWalkedBy, ReadableBy}
-use Rattle.mdv_survey.specs.Slice.{AreFound, AreListed, IsAhead, ListsNext, ListsRest, Looks, LooksBehind}
+use Rattle.mdv_survey.specs.Others.{IsAhead}
+use Rattle.mdv_survey.specs.Slice.{AreFound, AreListed, ListsNext, ListsRest, Looks, LooksBehind}
 use Rattle.mdv_survey.specs.Slots.{OnlyReads}
 use Rattle.mdv_survey.specs.declared.body.ReadFault.{ReadFault}
 use Rattle.mdv_survey.specs.declared.replica.Finds.{Finds}
-use Rattle.mdv_survey.proofs.Chains.{found_end, found_fewer, none_behind}
+use Rattle.mdv_survey.proofs.Chains.{found_end, found_fewer}
+use Rattle.mdv_survey.proofs.Coming.{comes_behind}
 use Rattle.mdv_survey.proofs.Efforts.{counted_more, counted_none, counted_weaker, readable_more, walked_to}
 use Rattle.mdv_survey.proofs.Listing.{listed_end}
 
@@ -61,7 +63,7 @@ module _ {S : Type 0} (shelf : Ghosts S) (g : Geometry) (site : Site) (line : Sl
       same = so.reads.same;
       gave = λ t is ahead answers lines found. (
           let here = so.reads.gave t is ahead in
-          found_end g site (last t) line answers lines number finds (none_behind g site (last t) line first ahead.located number (omega arith) last_one) (here.1 answers lines found));
+          found_end g site (last t) line answers lines number finds (comes_behind g site line (last t line.at.drive.0) first ahead.located number (omega arith) last_one) (here.1 answers lines found));
     }
 
     pub counted_done : first.count ≤ number → (most : ℕ) → 3 * (number - 1) ≤ most → IsCounted shelf start mid most (λ t n. IsBehindBy g site line first (last t line.at.drive.0) n)

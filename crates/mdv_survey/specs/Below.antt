@@ -3,6 +3,7 @@ pub use Rattle.mdv_base.specs.Causes.{Failures, RoseOnce, Rose}
 pub use Rattle.mdv_base.specs.DriveSet.{Drives, has_drive}
 pub use Rattle.mdv_base.specs.Mark.{IsBelow}
 pub use Rattle.mdv_base.specs.declared.drive.DriveNo.{DriveNo}
+pub use Rattle.mdv_base.specs.declared.flags.Flags.{Flags}
 pub use Rattle.mdv_base.specs.declared.mark.Identity.{Identity}
 pub use Rattle.mdv_base.specs.declared.mark.Mark.{Mark}
 pub use Rattle.mdv_base.specs.declared.place.Place.{Place}

@@ -3,7 +3,7 @@ use Rattle.std.specs.Prelude.{◌≡◌, ◌⊎◌, ℕ, zero, suc, ◌+◌, ◌
 use Rattle.std.specs.Bool.{MatchBool}
 use Rattle.mdv_survey.specs.Below.{Closed, Drives, Gate, Geometry, Ghosts, Head, IsHead, IsInChain, IsMasterAt, IsTextOf, MadeCalls, Master, Open, Site, SliceLine, Tale, has_drive, place_on, size_on}
 use Rattle.mdv_survey.specs.Replica.{Contents}
-use Rattle.mdv_survey.specs.Slice.{first_at, most_on}
+use Rattle.mdv_survey.specs.Others.{first_at, most_on}
 use Rattle.mdv_survey.specs.declared.slots.Held.{Held}
 use Rattle.mdv_survey.specs.declared.slots.Held.TheVariants.{Nothing, Kept, Other}
 

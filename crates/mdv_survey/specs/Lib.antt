@@ -2,7 +2,10 @@ pub mod Below
 pub mod Replica
 pub mod Newest
 pub mod Slots
+pub mod Others
 pub mod Slice
 pub mod Survey
 pub mod Choice
 pub mod Counts
+pub mod Letters
+pub mod Laws

@@ -1,11 +1,16 @@
 -- The replicas that a survey found, and where it looks for them.
 use Rattle.std.specs.Prelude.{◌≡◌, ◌⊎◌, ℕ, ◌+◌, ◌*◌, ◌<◌, ◌≤◌, ◌^◌, true, List, [], ◌∷◌, ◌++◌, All, Contains}
-use Rattle.mdv_survey.specs.Below.{AreDrives, Drives, Geometry, IsFormed, IsFound, IsTextOf, PlaceAt, Site, SliceLine, IsSite, has_drive, place_on, size_on}
+use Rattle.mdv_survey.specs.Below.{AreDrives, Drives, Flags, Geometry, IsFormed, IsFound, IsTextOf, PlaceAt, Site, SliceLine, IsSite, has_drive, place_on, size_on}
+use Rattle.mdv_survey.specs.declared.replica.Other.{Other}
 use Rattle.mdv_survey.specs.declared.replica.Replica.{Replica}
 
 -- where the replica lies
 abbrev pub at_of : Replica → PlaceAt
 at_of r = place_on r.line r.first.blocks r.first.count r.number
+
+-- its place, with these letters, where it is no replica of the key
+abbrev pub other_of : Replica → Flags → Other
+other_of r flags = record { line = r.line; number = r.number; start = 16 + r.number * r.first.blocks; flags = flags }
 
 -- The site lies on a shelf with drives of these sizes: its drives are the shelf's, and each slice ends within one of them.
 pub record IsOnShelf (sizes : List ℕ) (site : Site) : Type 0 where

@@ -1,35 +1,33 @@
 -- How far a look has come on a slice.
-use Rattle.std.specs.Prelude.{◌≡◌, ◌⊎◌, ℕ, ◌+◌, ◌-◌, ◌<◌, min, Bool, true, false, List, [], ◌∷◌, ◌++◌, Contains, Option, Some, IfSome, Result, Ok, Err, OnErr}
-use Rattle.mdv_survey.specs.Below.{DriveNo, Drives, Failures, Geometry, Head, IsHead, IsInChain, IsMasterAt, IsTextOf, Master, PlaceAt, Site, SliceLine, has_drive, place_on, size_on}
+use Rattle.std.specs.Prelude.{◌≡◌, ◌⊎◌, ℕ, ◌+◌, ◌<◌, Bool, true, false, List, [], ◌∷◌, ◌++◌, Contains, Option, Some, IfSome, Result, Ok, Err, OnErr}
+use Rattle.mdv_survey.specs.Below.{DriveNo, Drives, Failures, Geometry, Head, IsHead, IsInChain, IsTextOf, Master, PlaceAt, Site, SliceLine, has_drive, size_on}
+use Rattle.mdv_replica.specs.Seen.{IsLook}
+use Rattle.mdv_replica.specs.declared.looking.Seen.{Seen}
 use Rattle.mdv_survey.specs.Newest.{HasTable, IsMarked}
+use Rattle.mdv_survey.specs.Others.{ComesTo, IsAhead, IsOtherIn, IsTold}
 use Rattle.mdv_survey.specs.Replica.{AreOrdered, Contents, IsFoundIn, IsListed, at_of}
 use Rattle.mdv_survey.specs.Slots.{ReadAnswer}
 use Rattle.mdv_survey.specs.declared.body.ReadFault.{ReadFault}
 use Rattle.mdv_survey.specs.declared.replica.Finds.{Finds}
+use Rattle.mdv_survey.specs.declared.replica.Other.{Other}
 use Rattle.mdv_survey.specs.declared.replica.Replica.{Replica}
-
--- where a slice's first replica lies, with the most blocks that it may have
-abbrev pub first_at : SliceLine → ℕ → PlaceAt
-first_at line most = record {
-  place = record { slice = line.name; start = 16; blocks = most };
-  drive = line.at.drive;
-  first = line.at.start + 16;
-  index = 0;
-  count = 0;
-}
-
--- no more than end within the slice
-abbrev pub most_on : SliceLine → ℕ
-most_on line = min 8192 (line.at.blocks - 16)
 
 -- the head that the contents spell at the place, or none
 pub record IsHeadThere (at : PlaceAt) (size : ℕ) (content : ℕ → List ℕ) (seen : Option Head) : Type 0 where
   pub value : IfSome seen (IsHead at size content)
   pub spelled : (head : Head) → IsHead at size content head → seen ≡ Some head
 
+-- and all that the look says
+pub record IsSeenThere (at : PlaceAt) (size : ℕ) (content : ℕ → List ℕ) (seen : Seen) : Type 0 where
+  pub there : IsHeadThere at size content seen.head
+  pub look : IsLook at size content seen
+
 -- a place was looked at: on one of these slices, or on this one before that number
+abbrev pub IsPassed : List SliceLine → SliceLine → ℕ → SliceLine → ℕ → Type 0
+IsPassed lines line number l k = Contains lines l ⊎ ((l ≡ line) × (k < number))
+
 abbrev pub WasLookedAt : List SliceLine → SliceLine → ℕ → Replica → Type 0
-WasLookedAt lines line number r = Contains lines r.line ⊎ ((r.line ≡ line) × (r.number < number))
+WasLookedAt lines line number r = IsPassed lines line number r.line r.number
 
 -- what is known of the replicas whatever the drives have, once these slices were looked at, and this one before that number
 pub record AreListed (site : Site) (up : Drives) (lines : List SliceLine) (line : SliceLine) (number : ℕ) (finds : Finds) : Type 0 where
@@ -37,6 +35,12 @@ pub record AreListed (site : Site) (up : Drives) (lines : List SliceLine) (line 
   pub looked_at : (r : Replica) → Contains finds.replicas r → WasLookedAt lines line number r
   pub ordered : AreOrdered site.lines finds.replicas
   pub marked : IsMarked finds.replicas finds.newest
+  pub others_on : (o : Other) → Contains finds.others o → Contains site.lines o.line × (has_drive up o.line.at.drive ≡ true)
+
+-- where the drives have these blocks: each other place is one; and of what was looked at each place that a look comes to is told of, on the drives that passed a test
+pub record AreTold (g : Geometry) (site : Site) (answers : DriveNo → Bool) (lines : List SliceLine) (line : SliceLine) (number : ℕ) (content : Contents) (finds : Finds) : Type 0 where
+  pub each : (o : Other) → Contains finds.others o → IsOtherIn g site content o
+  pub all : (l : SliceLine) (k : ℕ) (at : PlaceAt) → Contains site.lines l → answers l.at.drive ≡ true → IsPassed lines line number l k → ComesTo g site l k (content l.at.drive.0) at → IsTold finds.replicas finds.others l k
 
 -- Where the drives have these blocks: each of them is found, and the newest table is there; and of what was looked at each one that is found is among
 -- them, on the drives that passed a test.
@@ -44,11 +48,7 @@ pub record AreFound (g : Geometry) (site : Site) (answers : DriveNo → Bool) (l
   pub each : (r : Replica) → Contains finds.replicas r → IsFoundIn g site content r
   pub all : (r : Replica) → IsFoundIn g site content r → answers r.line.at.drive ≡ true → WasLookedAt lines line number r → Contains finds.replicas r
   pub table : HasTable g content finds.replicas finds.newest
-
--- the slice has this first master, and each replica before that number is readable
-pub record IsAhead (g : Geometry) (site : Site) (line : SliceLine) (first : Master) (number : ℕ) (content : ℕ → List ℕ) : Type 0 where
-  pub located : IsMasterAt (place_on line 8192 0 0) (size_on site line) (content (line.at.start + 16)) first
-  pub before : (j : ℕ) → j < number → (h : Head) × IsInChain (IsTextOf g) site line j content first h
+  pub told : AreTold g site answers lines line number content finds
 
 -- The replica of this number was looked at. Where it is readable, so is each before the next number; else the slice has no further one.
 abbrev pub Looks : Geometry → Site → SliceLine → Master → ℕ → Contents → Bool → Finds → Finds → Type 0

@@ -1,13 +1,15 @@
 -- What a survey finds.
-use Rattle.std.specs.Prelude.{◌≡◌, Bool, true, false, ◌&&◌, not, List, [], ◌∷◌, ◌++◌, Contains}
+use Rattle.std.specs.Prelude.{◌≡◌, ℕ, Bool, true, false, ◌&&◌, not, List, [], ◌∷◌, ◌++◌, Contains}
 use Rattle.std.specs.Bool.{MatchBool}
 use Rattle.mdv_shelf.specs.Drives.{KeptAmong}
 use Rattle.mdv_shelf.specs.Shelves.{DriveFailures}
-use Rattle.mdv_survey.specs.Below.{DriveNo, Drives, Geometry, Ghosts, Site, SliceLine, has_drive}
+use Rattle.mdv_survey.specs.Below.{DriveNo, Drives, Geometry, Ghosts, PlaceAt, Site, SliceLine, has_drive}
 use Rattle.mdv_survey.specs.Newest.{HasTable, IsMarked}
+use Rattle.mdv_survey.specs.Others.{ComesTo, IsOtherIn, IsTold}
 use Rattle.mdv_survey.specs.Replica.{AreOrdered, Contents, IsFoundIn, IsListed}
 use Rattle.mdv_survey.specs.Slice.{AreFound, AreListed}
 use Rattle.mdv_survey.specs.declared.replica.Finds.{Finds}
+use Rattle.mdv_survey.specs.declared.replica.Other.{Other}
 use Rattle.mdv_survey.specs.declared.replica.Replica.{Replica}
 use Rattle.mdv_survey.specs.declared.replica.Survey.{Survey}
 
@@ -15,17 +17,22 @@ use Rattle.mdv_survey.specs.declared.replica.Survey.{Survey}
 abbrev pub answers_in : Drives → Drives → DriveNo → Bool
 answers_in up failed drive = has_drive up drive && not (has_drive failed drive)
 
--- whatever the drives have: the replicas lie on slices of the site, on drives that are up, in their order; and the newest table has the greatest of their marks
+-- whatever the drives have: the replicas lie on slices of the site, on drives that are up, in their order; the newest table has the greatest of their marks; and all other
+-- places lie on such slices
 pub record IsSurvey (site : Site) (up : Drives) (survey : Survey) : Type 0 where
   pub each : (r : Replica) → Contains survey.replicas r → IsListed site up r
   pub ordered : AreOrdered site.lines survey.replicas
   pub marked : IsMarked survey.replicas survey.newest
+  pub others_on : (o : Other) → Contains survey.others o → Contains site.lines o.line × (has_drive up o.line.at.drive ≡ true)
 
--- Where the drives have these blocks: just those replicas are found, on drives that are up and on which no call failed; none is told of that isn't found; and the newest table is there.
+-- Where the drives have these blocks: just those replicas are found, on drives that are up and on which no call failed; none is told of that isn't found; and the newest table is there. Each
+-- other place is one, and each place that a look comes to is told of.
 pub record IsSurveyOf (g : Geometry) (site : Site) (up : Drives) (content : Contents) (survey : Survey) : Type 0 where
   pub each : (r : Replica) → Contains survey.replicas r → IsFoundIn g site content r
   pub all : (r : Replica) → IsFoundIn g site content r → answers_in up survey.failed r.line.at.drive ≡ true → Contains survey.replicas r
   pub table : HasTable g content survey.replicas survey.newest
+  pub others : (o : Other) → Contains survey.others o → IsOtherIn g site content o
+  pub told : (line : SliceLine) (number : ℕ) (at : PlaceAt) → Contains site.lines line → answers_in up survey.failed line.at.drive ≡ true → ComesTo g site line number (content line.at.drive.0) at → IsTold survey.replicas survey.others line number
 
 -- a drive is told to have failed where just one call on it did, and else none did
 abbrev pub HaveFailed : {S : Type 0} → Ghosts S → S → S → Drives → Type 0

@@ -158,7 +158,7 @@ fn is_at(replica: &Replica, place: &Place) -> bool
         && master.blocks == place.blocks
 }
 
-fn is_slice(one: &SliceName, other: &SliceName) -> bool
+pub(crate) fn is_slice(one: &SliceName, other: &SliceName) -> bool
     ensures { result ≡ same_slice one.now other.now }
 {
     let (a, b) = (&one.drive, &other.drive);

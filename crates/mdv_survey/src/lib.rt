@@ -4,12 +4,16 @@
 mod body;
 mod choosing;
 mod head;
+mod law;
 mod replica;
 mod slice;
 mod slots;
 mod surveying;
+mod telling;
 
 pub use choosing::{Choice, choose};
 pub use head::{greatest_of, spare_slot};
-pub use replica::{Newest, Replica, Survey};
+pub use law::letters_are_one;
+pub use replica::{Newest, Other, Replica, Survey};
 pub use surveying::survey;
+pub use telling::letters;

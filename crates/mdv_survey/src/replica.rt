@@ -1,9 +1,9 @@
 // What a survey has: the replicas that were found, and the newest of their tables.
 ghost use Rattle.std.specs.Prelude.{◌≡◌, ◌++◌, ◌+◌, ◌*◌, ◌≤◌, ◌<◌, ◌^◌, [], ◌∷◌, None, OnOk, OnErr};
 ghost use Rattle.mdv_survey.specs.Newest.{IsMarked, IsNewerThan, IsShown, TableGoesOn};
-ghost use Rattle.mdv_survey.specs.Replica.{at_of};
+ghost use Rattle.mdv_survey.specs.Replica.{at_of, other_of};
 
-use mdv_base::{DriveSet, Mark, Place};
+use mdv_base::{DriveSet, Flags, Mark, Place};
 use mdv_name::SliceLine;
 use mdv_replica::{Head, Master, PlaceAt, Slot};
 use mdv_table::Table;
@@ -18,6 +18,17 @@ pub struct Replica {
     pub number: u8,
     pub first: Master,
     pub head: Head,
+}
+
+/// A place that was looked at and has no readable replica of the site's key: the line of its slice, its number there, the block of the slice
+/// where it begins, and what was seen: `located`, `form_fault`, `master_fault` and `body_fault`. A readable replica of another key is
+/// `located` alone.
+#[derive(Clone, Copy)]
+pub struct Other {
+    pub line: SliceLine,
+    pub number: u8,
+    pub start: u32,
+    pub flags: Flags,
 }
 
 /// The newest table that the replicas show: which of them shows it, by its place in their list, in which slot,
@@ -37,6 +48,8 @@ pub struct Survey {
     pub replicas: Row<Replica>,
     /// The newest of all tables that they show, whichever identities they have.
     pub newest: Option<Newest>,
+    /// The places that were looked at and have no readable replica of the key: where the look at a slice ended, and those with one of another key.
+    pub others: Row<Other>,
     /// The drives on which a call failed.
     pub failed: DriveSet,
 }
@@ -54,6 +67,7 @@ pub(crate) struct Shown {
 pub(crate) struct Finds {
     pub(crate) replicas: Row<Replica>,
     pub(crate) newest: Option<Newest>,
+    pub(crate) others: Row<Other>,
 }
 
 impl Replica {
@@ -77,6 +91,19 @@ impl Replica {
             count: self.first.count,
         }
     }
+
+    /// Its place as one that has no replica of the key, with what was seen there.
+    pub(crate) fn as_other(&self, flags: Flags) -> Other
+        requires { 16 + self.now.number * self.now.first.blocks < 2 ^ 32 }
+        ensures { result ≡ other_of self.now flags }
+    {
+        Other {
+            line: self.line,
+            number: self.number,
+            start: 16 + u32::from(self.number) * self.first.blocks,
+            flags,
+        }
+    }
 }
 
 impl Finds {
@@ -84,10 +111,12 @@ impl Finds {
     pub(crate) fn new(alloc: Global) -> Finds
         ensures replicas { result.replicas ≡ [] }
         ensures newest { result.newest ≡ None }
+        ensures others { result.others ≡ [] }
     {
         Finds {
             replicas: Row::new(alloc),
             newest: None,
+            others: Row::new(alloc),
         }
     }
 
@@ -97,6 +126,7 @@ impl Finds {
         ensures replicas { OnOk result (self.new.replicas ≡ self.old.replicas ++ replica ∷ []) }
         ensures marked { OnOk result (IsMarked self.old.replicas self.old.newest → IsMarked self.new.replicas self.new.newest) }
         ensures table { OnOk result (TableGoesOn replica shown self.old self.new) }
+        ensures others { self.new.others ≡ self.old.others }
         ensures err { OnErr result (self.new ≡ self.old) }
     {
         let place = self.replicas.as_slice().len();
@@ -114,6 +144,14 @@ impl Finds {
             table: shown.table,
         });
         Ok(())
+    }
+
+    /// Adds a place that has none.
+    pub(crate) fn add_other(&mut self, other: Other) -> Result<(), AllocError>
+        ensures ok { OnOk result (self.new ≡ record self.old { others = self.old.others ++ other ∷ [] }) }
+        ensures err { OnErr result (self.new ≡ self.old) }
+    {
+        self.others.push(other)
     }
 }
 

@@ -1,22 +1,24 @@
 // The replicas of one slice, as far as each one before is readable.
-ghost use Rattle.std.specs.Prelude.{◌≡◌, ◌↔◌, ◌+◌, ◌*◌, ◌<◌, ◌≤◌, ◌^◌, Contains, length, slice_index_or, IsTrue, IfOk, IfSome};
+ghost use Rattle.std.specs.Prelude.{◌≡◌, ◌==◌, ◌&&◌, ◌↔◌, ◌+◌, ◌*◌, ◌<◌, ◌≤◌, ◌^◌, Contains, length, slice_index_or, IsTrue, IfOk, IfSome};
 ghost use Rattle.mdv_base.specs.Causes.{HasCause};
 ghost use Rattle.mdv_name.specs.Sound.{IsSound};
 ghost use Rattle.mdv_shelf.specs.Calls.{OnDrive};
 ghost use Rattle.mdv_shelf.specs.Shelves.{DriveFailures, KeptOn, MadeCalls};
 ghost use Rattle.mdv_shelf.specs.Tale.{last};
 ghost use Rattle.mdv_replica.specs.Replica.{IsFormed, slot_blocks};
+ghost use Rattle.mdv_replica.specs.declared.replica.Head.{Head};
 ghost use Rattle.mdv_survey.specs.Counts.{IsBehindBy, IsCounted, IsNumberBy, IsSliceBy, IsVisitBy};
 ghost use Rattle.mdv_survey.specs.Replica.{IsOnShelf, IsSeated};
-ghost use Rattle.mdv_survey.specs.Slice.{IsHeadThere, IsVisitAnswer, ListsRest, Looks, LooksAtAll, LooksBehind, Visits, first_at, most_on};
+ghost use Rattle.mdv_survey.specs.Others.{first_at, first_of, headed_flags, most_on, unread_flags};
+ghost use Rattle.mdv_survey.specs.Slice.{IsSeenThere, IsVisitAnswer, ListsRest, Looks, LooksAtAll, LooksBehind, Visits};
 ghost use Rattle.mdv_survey.specs.Slots.{OnlyReads, ReadAnswer};
 
 use crate::body::{Body, ReadFault};
-use crate::replica::{Finds, Replica};
+use crate::replica::{Finds, Other, Replica};
 use crate::slots::slots_at;
-use mdv_base::{Failed, Place};
+use mdv_base::{Failed, Flags, Place};
 use mdv_name::{Geometry, SliceLine};
-use mdv_replica::{Head, MAX_BLOCKS, PlaceAt, inspect};
+use mdv_replica::{Head, MAX_BLOCKS, PlaceAt, Seen, inspect};
 use mdv_shelf::Shelf;
 use mdv_shown::Site;
 use std::alloc::Global;
@@ -43,7 +45,10 @@ pub(crate) fn look_at_slice<S: Shelf>(
     ensures counted { IsCounted S.Shelf shelf.old shelf.new 765 (λ t n. (1 ≤ n) × IfOk result (λ _. IsSliceBy geometry.now site.now line (last t line.at.drive.0) n)) }
     ensures kept { KeptOn S.Shelf shelf.old shelf.new (OnDrive line.at.drive.0) }
 {
-    let Some(head) = head_at(shelf, first_place(line))? else {
+    let seen = look_at(shelf, first_place(line))?;
+    let found = seen.head;
+    let Some(head) = found else {
+        finds.add_other(first_other(line, seen.flags))?;
         return Ok(());
     };
     let first = Replica {
@@ -102,6 +107,7 @@ fn look_at_number<S: Shelf>(
     requires sound { IsSound geometry.now }
     requires on_shelf { IsOnShelf (S.sizes shelf.old) site.now }
     requires seated { IsSeated site.now first }
+    requires behind { 0 < number }
     requires numbered { number < first.first.count }
     requires whole { body.old ≡ slot_blocks first.first.blocks }
     ensures whole { body.new ≡ body.old }
@@ -112,21 +118,76 @@ fn look_at_number<S: Shelf>(
 {
     let next = Replica { number, ..first };
     if !ends_within(&next) {
+        finds.add_other(next.as_other(unread(false, false)))?;
         return Ok(false);
     }
-    match head_at(shelf, next.at())? {
-        Some(head) if head.master.blocks == first.first.blocks => {
-            visit(
-                shelf,
-                alloc,
-                geometry,
-                site,
-                Replica { head, ..next },
-                body,
-                finds,
-            )
-        }
-        _ => Ok(false),
+    let seen = look_at(shelf, next.at())?;
+    let Some(head) = head_of_length(&seen, first.first.blocks) else {
+        let located = is_located(&seen, first.first.blocks);
+        finds.add_other(next.as_other(unread(located, seen.flags.form_fault)))?;
+        return Ok(false);
+    };
+    visit(
+        shelf,
+        alloc,
+        geometry,
+        site,
+        Replica { head, ..next },
+        body,
+        finds,
+    )
+}
+
+// The head that was read, where it has that length.
+fn head_of_length(seen: &Seen, blocks: u32) -> Option<Head>
+    ensures some { IfSome result (λ head. (seen.now.head ≡ Some head) × (head.master.blocks ≡ blocks)) }
+    ensures none { result ≡ None → (head : Head) → seen.now.head ≡ Some head → head.master.blocks ≡ blocks → ⊥ }
+{
+    match seen.head {
+        Some(head) if head.master.blocks == blocks => Some(head),
+        _ => None,
+    }
+}
+
+// Whether a master of that length was read.
+fn is_located(seen: &Seen, blocks: u32) -> bool
+    ensures { result ≡ (seen.now.flags.located && (seen.now.place.blocks == blocks)) }
+{
+    seen.flags.located && seen.place.blocks == blocks
+}
+
+// The letters of a place without a head.
+fn unread(located: bool, form_fault: bool) -> Flags
+    ensures { result ≡ unread_flags located form_fault }
+{
+    Flags {
+        located,
+        form_fault,
+        master_fault: !located,
+        ..Flags::default()
+    }
+}
+
+// The letters of one with a head, whose slots don't both fit, or do.
+fn headed(body_fault: bool) -> Flags
+    ensures { result ≡ headed_flags body_fault }
+{
+    Flags {
+        located: true,
+        body_fault,
+        ..Flags::default()
+    }
+}
+
+// The slice's first place, which has no head.
+fn first_other(line: SliceLine, flags: Flags) -> Other
+    ensures { result ≡ first_of line flags }
+{
+    Other {
+        line,
+        number: 0,
+        start: FIRST_BLOCK,
+        flags,
     }
 }
 
@@ -161,9 +222,11 @@ fn visit<S: Shelf>(
 {
     let at = replica.at();
     let Some(slots) = slots_at(shelf, alloc, geometry, at, &replica.head, body)? else {
+        finds.add_other(replica.as_other(headed(true)))?;
         return Ok(false);
     };
     if !replica.head.master.key.is_same(&site.key) {
+        finds.add_other(replica.as_other(headed(false)))?;
         return Ok(true);
     }
     finds.add(replica, slots.newest)?;
@@ -191,12 +254,12 @@ fn first_place(line: SliceLine) -> PlaceAt
 }
 
 // What the head of the place says.
-fn head_at<S: Shelf>(shelf: &mut S, at: PlaceAt) -> Result<Option<Head>, Failed>
+fn look_at<S: Shelf>(shelf: &mut S, at: PlaceAt) -> Result<Seen, Failed>
     requires known { at.drive.0 < length (S.sizes shelf.old) }
     requires within { at.first < slice_index_or (S.sizes shelf.old) at.drive.0 0 }
-    ensures form { IfOk result (λ seen. IfSome seen (IsFormed at (slice_index_or (S.sizes shelf.old) at.drive.0 0))) }
+    ensures form { IfOk result (λ seen. IfSome seen.head (IsFormed at (slice_index_or (S.sizes shelf.old) at.drive.0 0))) }
     ensures cause { HasCause (S.faults shelf.old (OnDrive at.drive.0)) (S.faults shelf.new (OnDrive at.drive.0)) result }
-    ensures reads { OnlyReads S.Shelf (λ t. IfOk result (IsHeadThere at (slice_index_or (S.sizes shelf.old) at.drive.0 0) (last t at.drive.0))) shelf.old shelf.new }
+    ensures reads { OnlyReads S.Shelf (λ t. IfOk result (IsSeenThere at (slice_index_or (S.sizes shelf.old) at.drive.0 0) (last t at.drive.0))) shelf.old shelf.new }
     ensures counted { MadeCalls S.Shelf shelf.old shelf.new 1 0 }
     ensures kept { KeptOn S.Shelf shelf.old shelf.new (OnDrive at.drive.0) }
 {
@@ -204,5 +267,5 @@ fn head_at<S: Shelf>(shelf: &mut S, at: PlaceAt) -> Result<Option<Head>, Failed>
     if seen.flags.read_error {
         return Err(Failed);
     }
-    Ok(seen.head)
+    Ok(seen)
 }

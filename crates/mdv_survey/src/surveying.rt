@@ -48,10 +48,15 @@ pub fn survey<S: Shelf>(
             &mut failed,
         )?;
     }
-    let Finds { replicas, newest } = finds;
+    let Finds {
+        replicas,
+        newest,
+        others,
+    } = finds;
     Ok(Survey {
         replicas,
         newest,
+        others,
         failed,
     })
 }

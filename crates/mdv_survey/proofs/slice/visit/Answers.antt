@@ -1,13 +1,16 @@
-use Rattle.std.proofs.Common.{Some, None, refl, sym, subst, arith}
+use Rattle.std.proofs.Common.{◌∙◌, Some, None, refl, sym, ap, subst, true, false, arith}
 use Rattle.mdv_shelf.specs.Tale.{last}
 use Rattle.mdv_survey.specs.Below.{IsPlaced}
-use Rattle.mdv_survey.specs.Replica.{at_of}
-use Rattle.mdv_survey.specs.Slice.{ListsNext}
+use Rattle.mdv_survey.specs.Replica.{at_of, other_of}
+use Rattle.mdv_survey.specs.Others.{headed_flags}
+use Rattle.mdv_survey.specs.Slice.{ListsNext, Visits}
+use Rattle.mdv_survey.specs.declared.replica.Finds.{Finds}
 use Rattle.mdv_survey.specs.declared.body.ReadFault.TheVariants.{Memory}
 use Rattle.mdv_survey.proofs.Counting.{err_is}
 use Rattle.mdv_survey.proofs.Seating.{first_fits, placed_of}
 use Rattle.mdv_survey.proofs.Places.{calm_here, cause_here, slots_here}
-use Rattle.mdv_survey.proofs.Visiting.{lists_added, lists_skip, visits_added, visits_not, visits_other}
+use Rattle.mdv_survey.proofs.Told.{added_is}
+use Rattle.mdv_survey.proofs.Visiting.{lists_added, lists_other, lists_skip, visits_added, visits_not, visits_other}
 use Rattle.mdv_survey.proofs.slice.visit.Goals as goal
 
 pub at-at-requires-clause-start : goal.at-at-requires-clause-start
@@ -35,6 +38,16 @@ returns-in_err-slots-clause-answer g c =
       err = refl;
     })
 
+-- there is no memory for its place, whose slots don't both fit
+pub returns-in_err-add_other-clause-answer : goal.returns-in_err-add_other-clause-answer
+returns-in_err-add_other-clause-answer g c =
+    rw (err_is c.from_residual-in_err-add_other.result Memory c.from_residual-in_err-add_other.ensures.1)
+    (record {
+      read = record { calm = tt; cause = calm_here c.at-at.result (at_of c.args.replica) c.at-at.ensures g.S.Shelf c.args.shelf.now c.slots_at.new.shelf c.in_ok-slots.ensures.answer.read.calm };
+      lists = subst (ListsNext c.args.site.now c.args.replica.line c.args.replica.number c.args.finds.now) (sym c.in_err-add_other.ensures.err) (lists_skip c.args.site.now c.args.replica c.args.finds.now);
+      err = c.in_err-add_other.ensures.err;
+    })
+
 -- they don't both fit
 pub returns-in_default-clause-answer : goal.returns-in_default-clause-answer
 returns-in_default-clause-answer g c = record {
@@ -42,16 +55,30 @@ returns-in_default-clause-answer g c = record {
     calm = calm_here c.at-at.result (at_of c.args.replica) c.at-at.ensures g.S.Shelf c.args.shelf.now c.slots_at.new.shelf c.in_ok-slots.ensures.answer.read.calm;
     cause = tt;
   };
-  lists = lists_skip c.args.site.now c.args.replica c.args.finds.now;
+  lists = subst (ListsNext c.args.site.now c.args.replica.line c.args.replica.number c.args.finds.now)
+      (sym (added_is c.args.finds.now c.add_other.new.self c.as_other.result (other_of c.args.replica (headed_flags true)) c.in_ok-add_other.ensures.ok (c.as_other.ensures ∙ ap (other_of c.args.replica) c.headed.ensures)))
+      (lists_other c.args.site.now c.args.replica c.args.finds.now (headed_flags true));
   err = tt;
 }
 
 pub returns-in_default-clause-reads : goal.returns-in_default-clause-reads
 returns-in_default-clause-reads g c = record {
   same = c.in_ok-slots.ensures.reads.same;
-  gave = λ t is. visits_not c.args.geometry.now c.args.site.now c.args.replica c.requires.seated (last t) c.args.finds.now
-      (slots_here c.at-at.result (at_of c.args.replica) c.at-at.ensures c.args.geometry.now c.args.replica.head t c.in_ok-slots.field-0 None c.in_default.is (c.in_ok-slots.ensures.reads.gave t is));
+  gave = λ t is. subst (λ (new : Finds). Visits c.args.geometry.now c.args.site.now c.args.replica (last t) c.args.finds.now new false)
+      (sym (added_is c.args.finds.now c.add_other.new.self c.as_other.result (other_of c.args.replica (headed_flags true)) c.in_ok-add_other.ensures.ok (c.as_other.ensures ∙ ap (other_of c.args.replica) c.headed.ensures)))
+      (visits_not c.args.geometry.now c.args.site.now c.args.replica c.requires.seated (last t) c.args.finds.now
+      (slots_here c.at-at.result (at_of c.args.replica) c.at-at.ensures c.args.geometry.now c.args.replica.head t c.in_ok-slots.field-0 None c.in_default.is (c.in_ok-slots.ensures.reads.gave t is)));
 }
+
+-- there is no memory for its place, since it is of another key
+pub returns-in_err-add_other-2-clause-answer : goal.returns-in_err-add_other-2-clause-answer
+returns-in_err-add_other-2-clause-answer g c =
+    rw (err_is c.from_residual-in_err-add_other-2.result Memory c.from_residual-in_err-add_other-2.ensures.1)
+    (record {
+      read = record { calm = tt; cause = calm_here c.at-at.result (at_of c.args.replica) c.at-at.ensures g.S.Shelf c.args.shelf.now c.slots_at.new.shelf c.in_ok-slots.ensures.answer.read.calm };
+      lists = subst (ListsNext c.args.site.now c.args.replica.line c.args.replica.number c.args.finds.now) (sym c.in_err-add_other-2.ensures.err) (lists_skip c.args.site.now c.args.replica c.args.finds.now);
+      err = c.in_err-add_other-2.ensures.err;
+    })
 
 -- it is of another key
 pub returns-then-not-is_same-clause-answer : goal.returns-then-not-is_same-clause-answer
@@ -60,7 +87,10 @@ returns-then-not-is_same-clause-answer g c = record {
     calm = calm_here c.at-at.result (at_of c.args.replica) c.at-at.ensures g.S.Shelf c.args.shelf.now c.slots_at.new.shelf c.in_ok-slots.ensures.answer.read.calm;
     cause = tt;
   };
-  lists = lists_skip c.args.site.now c.args.replica c.args.finds.now;
+  lists = subst (ListsNext c.args.site.now c.args.replica.line c.args.replica.number c.args.finds.now)
+      (sym (added_is c.args.finds.now c.add_other-then-not-is_same.new.self c.as_other-then-not-is_same.result (other_of c.args.replica (headed_flags false)) c.in_ok-add_other-2.ensures.ok
+      (c.as_other-then-not-is_same.ensures ∙ ap (other_of c.args.replica) c.headed-then-not-is_same.ensures)))
+      (lists_other c.args.site.now c.args.replica c.args.finds.now (headed_flags false));
   err = tt;
 }
 
@@ -69,7 +99,10 @@ returns-then-not-is_same-clause-reads g c = record {
   same = c.in_ok-slots.ensures.reads.same;
   gave = λ t is. (
       let slots = slots_here c.at-at.result (at_of c.args.replica) c.at-at.ensures c.args.geometry.now c.args.replica.head t c.in_ok-slots.field-0 (Some c.in-Some.slots) c.in-Some.is (c.in_ok-slots.ensures.reads.gave t is) in
-      visits_other c.args.geometry.now c.args.site.now c.args.replica c.requires.seated (last t) c.args.finds.now slots.0 (λ same. absurd (cc (c.is_same.ensures.1 same, c.if-not-is_same.true))));
+      subst (λ (new : Finds). Visits c.args.geometry.now c.args.site.now c.args.replica (last t) c.args.finds.now new true)
+      (sym (added_is c.args.finds.now c.add_other-then-not-is_same.new.self c.as_other-then-not-is_same.result (other_of c.args.replica (headed_flags false)) c.in_ok-add_other-2.ensures.ok
+      (c.as_other-then-not-is_same.ensures ∙ ap (other_of c.args.replica) c.headed-then-not-is_same.ensures)))
+      (visits_other c.args.geometry.now c.args.site.now c.args.replica c.requires.seated (last t) c.args.finds.now slots.0 (λ same. absurd (cc (c.is_same.ensures.1 same, c.if-not-is_same.true)))));
 }
 
 -- there is no memory for it
@@ -89,7 +122,7 @@ returns-clause-answer g c = record {
     calm = calm_here c.at-at.result (at_of c.args.replica) c.at-at.ensures g.S.Shelf c.args.shelf.now c.slots_at.new.shelf c.in_ok-slots.ensures.answer.read.calm;
     cause = tt;
   };
-  lists = lists_added c.args.site.now c.args.replica c.args.finds.now c.add.new.self c.requires.seated (c.is_same.ensures.0 c.if-not-is_same.false) c.in_ok-add.ensures.replicas c.in_ok-add.ensures.marked;
+  lists = lists_added c.args.site.now c.args.replica c.args.finds.now c.add.new.self c.requires.seated (c.is_same.ensures.0 c.if-not-is_same.false) c.in_ok-add.ensures.replicas c.add.ensures.others c.in_ok-add.ensures.marked;
   err = tt;
 }
 
@@ -98,6 +131,6 @@ returns-clause-reads g c = record {
   same = c.in_ok-slots.ensures.reads.same;
   gave = λ t is. (
       let slots = slots_here c.at-at.result (at_of c.args.replica) c.at-at.ensures c.args.geometry.now c.args.replica.head t c.in_ok-slots.field-0 (Some c.in-Some.slots) c.in-Some.is (c.in_ok-slots.ensures.reads.gave t is) in
-      visits_added c.args.geometry.now c.args.site.now c.args.replica c.requires.seated (last t) c.args.finds.now c.add.new.self slots.0 (c.is_same.ensures.0 c.if-not-is_same.false) c.in_ok-add.ensures.replicas
+      visits_added c.args.geometry.now c.args.site.now c.args.replica c.requires.seated (last t) c.args.finds.now c.add.new.self slots.0 (c.is_same.ensures.0 c.if-not-is_same.false) c.in_ok-add.ensures.replicas c.add.ensures.others
       (λ has. c.in_ok-add.ensures.table c.args.geometry.now (last t) has slots.1));
 }

@@ -9,7 +9,7 @@ use Rattle.mdv_survey.proofs.surveying.survey.Goals as goal
 
 pub loop-line-init : goal.loop-line-init
 loop-line-init g c =
-    surveyed_none g.S.Shelf c.args.geometry.now c.args.site.now c.args.up.now c.as_slice-line-items.result.now c.args.shelf.now c.new-failed.result c.new-finds.result c.new-failed.ensures.none c.new-finds.ensures.replicas c.new-finds.ensures.newest
+    surveyed_none g.S.Shelf c.args.geometry.now c.args.site.now c.args.up.now c.as_slice-line-items.result.now c.args.shelf.now c.new-failed.result c.new-finds.result c.new-failed.ensures.none c.new-finds.ensures.replicas c.new-finds.ensures.newest c.new-finds.ensures.others
 
 pub look_where_up-requires-clause-on_shelf : goal.look_where_up-requires-clause-on_shelf
 look_where_up-requires-clause-on_shelf g c = subst (λ (sizes : List _). IsOnShelf sizes c.args.site.now) (sym c.loop-line.invariant.kept.keeps.same_sizes) c.requires.on_shelf
