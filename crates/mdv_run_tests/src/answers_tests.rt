@@ -119,6 +119,17 @@ const LENGTHS: &[Row] = &[
     ("metastat -p", "d0 1 1 c0t0d0s0\nok"),
 ];
 
+// As many replicas as `-c` says, of which there are 50 at most.
+const COUNTS: &[Row] = &[
+    ("metadb -a -f -c 0 -l 16 c0t0d0s7", "refused E1 BadLine"),
+    ("metadb -a -f -c 51 -l 16 c0t0d0s7", "refused E1 BadLine"),
+    ("metadb -a -f -c 50 -l 16 c0t0d0s7", "ok"),
+    ("metadb -a -l 16 c0t0d0s7", "refused E9 TooMany"),
+    ("boot", "ok"),
+    ("metainit d0 1 1 c0t0d0s0", "ok"),
+    ("metastat -p", "d0 1 1 c0t0d0s0\nok"),
+];
+
 const LEAST_LENGTHS: &[Row] = &[
     ("metadb -a -f -l 17 c0t0d0s7", "refused E10 TooSmall"),
     ("metadb -a -f -l 16 c0t0d0s7", "ok"),
@@ -235,6 +246,12 @@ const ANSWERS: &[Lines] = &[
         blocks: 9000,
         failing: &[],
         rows: LENGTHS,
+    },
+    Lines {
+        table: WIDE,
+        blocks: WIDE_BLOCKS,
+        failing: &[],
+        rows: COUNTS,
     },
     Lines {
         table: LEAST,

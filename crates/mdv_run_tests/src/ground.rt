@@ -205,17 +205,17 @@ slice c0t2d0s2 16 8
 /// Three drives with a slice for replicas and one for a volume each, and how many blocks they have.
 pub const PLACES: (&str, &[u64]) = (
     "host alpha
-drive c0t0d0 64 alpha d0.img
-drive c0t1d0 64 alpha d1.img
-drive c0t2d0 64 alpha d2.img
+drive c0t0d0 80 alpha d0.img
+drive c0t1d0 80 alpha d1.img
+drive c0t2d0 80 alpha d2.img
 slice c0t0d0s0 0 16
-slice c0t0d0s7 16 40 db
+slice c0t0d0s7 16 64 db
 slice c0t1d0s0 0 16
-slice c0t1d0s7 16 40 db
+slice c0t1d0s7 16 64 db
 slice c0t2d0s0 0 16
-slice c0t2d0s7 16 40 db
+slice c0t2d0s7 16 64 db
 ",
-    &[64, 64, 64],
+    &[80, 80, 80],
 );
 
 impl Ground {

@@ -22,12 +22,17 @@ enum Step {
     Stop(u64),
     /// A crash leaves of each block what is on the disk.
     Crash,
+    /// The block of the drive holds these bytes, and zeros behind them.
+    Block(u32, u64, &'static [u8]),
 }
 
 const MADE: &str = "metadb -a -f -l 16 c0t0d0s7 c0t1d0s7 c0t2d0s7\n";
 
 const MADE_AND_CHANGED: &str =
     "metadb -a -f -l 16 c0t0d0s7 c0t1d0s7 c0t2d0s7\nmetainit d10 1 1 c0t0d0s0\n";
+
+const SIX_AND_CHANGED: &str =
+    "metadb -a -f -c 3 -l 16 c0t0d0s7 c0t1d0s7\nmetainit d10 1 1 c0t0d0s0\n";
 
 const PAIR_AND_CHANGED: &str = "metadb -a -f -l 16 c0t0d0s7 c0t1d0s7\nmetainit d10 1 1 c0t0d0s0\n";
 
@@ -36,6 +41,11 @@ const WITH_VOLUME: &str = "d10 1 1 c0t0d0s0\nok\n";
 const ONE_OF_TWO: RunStatus = RunStatus::NoQuorum {
     readable: 1,
     needed: 2,
+};
+
+const THREE_OF_SIX: RunStatus = RunStatus::NoQuorum {
+    readable: 3,
+    needed: 4,
 };
 
 const ONE_LEFT: RunStatus = RunStatus::Panic {
@@ -91,10 +101,47 @@ const WITH_THE_FIRST: &[Step] = &[
     Step::Run("metastat -p\n", RunStatus::Done, WITH_VOLUME),
 ];
 
-// Behind the creation's reply.
+// A run's boot makes twelve calls where each of the three places shows one table, and then two for the claim of each: with these the first one is claimed.
+const TO_FIRST_CLAIM: u64 = 14;
+
+const CLAIM_TWO: &[u8] = b"MDVCLAIM\0\0\0\0\0\0\0\x02";
+
+const CLAIM_THREE: &[u8] = b"MDVCLAIM\0\0\0\0\0\0\0\x03";
+
+// The gates of the table with the volume, under the mark (2, 1), and under (3, 0).
+const CHANGED_GATE: &[u8] = b"MDVGATE1\x01\0\0\0\0\0\0\0\x02\0\0\0\0\0\0\0\x01\0\0\0\x6e";
+
+const ADOPTED_GATE: &[u8] = b"MDVGATE1\x01\0\0\0\0\0\0\0\x03\0\0\0\0\0\0\0\0\0\0\0\x6e";
+
+// A boot stops behind its first claim. The next one, without that place, draws the same number, and its change is found by the one behind, which draws a
+// greater one. The replica of a drive begins at block 32: its claim is the block behind, and the gates are the next two.
+const ONE_CLAIM: &[Step] = &[
+    Step::Run(MADE, RunStatus::Done, "ok\n"),
+    Step::Stop(TO_FIRST_CLAIM),
+    Step::Run("", ONE_LEFT, ""),
+    Step::Crash,
+    Step::Block(0, 33, CLAIM_TWO),
+    Step::Lose(&[0]),
+    Step::Run("metainit d10 1 1 c0t0d0s0\n", RunStatus::Done, "ok\n"),
+    Step::Block(1, 33, CLAIM_TWO),
+    Step::Block(1, 34, CHANGED_GATE),
+    Step::Block(2, 34, CHANGED_GATE),
+    Step::Back(&[0]),
+    Step::Run("metastat -p\n", RunStatus::Done, WITH_VOLUME),
+    Step::Block(0, 33, CLAIM_THREE),
+    Step::Block(0, 35, ADOPTED_GATE),
+    Step::Block(1, 33, CLAIM_THREE),
+    Step::Block(1, 35, ADOPTED_GATE),
+    Step::Block(2, 33, CLAIM_THREE),
+    Step::Block(2, 35, ADOPTED_GATE),
+];
+
+// Behind the creation's reply. Where a slice gets several places, each one's master is blanked before, which takes two calls.
 const BEHIND_THREE: u64 = 46;
 
 const BEHIND_TWO: u64 = 34;
+
+const BEHIND_SIX: u64 = 94;
 
 // Two of three drives are lost between two lines.
 const TOO_FEW: &[Step] = &[
@@ -112,6 +159,17 @@ const JUST_HALF: &[Step] = &[
     Step::Run("metastat -p\n", RunStatus::Done, WITH_VOLUME),
 ];
 
+// So it is with three on each of two slices; and when the other drive is back all six count, of which three have the older table.
+const HALF_OF_SIX: &[Step] = &[
+    Step::LoseAt(1, BEHIND_SIX),
+    Step::Run(SIX_AND_CHANGED, RunStatus::Done, "ok\nok\n"),
+    Step::Run("metastat -p\n", THREE_OF_SIX, ""),
+    Step::Back(&[1]),
+    Step::Run("metastat -p\n", RunStatus::Done, WITH_VOLUME),
+    Step::Lose(&[0]),
+    Step::Run("metastat -p\n", THREE_OF_SIX, ""),
+];
+
 fn apply<R: Abort + AllocGlobal>(rt: &R, story: &mut Story, step: &Step) -> Result<(), Fail> {
     match step {
         Step::Run(script, end, told) => {
@@ -125,6 +183,9 @@ fn apply<R: Abort + AllocGlobal>(rt: &R, story: &mut Story, step: &Step) -> Resu
         Step::Back(drives) => story.bring_back(drives)?,
         Step::Stop(calls) => story.shelf.stop_after(*calls),
         Step::Crash => story.shelf.crash(&[]),
+        Step::Block(drive, at, text) => {
+            assert!(rt; story.has_block(*drive, *at, text)?, "{drive} {at}");
+        }
     }
     Ok(())
 }
@@ -156,8 +217,13 @@ fn a_change_that_stops_half_way_is_settled_once(rt: HostRuntime) -> Result<(), F
 }
 
 #[test]
+fn a_number_is_drawn_again(rt: HostRuntime) -> Result<(), Fail> {
+    expect(&rt, &mut begin(&rt)?, ONE_CLAIM)
+}
+
+#[test]
 fn goes_on_with_half(rt: HostRuntime) -> Result<(), Fail> {
-    for steps in [TOO_FEW, JUST_HALF] {
+    for steps in [TOO_FEW, JUST_HALF, HALF_OF_SIX] {
         expect(&rt, &mut begin(&rt)?, steps)?;
     }
     Ok(())
@@ -174,6 +240,25 @@ fn block_at(story: &mut Story, drive: u32, at: u64) -> Result<Block, Fail> {
     Ok(out[0])
 }
 
+// The last drive gets the blocks of the other one's.
+fn put_drive(story: &mut Story, other: &mut Story) -> Result<(), Fail> {
+    for at in 0..PLACES.1[2] {
+        let block = block_at(other, 2, at)?;
+        story.put(2, at, &block)?;
+    }
+    Ok(())
+}
+
+// Whether the last drive of both has the same blocks.
+fn are_same(story: &mut Story, other: &mut Story) -> Result<bool, Fail> {
+    for at in 0..PLACES.1[2] {
+        if block_at(story, 2, at)? != block_at(other, 2, at)? {
+            return Ok(false);
+        }
+    }
+    Ok(true)
+}
+
 // The database, and two of its drives lost.
 fn begin_alone<R: Abort + AllocGlobal>(rt: &R) -> Result<Story, Fail> {
     let mut story = begin(rt)?;
@@ -185,17 +270,31 @@ fn begin_alone<R: Abort + AllocGlobal>(rt: &R) -> Result<Story, Fail> {
     Ok(story)
 }
 
+fn expect_same<R: Abort + AllocGlobal>(
+    rt: &R,
+    story: &mut Story,
+    other: &mut Story,
+) -> Result<(), Fail> {
+    let is_same = are_same(story, other)?;
+    assert!(rt; is_same);
+    Ok(())
+}
+
+fn expect_no_write<R: Abort + AllocGlobal>(
+    rt: &R,
+    story: &mut Story,
+    other: &mut Story,
+) -> Result<(), Fail> {
+    expect(rt, story, &[Step::Run("boot\n", ONE_OF_TWO, "")])?;
+    expect_same(rt, story, other)
+}
+
 // A boot that finds too few places writes nothing.
 #[test]
 fn a_boot_without_quorum_leaves_the_drives(rt: HostRuntime) -> Result<(), Fail> {
     let mut story = begin_alone(&rt)?;
     let mut other = begin_alone(&rt)?;
-    expect(&rt, &mut story, &[Step::Run("boot\n", ONE_OF_TWO, "")])?;
-    for at in 0..PLACES.1[2] {
-        let is_same = block_at(&mut story, 2, at)? == block_at(&mut other, 2, at)?;
-        assert!(rt; is_same, "{at}");
-    }
-    Ok(())
+    expect_no_write(&rt, &mut story, &mut other)
 }
 
 const FIRST: Identity = Identity {
@@ -213,30 +312,77 @@ const MIXED: RunStatus = RunStatus::TwoDatabases {
     b: SECOND,
 };
 
+// The second one's database is of its second run, so of another identity.
+const LATER: &[Step] = &[
+    Step::Run("", RunStatus::Done, ""),
+    Step::Run(MADE, RunStatus::Done, "ok\n"),
+];
+
+const EXCHANGED: &[Step] = &[
+    Step::Run("boot\n", MIXED, ""),
+    Step::Lose(&[2]),
+    Step::Run("boot\n", RunStatus::Done, "ok\n"),
+];
+
+fn expect_two<R: Abort + AllocGlobal>(
+    rt: &R,
+    story: &mut Story,
+    other: &mut Story,
+) -> Result<(), Fail> {
+    expect(rt, story, &[Step::Run(MADE, RunStatus::Done, "ok\n")])?;
+    expect(rt, other, LATER)?;
+    put_drive(story, other)?;
+    expect(rt, story, EXCHANGED)
+}
+
 // Two hosts of one name made a database each, on drives of their own, of which the last ones are exchanged.
 #[test]
 fn tells_of_two_databases(rt: HostRuntime) -> Result<(), Fail> {
-    let (mut story, mut other) = (begin(&rt)?, begin(&rt)?);
-    expect(&rt, &mut story, &[Step::Run(MADE, RunStatus::Done, "ok\n")])?;
-    let later = [
-        Step::Run("", RunStatus::Done, ""),
-        Step::Run(MADE, RunStatus::Done, "ok\n"),
-    ];
-    expect(&rt, &mut other, &later)?;
-    for at in 0..PLACES.1[2] {
-        let block = block_at(&mut other, 2, at)?;
-        story.put(2, at, &block)?;
-    }
-    expect(&rt, &mut story, &[Step::Run("boot\n", MIXED, "")])?;
+    let mut story = begin(&rt)?;
+    let mut other = begin(&rt)?;
+    expect_two(&rt, &mut story, &mut other)?;
     assert_eq!(rt; MIXED.number(), 8);
-    expect(
-        &rt,
-        &mut story,
-        &[
-            Step::Lose(&[2]),
-            Step::Run("boot\n", RunStatus::Done, "ok\n"),
-        ],
-    )
+    Ok(())
+}
+
+// Drives of the same names, which are another host's.
+const OTHERS: &str = "host beta
+drive c0t0d0 80 beta d0.img
+drive c0t1d0 80 beta d1.img
+drive c0t2d0 80 beta d2.img
+slice c0t0d0s7 16 64 db
+slice c0t1d0s7 16 64 db
+slice c0t2d0s7 16 64 db
+";
+
+// Behind an exchange of the last drive, the replica there is of another host, and of the same identity.
+const BESIDE_ANOTHER: &[Step] = &[
+    Step::Run("metainit d10 1 1 c0t0d0s0\n", RunStatus::Done, "ok\n"),
+    Step::Lose(&[1]),
+    Step::Run("metastat -p\n", ONE_OF_TWO, ""),
+    Step::Back(&[1]),
+    Step::Run("metastat -p\n", RunStatus::Done, WITH_VOLUME),
+];
+
+fn expect_beside<R: Abort + AllocGlobal>(
+    rt: &R,
+    story: &mut Story,
+    other: &mut Story,
+) -> Result<(), Fail> {
+    expect(rt, story, &[Step::Run(MADE, RunStatus::Done, "ok\n")])?;
+    let end = other.run("beta", MADE)?;
+    assert_eq!(rt; end, RunStatus::Done);
+    put_drive(story, other)?;
+    expect(rt, story, BESIDE_ANOTHER)?;
+    expect_same(rt, story, other)
+}
+
+// It doesn't count, as if its drive were lost, and isn't written.
+#[test]
+fn passes_over_replicas_of_another_host(rt: HostRuntime) -> Result<(), Fail> {
+    let mut story = begin(&rt)?;
+    let mut other = Story::new(rt.alloc(), OTHERS, PLACES.1)?;
+    expect_beside(&rt, &mut story, &mut other)
 }
 
 // Slices of each kind: one that has many blocks, two that overlap, and one of another host.
@@ -281,6 +427,8 @@ const REFUSALS: &[(&str, &str)] = &[
     ("-l 16 c0t0d0s7 c0t0d0s7", "refused E7 SliceInUse\n"),
     ("-c 47 -l 16 c0t0d0s7", "refused E9 TooMany\n"),
     ("-c 46 -l 16 c0t0d0s7", "refused E1 BadLine\n"),
+    ("-l 16 c0t0d0s0", "refused E12 WrongKind\n"),
+    ("-c 4 c0t0d0s7", "refused E10 TooSmall\n"),
 ];
 
 #[test]

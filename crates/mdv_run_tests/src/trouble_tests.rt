@@ -139,7 +139,7 @@ fn expect_in_narrow<R: Abort + AllocGlobal>(
 #[test]
 fn of_short_replicas(rt: HostRuntime) -> Result<(), Fail> {
     expect_in_narrow(&rt, &[], SHORT_CREATIONS, 32, &[Line::Short(24)])?;
-    expect_in_narrow(&rt, &[SHORT_MADE], SHORT_CHANGES, 40, &[Line::Short(24)])
+    expect_in_narrow(&rt, &[SHORT_MADE], SHORT_CHANGES, 42, &[Line::Short(24)])
 }
 
 const MADE: &[Line] = &[Line::Forced, Line::Volume(0)];
