@@ -22,6 +22,7 @@ use Rattle.mdv_survey.specs.declared.choosing.Choice.TheVariants as chosen
 use Rattle.mdv_survey.specs.declared.replica.Newest.{Newest}
 use Rattle.mdv_survey.specs.declared.replica.Replica.{Replica}
 use Rattle.mdv_survey.specs.declared.replica.Survey.{Survey}
+use Rattle.mdv_survey.proofs.Identities.{find_some}
 use Rattle.mdv_store.specs.Boot.{IsAdopted, IsEndBy, IsInHand, IsShort, TakesBoth, greatest_number, is_memory, is_seated, seat_for, seats_of}
 use Rattle.mdv_store.specs.Opened.{Opened}
 use Rattle.mdv_store.specs.Seats.{active_of, replicas_of}
@@ -67,13 +68,6 @@ by_first key rs newest (Some one) = by_other key rs newest one (find (shows_othe
 abbrev end_of : Key → List Replica → Option Newest → BootEnd
 end_of key rs None = end.Empty
 end_of key rs (Some newest) = by_first key rs newest (find shows_table rs)
-
-pub find_some : {X : Type 0} (p : X → Bool) (xs : List X) (x : X) → find p xs ≡ Some x → Contains xs x × (p x ≡ true)
-find_some p [] x is = absurd (cc (is))
-find_some p (y ∷ ys) x is = by (p y) refl is (find_some p ys x) where
-  by : (b : Bool) → p y ≡ b → cond b (Some y) (find p ys) ≡ Some x → (find p ys ≡ Some x → Contains ys x × (p x ≡ true)) → Contains (y ∷ ys) x × (p x ≡ true)
-  by true here same later = (let e : y ≡ x = cc (same) in ((0, omega arith, e), ap p (sym e) ∙ here))
-  by false here there later = (let rest = later there in ((suc rest.0.0, omega (arith, rest.0.1), rest.0.2), rest.1))
 
 -- where all that show tables are of one database the newest one's replica is taken
 module _ (key : Key) (rs : List Replica) (newest : Newest) (r : Replica) (the : IsTheOne rs newest r) where

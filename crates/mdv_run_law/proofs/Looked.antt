@@ -5,7 +5,7 @@ use Rattle.mdv_databases.proofs.Booting.{one_shown}
 use Rattle.mdv_databases.specs.Standing.{Stand}
 use Rattle.mdv_replica.specs.Form.{shows}
 use Rattle.mdv_run_law.specs.Below.{Database, Drives, Geometry, HasNoTableOn, Identity, Key, SliceLine, Tale, last, site_of}
-use Rattle.mdv_run_law.proofs.Ending.{find_some}
+use Rattle.mdv_survey.proofs.Identities.{find_some}
 use Rattle.mdv_store.proofs.Adoptions.{same_identity_self}
 use Rattle.mdv_store.specs.Booting.{HasShown}
 use Rattle.mdv_survey.specs.Choice.{AreTwo, IsChoice, is_of, same_identity, shows_other, shows_table}
