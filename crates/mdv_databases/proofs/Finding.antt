@@ -30,10 +30,11 @@ use Rattle.mdv_standing.proofs.Voting.{all_that, numbered}
 use Rattle.mdv_standing.proofs.Adopting.{finds}
 use Rattle.mdv_standing.proofs.Looking.{looks}
 use Rattle.mdv_look.proofs.Bringing.{count_cons}
+use Rattle.mdv_look.proofs.Looks.{count_length}
 use Rattle.mdv_store.proofs.Adoptions.{got_contains, same_identity_self}
 use Rattle.mdv_store.proofs.Boots.{count_all}
 use Rattle.mdv_store.proofs.Passes.{mapped}
-use Rattle.mdv_store.proofs.Reading.{lies_at, seen_of}
+use Rattle.mdv_store.proofs.Reading.{lies_at, seated_place, seen_of}
 use Rattle.mdv_store.proofs.Records.{spelled_of}
 use Rattle.mdv_store.proofs.Rooms.{room_least}
 use Rattle.mdv_store.proofs.Seating.{seats_places}
@@ -46,6 +47,7 @@ use Rattle.mdv_store.specs.Seats.{active_of, replicas_of}
 use Rattle.mdv_store.specs.Text.{blocks_for}
 use Rattle.mdv_replica.specs.Form.{text_of}
 use Rattle.mdv_replica.specs.Replica.{slot_blocks}
+use Rattle.mdv_survey.proofs.Identities.{find_some}
 use Rattle.mdv_survey.specs.Choice.{IsChoiceAmong, IsTheOne, failing, is_found_at, is_of, is_read, is_there, place_of, readable_of, same_identity, same_place}
 use Rattle.mdv_survey.specs.declared.choosing.Choice.TheVariants as chosen
 use Rattle.mdv_survey.specs.Newest.{HasTable, IsGreatest, IsMarked, IsTableIn}
@@ -58,7 +60,7 @@ use Rattle.mdv_table.specs.Plan.{places_of}
 use Rattle.mdv_table.specs.Table.{IsListsOf}
 use Rattle.mdv_table.specs.declared.plan.Lists.{Lists}
 use Rattle.mdv_base.specs.DriveSet.{Drives}
-use Rattle.mdv_databases.specs.Below.{Core, Database, Geometry, Identity, Image, Key, Log, One, Place, Replica, Seat, Spells, Table, Tale, log_of, site_of, slice_at}
+use Rattle.mdv_databases.specs.Below.{Core, Database, Geometry, Identity, Image, Key, Log, One, Place, Replica, Seat, SliceLine, Spells, Table, Tale, log_of, site_of, slice_at}
 use Rattle.mdv_databases.specs.Booting.{AllAnswer, IsShortOf}
 use Rattle.mdv_databases.specs.Meeting.{MayBeFound, MostOn, answers_on, is_on}
 use Rattle.mdv_databases.specs.Standing.{Stand}
@@ -86,26 +88,39 @@ find_has p (y ∷ ys) x has is = by (p y) refl (λ behind. find_has p ys x behin
 abbrev Takes : List Replica → Identity → ℕ → Place → Type 0
 Takes rs identity text p = (r : Replica) × Contains rs r × (is_seated identity p text r ≡ true)
 
-module _ (rs : List Replica) (identity : Identity) (text : ℕ) (on : Place → Bool) where
-  -- at least as many places are active as have one
-  active_least : (places : List Place) → ((p : Place) → Contains places p → on p ≡ true → Takes rs identity text p) → count_by on places ≤ active_of (seats_of rs identity text places)
-  active_least [] each = omega arith
-  active_least (p ∷ places) each =
-      let rest = active_least places (λ q has. each q (contains_behind p q places has)) in
-      subst (λ (n : ℕ). n ≤ active_of (seats_of rs identity text (p ∷ places))) (sym (count_cons on p places)) (by (on p) refl (find (is_seated identity p text) rs) refl rest)
-    where
-      never : on p ≡ true → find (is_seated identity p text) rs ≡ None → ⊥
-      never is none =
-          let one = each p (contains_first p places) is in
-          let found = find_has (is_seated identity p text) rs one.0 one.1 one.2 in
-          cc (sym none ∙ found.1)
+-- of the replicas at the active places at least as many pass a test as places have one, where each of these does
+passing_least : (rs : List Replica) (identity : Identity) (text : ℕ) (on : Place → Bool) (test : Replica → Bool) (places : List Place) → ((p : Place) → Contains places p → on p ≡ true → Takes rs identity text p)
+    → ((p : Place) (r : Replica) → Contains rs r → on p ≡ true → is_seated identity p text r ≡ true → test r ≡ true) → count_by on places ≤ count_by test (replicas_of (seats_of rs identity text places))
+passing_least rs identity text on test [] each passes = omega arith
+passing_least rs identity text on test (p ∷ places) each passes =
+    let rest = passing_least rs identity text on test places (λ q has. each q (contains_behind p q places has)) passes in
+    subst (λ (n : ℕ). n ≤ count_by test (replicas_of (seats_of rs identity text (p ∷ places)))) (sym (count_cons on p places)) (by (on p) refl (find (is_seated identity p text) rs) refl rest)
+  where
+    never : on p ≡ true → find (is_seated identity p text) rs ≡ None → ⊥
+    never is none =
+        let one = each p (contains_first p places) is in
+        let found = find_has (is_seated identity p text) rs one.0 one.1 one.2 in
+        cc (sym none ∙ found.1)
 
-      by : (b : Bool) → on p ≡ b → (o : Option Replica) → find (is_seated identity p text) rs ≡ o → count_by on places ≤ active_of (seats_of rs identity text places)
-          → cond {A = ℕ} b 1 0 + count_by on places ≤ length (cons_option o (replicas_of (seats_of rs identity text places)))
-      by true is None none rest = absurd (never is none)
-      by true is (Some r) some rest = omega (arith, rest)
-      by false isnt None none rest = omega (arith, rest)
-      by false isnt (Some r) some rest = omega (arith, rest)
+    passed : (r : Replica) → on p ≡ true → find (is_seated identity p text) rs ≡ Some r → test r ≡ true
+    passed r is some = (let one = find_some (is_seated identity p text) rs r some in passes p r one.0 is one.1)
+
+    by : (b : Bool) → on p ≡ b → (o : Option Replica) → find (is_seated identity p text) rs ≡ o → count_by on places ≤ count_by test (replicas_of (seats_of rs identity text places))
+        → cond {A = ℕ} b 1 0 + count_by on places ≤ count_by test (cons_option o (replicas_of (seats_of rs identity text places)))
+    by true is None none rest = absurd (never is none)
+    by true is (Some r) some rest =
+        let more : cond {A = ℕ} (test r) 1 0 ≡ 1 = ap (λ (b : Bool). cond {A = ℕ} b 1 0) (passed r is some) in
+        omega (arith, rest, more, count_cons test r (replicas_of (seats_of rs identity text places)))
+    by false isnt None none rest = omega (arith, rest)
+    by false isnt (Some r) some rest = omega (arith, rest, count_cons test r (replicas_of (seats_of rs identity text places)))
+
+-- so at least as many places are active as have one
+active_least : (rs : List Replica) (identity : Identity) (text : ℕ) (on : Place → Bool) (places : List Place) → ((p : Place) → Contains places p → on p ≡ true → Takes rs identity text p)
+    → count_by on places ≤ active_of (seats_of rs identity text places)
+active_least rs identity text on places each =
+    let all = passing_least rs identity text on (λ (r : Replica). true) places each (λ p r has is seated. refl) in
+    let most = count_length (λ (r : Replica). true) (replicas_of (seats_of rs identity text places)) in
+    omega (arith, all, most)
 
 -- where each that passes the one test passes the other
 pub count_weaker : {X : Type 0} (p q : X → Bool) (xs : List X) → ((x : X) → Contains xs x → p x ≡ true → q x ≡ true) → count_by p xs ≤ count_by q xs
@@ -336,9 +351,6 @@ module _ (g : Geometry) (all : List Database) (key : Key) (up : Drives) (survey 
       its_lists : newest.table.plan.lists ≡ One list
       its_lists = ap (λ (u : Table). u.plan.lists) (sym same_table) ∙ lists version.version (version.is.one_of, all_that (λ x. x.is_written ≡ true → IsBelow version.version.mark x.mark → ⊥) log.family not_older)
 
-      enough_read : MostOn g key answers places
-      enough_read = subst (λ (l : Lists). MostOn g key answers (places_of l)) (sym its_lists) most
-
     short_of : (MostOn g key answers places → ⊥) → IsShortOf g all key up survey
     short_of few = record {
       newest = newest;
@@ -361,10 +373,13 @@ module _ (g : Geometry) (all : List Database) (key : Key) (up : Drives) (survey 
 
   -- nor is it short where more than half of the places answer that each table lists which a boot may find
   module _ (firm : is_firm (log_of all key) ≡ true) (list : List Place) (lists : (x : Version) → MayBeFound (log_of all key).family x → x.table.plan.lists ≡ One list) (most : MostOn g key answers list) where
-    most_read : (newest : Newest) (newest_is : survey.newest ≡ Some newest) (replica : Replica) (the : IsTheOne rs newest replica) → MostOn g key answers (places_of newest.table.plan.lists)
-    most_read newest newest_is replica the =
+    lists_are : (newest : Newest) (newest_is : survey.newest ≡ Some newest) (replica : Replica) (the : IsTheOne rs newest replica) → newest.table.plan.lists ≡ One list
+    lists_are newest newest_is replica the =
         let is_log : log_of all key ≡ (current newest newest_is replica the).database.log = ap log_in (current newest newest_is replica the).current in
-        enough_read newest newest_is replica the (subst (λ (l : Log). is_firm l ≡ true) is_log firm) list (subst (λ (l : Log). (x : Version) → MayBeFound l.family x → x.table.plan.lists ≡ One list) is_log lists) most
+        its_lists newest newest_is replica the (subst (λ (l : Log). is_firm l ≡ true) is_log firm) list (subst (λ (l : Log). (x : Version) → MayBeFound l.family x → x.table.plan.lists ≡ One list) is_log lists) most
+
+    most_read : (newest : Newest) (newest_is : survey.newest ≡ Some newest) (replica : Replica) (the : IsTheOne rs newest replica) → MostOn g key answers (places_of newest.table.plan.lists)
+    most_read newest newest_is replica the = subst (λ (l : Lists). MostOn g key answers (places_of l)) (sym (lists_are newest newest_is replica the)) most
 
     few_never : (o : Option Newest) → survey.newest ≡ o → (readable needed : ℕ) → MatchOption o (chosen.NoQuorum readable needed ≡ chosen.Empty) (λ (n : Newest). IsChoiceAmong rs n (chosen.NoQuorum readable needed)) → ⊥
     few_never None is_newest readable needed never = cc (never)
@@ -374,3 +389,29 @@ module _ (g : Geometry) (all : List Database) (key : Key) (up : Drives) (survey 
     never_short readable needed (inl choice) = few_never survey.newest refl readable needed choice
     never_short readable needed (inr (was, newest, replica, listed_seats, hand, few, readable_is, needed_is)) =
         has_room newest hand.newest_is replica hand.the (most_read newest hand.newest_is replica hand.the) (subst (λ (l : List Seat). 2 * active_of l ≤ length l) hand.seats_are few)
+
+    -- and where more than half of the list lies on drives that pass a test, and each drive of a slice that passes it answers, more than half of what a boot has in hand are replicas on such drives
+    pub most_borne : (calm : ℕ → Bool) → ((line : SliceLine) → Contains site.lines line → calm line.at.drive.0 ≡ true → answers line.at.drive.0 ≡ true) → MostOn g key calm list
+        → (newest : Newest) (newest_is : survey.newest ≡ Some newest) (replica : Replica) (the : IsTheOne rs newest replica)
+        → length (seats newest newest_is replica the) < 2 * count_by (λ (r : Replica). calm r.line.at.drive.0) (replicas_of (seats newest newest_is replica the))
+    most_borne calm answered calm_most newest newest_is replica the =
+        let at = places newest newest_is replica the in
+        let more : MostOn g key calm at = subst (λ (l : Lists). MostOn g key calm (places_of l)) (sym (lists_are newest newest_is replica the)) calm_most in
+        let least = passing_least rs (identity newest newest_is replica the) (text newest newest_is replica the) on_calm (λ (r : Replica). calm r.line.at.drive.0) at takes passes in
+        let count = length-map at (seat_for rs (identity newest newest_is replica the) (text newest newest_is replica the)) in
+        omega (arith, least, count, more)
+      where
+        on_calm : Place → Bool
+        on_calm place = is_on calm (slice_at site.lines place.slice)
+
+        takes : (p : Place) → Contains (places newest newest_is replica the) p → on_calm p ≡ true → Takes rs (identity newest newest_is replica the) (text newest newest_is replica the) p
+        takes p has calm_there =
+            let h = its_place newest newest_is replica the p has in
+            let found = line_found g sound key h.line h.own.found.one_of in
+            let is_calm : calm h.line.at.drive.0 ≡ true = sym (ap (λ (q : Place). on_calm q) h.is ∙ ap (is_on calm) found) ∙ calm_there in
+            seated newest newest_is replica the p has (drive_of newest newest_is replica the p h ∙ answered h.line h.own.found.one_of is_calm)
+
+        passes : (p : Place) (r : Replica) → Contains rs r → on_calm p ≡ true → is_seated (identity newest newest_is replica the) p (text newest newest_is replica the) r ≡ true → calm r.line.at.drive.0 ≡ true
+        passes p r has calm_there seated_there =
+            let same = sym (seated_place site (identity newest newest_is replica the) p (text newest newest_is replica the) r (is.each r has).seated seated_there) in
+            sym (ap (λ (q : Place). on_calm q) same ∙ ap (is_on calm) (line_found g sound key r.line (of.each r has).one_of)) ∙ calm_there

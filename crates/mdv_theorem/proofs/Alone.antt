@@ -1,7 +1,6 @@
 -- No boot of a run of a life finds two databases, and none is short of places where enough drives answer.
-use Rattle.std.proofs.Common.{◌≡◌, ◌⊎◌, inl, inr, ℕ, ◌&&◌, Bool, true, false, not, ◌*◌, ◌<◌, List, [], ◌∷◌, ◌++◌, Some, if◌then◌else◌, length, Contains, refl, sym, ◌∙◌, ap, subst}
+use Rattle.std.proofs.Common.{◌≡◌, ◌⊎◌, inl, inr, ℕ, ◌&&◌, Bool, true, false, not, ◌*◌, ◌<◌, List, ◌++◌, Some, length, Contains, refl, sym, ◌∙◌, ap, subst}
 use Rattle.std.proofs.lemmas.List.{append_cancel_left}
-use Rattle.std.proofs.lemmas.Slice.Eq.{bytes_eq-Decides}
 use Rattle.std.specs.Prelude.{count_by}
 use Rattle.mdv_base.proofs.Causes.{rose_of_once, rose_within}
 use Rattle.mdv_base.specs.Causes.{Rose}
@@ -24,16 +23,14 @@ use Rattle.mdv_name.specs.declared.geometry.Geometry.{Geometry}
 use Rattle.mdv_name.specs.declared.slice_lines.SliceAt.{SliceAt}
 use Rattle.mdv_name.specs.declared.slice_lines.SliceLine.{SliceLine}
 use Rattle.mdv_run_law.proofs.Looked.{finds_one}
-use Rattle.mdv_run_law.proofs.Owning.{IsOfRuns}
-use Rattle.mdv_run_law.specs.Lives.{Ran, as_it_was, host_of}
+use Rattle.mdv_run_law.specs.Lives.{Ran, host_of}
 use Rattle.mdv_run_law.specs.Run.{Counts, Stretch, drive_failures, site_failed, status_at}
 use Rattle.mdv_run_law.specs.Standing.{RunMoment}
 use Rattle.mdv_run_law.specs.declared.status.RunStatus.{RunStatus}
 use Rattle.mdv_run_law.specs.declared.status.RunStatus.TheVariants as status
 use Rattle.mdv_shelf.specs.Everywhere.{Image}
 use Rattle.mdv_shelf.specs.Failing.{Outcomes}
-use Rattle.mdv_shelf.proofs.Stories.{marked_more, same_marks}
-use Rattle.mdv_shelf.specs.Story.{AtEach, AtMarks, Mark, Moment, Story, Tally, marked, moment_at, tale_of}
+use Rattle.mdv_shelf.specs.Story.{AtEach, AtMarks, Mark, Moment, Story, marked, tale_of}
 use Rattle.mdv_shelf.specs.Tale.{Tale, last, told}
 use Rattle.mdv_shown.proofs.Sites.{law_sites}
 use Rattle.mdv_shown.specs.Sites.{is_line_of, site_of}
@@ -45,25 +42,24 @@ use Rattle.mdv_survey.specs.Survey.{IsSurvey, IsSurveyOf}
 use Rattle.mdv_survey.specs.declared.replica.Survey.{Survey}
 use Rattle.mdv_table.specs.Slices.{IsSound}
 use Rattle.mdv_volumes.proofs.Found.{AreLasting}
-use Rattle.mdv_volumes.proofs.Owners.{AreEach}
 use Rattle.mdv_volumes.proofs.Lists.{in_filter}
 use Rattle.mdv_volumes.specs.Databases.{log_of}
 use Rattle.mdv_volumes.specs.History.{History, history_after_all}
 use Rattle.mdv_base.specs.declared.place.Place.{Place}
 use Rattle.mdv_theorem.specs.Exchanges.{Exchange, exchanges_by, exchanges_of}
 use Rattle.mdv_theorem.specs.Observed.{IsCalmOn, MostLieOn, RunsFindEnough, RunsFindOne}
-use Rattle.mdv_theorem.specs.Running.{Lived, LivesOn, ran_now}
+use Rattle.mdv_theorem.specs.Running.{LivesOn}
 use Rattle.mdv_theorem.specs.Words.{IsMadeOn}
 use Rattle.mdv_theorem.proofs.Adopted.{HasFallen, all_up}
 use Rattle.mdv_theorem.proofs.Agreeing.{own_sound}
 use Rattle.mdv_theorem.proofs.Booted.{IsLastBoot, IsOfBootStatus, at_prefix, run_boots}
 use Rattle.mdv_theorem.proofs.Counting.{AreMadeOn, most_up}
-use Rattle.mdv_theorem.proofs.Founded.{WasMade, made_before}
-use Rattle.mdv_theorem.proofs.Given.{given}
+use Rattle.mdv_theorem.proofs.Founded.{WasMade}
 use Rattle.mdv_theorem.proofs.Living.{lived_life}
 use Rattle.mdv_theorem.proofs.Owned.{life_start, own_new}
 use Rattle.mdv_theorem.proofs.Parting.{cut_has}
 use Rattle.mdv_theorem.proofs.Seeing.{ListsThese}
+use Rattle.mdv_theorem.proofs.Stopped.{IsStopped, made_there, same_front, stopped}
 
 answering : (a b : Bool) → a ≡ true → b ≡ false → (a && not b) ≡ true
 answering a b one two = λ i. one i && not (two i)
@@ -180,13 +176,6 @@ module _ (host : Host) (sound : IsSound host.drives) (site : host.site ≡ site_
       let one = short_fallen l.boots.up w.survey w.read w.readable w.needed w.short in
       (one.0, one.1, rose one.0.at.drive.0 one.2)
 
--- The calls up to the boot are the first ones of the run.
-same_front : (stretch : Stretch) (s u : Story) (marks back front : List Mark) → stretch.new ≡ Some u → u ≡ marked s marks → stretch.new ≡ Some (marked (marked s front) back) → marks ≡ back ++ front
-same_front stretch s u marks back front new led goes_on =
-    let both : Some u ≡ Some (marked (marked s front) back) = sym new ∙ goes_on in
-    let same : u ≡ marked (marked s front) back = cc (both) in
-    same_marks s marks (back ++ front) (sym led ∙ same ∙ marked_more s front back)
-
 pub runs_find_one : RunsFindOne
 runs_find_one drives name made before fresh script stretch start close s of_table new_word old lived each tale end_status whole a b is =
     let host = host_of drives name fresh in
@@ -204,58 +193,32 @@ module _ (drives : Geometry) (name : List ℕ) (made : Image) (before : List Ran
   abbrev host : Host
   host = host_of drives name fresh
 
+  -- the run as it is stopped where the boot began, by which it had told all that it told
   abbrev front : Tale
   front = tale_of (marked s l.marks)
 
-  abbrev Says : Moment → Type 0
-  Says m = LivesOn drives name made before fresh script stretch start (moment_at (tale_of s) stretch.before) m
+  there : IsStopped drives name made before fresh script (tale_of s) front
+  there = stopped drives name made before fresh script of_table stretch start s old each l.marks l.back l.goes_on
 
-  -- the run as it is stopped where the boot began
-  lives : (tally : Tally) × Says (moment_at front tally)
-  lives =
-      let all = each s old in
-      let marks = same_front stretch s all.0 all.2.marks l.back l.marks all.1 all.2.led l.goes_on in
-      at_prefix Says s stretch.before l.back l.marks all.2.first (subst (λ (ms : List Mark). AtMarks Says s ms) marks all.2.each)
-
-  abbrev ran : List Ran
-  ran = ran_now lives.1.run ∷ before
-
-  lived : Lived drives made ran front
-  lived = lives.1.lived front as_it_was
-
-  own : IsSound host.drives
-  own = own_sound drives name fresh lived.fair
-
-  begun : (h : History) × StandsAt (host_of drives name 0) h front × AreEach (IsOfRuns name ran) h.databases
-  begun = life_start drives name made ran front of_table (lived_life drives made ran front lived)
-
-  -- it had told all that the run told
-  bytes : lives.1.run.tells.bytes ≡ more
-  bytes =
-      let here = sym (ap (λ (m : Moment). told m.tale) lives.1.now) ∙ lives.1.run.tells.is_told ∙ ap (λ (m : Moment). told m.tale ++ lives.1.run.tells.bytes) lives.1.started in
-      append_cancel_left (told (tale_of s)) lives.1.run.tells.bytes more (sym here ∙ l.is_told)
-
-  its_lines : exchanges_by name ran ≡ exchanges_by name before ++ exchanges_of script more
-  its_lines =
-      ap (λ (b : Bool). exchanges_by name before ++ (if b then exchanges_of script lives.1.run.tells.bytes else [])) ((bytes_eq-Decides name name).1 refl)
-      ∙ ap (λ (x : List ℕ). exchanges_by name before ++ exchanges_of script x) bytes
+  its_lines : exchanges_by name there.ran ≡ exchanges_by name before ++ exchanges_of script more
+  its_lines = there.lines ∙ ap (λ (x : List ℕ). exchanges_by name before ++ exchanges_of script x) (append_cancel_left (told (tale_of s)) there.bytes more (sym there.is_told ∙ l.is_told))
 
   pub few_fallen : (readable needed : ℕ) → end_status ≡ status.NoQuorum readable needed → site_failed host start close
-  few_fallen readable needed is = status_few host own refl stretch s more start close end_status l begun.0 begun.1 readable needed is
+  few_fallen readable needed is = status_few host there.sound refl stretch s more start close end_status l there.begun.0 there.begun.1 readable needed is
 
   -- where a line made the database on these slices
   module _ (slices : List SliceName) (is_made : IsMadeOn slices (exchanges_by name before ++ exchanges_of script more)) where
-    was : WasMade drives name ran slices front
-    was = made_before given drives name lived.fair of_table made is_made.made slices is_made.force is_made.count is_made.blocks is_made.asks is_made.told ran front lived
+    was : WasMade drives name there.ran slices front
+    was = made_there drives name made before fresh script of_table (tale_of s) front there slices (exchanges_by name before ++ exchanges_of script more) is_made
         (subst (λ (x : List Exchange). Contains x is_made.made) (sym (its_lines ∙ is_made.parts)) (cut_has is_made.before is_made.behind is_made.made))
 
     pub most_never : MostLieOn drives name (IsCalmOn start close) slices → (readable needed : ℕ) → end_status ≡ status.NoQuorum readable needed → ⊥
     most_never most readable needed is =
-        let w = was_short host own refl stretch s more start close end_status l was.history was.stands readable needed is in
-        never_few host own refl stretch s more start close end_status l was.history was.stands l.boots.up w.survey w.read slices was.places was.made was.lasting most.chosen
+        let w = was_short host there.sound refl stretch s more start close end_status l was.history was.stands readable needed is in
+        never_few host there.sound refl stretch s more start close end_status l was.history was.stands l.boots.up w.survey w.read slices was.places was.made was.lasting most.chosen
         (λ slice place is_chosen has failed.
         most.each slice place is_chosen (in_filter (is_line_of host.drives (key_of host)) host.drives.slices (record { name = slice; at = place }) has).0
-        (rose host own refl stretch s more start close end_status l was.history was.stands place.drive.0 failed)) most.most w.readable w.needed w.short
+        (rose host there.sound refl stretch s more start close end_status l was.history was.stands place.drive.0 failed)) most.most w.readable w.needed w.short
 
 pub runs_find_enough : RunsFindEnough
 runs_find_enough drives name made before fresh script stretch start close s of_table old each tale end_status whole readable needed is =

@@ -40,7 +40,10 @@ mod Losing
 mod Rising
 mod Ending
 mod Booted
+mod Stopped
 mod Alone
+mod Borne
+mod Bearing
 mod Answered
 mod Lasting
 mod Moments

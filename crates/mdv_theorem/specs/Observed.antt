@@ -78,6 +78,14 @@ RunsFindEnough =
     → site_failed (host_of drives name fresh) start end
     × ((slices : List SliceName) → IsMadeOn slices (exchanges_by name before ++ exchanges_of script whole.more) → MostLieOn drives name (IsCalmOn start end) slices → ⊥)
 
+-- Nor does it end because fewer than half of the places are active, where lines of it, or of earlier runs, made the database on some slices, and no call failed on the drives of more than half of these.
+abbrev pub RunsKeepEnough : Type 0
+RunsKeepEnough =
+    (drives : Geometry) (name : List ℕ) (made : Image) (before : List Ran) (fresh : ℕ) (script : Script) (stretch : Stretch) (start end : Counts) (s : Story) → Contains drives.hosts name → stretch.old ≡ Some s
+    → AtEach (LivesOn drives name made before fresh script stretch start) stretch.old stretch.before stretch.new stretch.after
+    → (tale : Option Tale) (status : RunStatus) (whole : IsWholeRun (host_of drives name fresh) stretch start end (tale_of s) script tale status)
+    → (slices : List SliceName) → IsMadeOn slices (exchanges_by name before ++ exchanges_of script whole.more) → MostLieOn drives name (IsCalmOn start end) slices → (active listed : ℕ) → status ≡ Panic active listed → ⊥
+
 -- A line of a run under way that was answered, behind other lines of it and those of earlier runs.
 pub record Answered {drives : Geometry} {name : List ℕ} {before : List Ran} {script : Script} (run : Running drives name before script) (one : Exchange) (earlier : List Exchange) : Type 0 where
   pub here : List Exchange

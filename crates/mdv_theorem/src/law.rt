@@ -1,4 +1,4 @@
-ghost use Rattle.mdv_theorem.specs.Observed.{BlocksBegin, DatabasesStay, PrintsOfAll, PrintsOfNames, ReadsAgree, ReadsAreTold, RunsAgree, RunsAnswer, RunsEnd, RunsFindEnough, RunsFindOne, VolumesStay, WritesLast};
+ghost use Rattle.mdv_theorem.specs.Observed.{BlocksBegin, DatabasesStay, PrintsOfAll, PrintsOfNames, ReadsAgree, ReadsAreTold, RunsAgree, RunsAnswer, RunsEnd, RunsFindEnough, RunsFindOne, RunsKeepEnough, VolumesStay, WritesLast};
 ghost use Rattle.mdv_theorem.specs.Running.{LivesBegin, RunsGoOn, RunsLiveOn};
 
 /// Whatever ran on the drives before, whatever failed and crashed then: a run whose script can be read and whose replies can be told ends with Panic only where a call failed on a
@@ -22,11 +22,13 @@ pub fn blocks_keep_their_values()
 
 /// A database that a line was told to have made, or to have been done with, in this run or an earlier one, stays: no line is told that there is none, nor a creation that one was
 /// made, as long as enough drives answer for it. And no run that begins on what earlier ones led to ends because two databases are there; nor because too few places are readable, unless a
-/// call failed on a drive on which replicas may lie, and not even then where none did on the drives of more than half of the slices that a creation named which was told `ok`.
+/// call failed on a drive on which replicas may lie, and not even then where none did on the drives of more than half of the slices that a creation named which was told `ok`; nor then
+/// because fewer than half of the places are active.
 pub fn databases_stay()
     ensures stay { DatabasesStay }
     ensures one { RunsFindOne }
     ensures enough { RunsFindEnough }
+    ensures keep { RunsKeepEnough }
 {}
 
 /// A print of volumes that lines showed to be there, or of all of a database that they showed, is told, or refused for want of memory, as long as enough drives answer for the

@@ -1,4 +1,5 @@
 use Rattle.mdv_theorem.proofs.Alone.{runs_find_enough, runs_find_one}
+use Rattle.mdv_theorem.proofs.Bearing.{runs_keep_enough}
 use Rattle.mdv_theorem.proofs.Databases.{databases_stay}
 use Rattle.mdv_theorem.proofs.law.databases_stay.Goals as goal
 
@@ -10,3 +11,6 @@ returns-clause-one c = runs_find_one
 
 pub returns-clause-enough : goal.returns-clause-enough
 returns-clause-enough c = runs_find_enough
+
+pub returns-clause-keep : goal.returns-clause-keep
+returns-clause-keep c = runs_keep_enough

@@ -1,0 +1,330 @@
+-- Where more than half of the slices on which a database was made are on drives on which no call fails: a boot finds a place at each of these, a creation makes it, and it stays active. So no boot and no line tells that
+-- places were lost.
+use Rattle.std.proofs.Common.{◌≡◌, ◌⊎◌, inl, inr, ℕ, ◌*◌, ◌≤◌, ◌<◌, Bool, true, false, cond, List, [], ◌∷◌, Option, None, Some, MatchOption, Contains, length, refl, sym, ◌∙◌, ap, subst, arith, ◌+◌}
+use Rattle.std.proofs.lemmas.Bool.{false≢true, leb-false}
+use Rattle.std.proofs.lemmas.List.{length-map}
+use Rattle.std.specs.List.{cons_option}
+use Rattle.std.specs.Prelude.{count_by, not, ◌&&◌}
+use Rattle.mdv_base.specs.DriveSet.{Drives, has_drive}
+use Rattle.mdv_base.specs.declared.drive.DriveNo.{DriveNo}
+use Rattle.mdv_base.specs.declared.drive.SliceName.{SliceName}
+use Rattle.mdv_base.specs.declared.place.Place.{Place}
+use Rattle.mdv_databases.proofs.Finding.{most_borne}
+use Rattle.mdv_databases.proofs.Meeting.{databases_meet}
+use Rattle.mdv_databases.specs.Meeting.{MostOn, answers_on, is_on}
+use Rattle.mdv_engine_law.proofs.Allowed.{allowed_none}
+use Rattle.mdv_engine_law.specs.Answers.{accepted, refusing}
+use Rattle.mdv_engine_law.specs.Commands as came
+use Rattle.mdv_engine_law.specs.Commands.{CameTo, ComesTo, Effect, Fault, GivesUp, IsAllowed, KeepsTab, Wanting, case_of}
+use Rattle.mdv_engine_law.specs.Hosts.{identity_of, key_of, lines_asked}
+use Rattle.mdv_engine_law.specs.Line.{IsReadOf, IsRebooted, IsSame, Kept, Memory, WritesTo, answered_by, booted_with, contents, opened_by}
+use Rattle.mdv_engine_law.specs.Replies.{ok_line, text_of}
+use Rattle.mdv_engine_law.specs.declared.answer.Answer.{Answer}
+use Rattle.mdv_engine_law.specs.declared.answer.Answer.TheVariants.{Said, Over as Ends}
+use Rattle.mdv_engine_law.specs.declared.answer.Ended.{Ended}
+use Rattle.mdv_engine_law.specs.declared.answer.Ended.TheVariants as stop
+use Rattle.mdv_engine_law.specs.declared.host.Host.{Host}
+use Rattle.mdv_look.proofs.Bringing.{count_cons}
+use Rattle.mdv_look.proofs.Looks.{count_length}
+use Rattle.mdv_name.specs.SliceIndex.{HasSlice, slice_at}
+use Rattle.mdv_name.specs.declared.geometry.Geometry.{Geometry}
+use Rattle.mdv_name.specs.declared.slice_lines.SliceAt.{SliceAt}
+use Rattle.mdv_name.specs.declared.slice_lines.SliceLine.{SliceLine}
+use Rattle.mdv_record.specs.Text.{record_text}
+use Rattle.mdv_replica.specs.Form.{shows}
+use Rattle.mdv_run_law.proofs.Placing.{never_shut, opened_twice}
+use Rattle.mdv_run_law.specs.Lives.{Ran, host_of}
+use Rattle.mdv_run_law.specs.Run.{IsAnswered, IsSaid, status_at}
+use Rattle.mdv_run_law.specs.declared.status.RunStatus.TheVariants as status
+use Rattle.mdv_shelf.specs.Everywhere.{Image}
+use Rattle.mdv_shelf.specs.Failing.{Outcomes}
+use Rattle.mdv_shelf.specs.Tale.{Tale, last}
+use Rattle.mdv_shown.proofs.Sites.{law_sites}
+use Rattle.mdv_shown.specs.Sites.{is_line_of, site_of}
+use Rattle.mdv_store.proofs.Seated.{seat_is}
+use Rattle.mdv_store.proofs.Sitting.{contains_behind, contains_first, left_count, replica_of}
+use Rattle.mdv_store.proofs.Spotting.{line_found}
+use Rattle.mdv_store.specs.Boot.{IsEndBy, IsInHand, TakesBoth, TakesClaimOrBoth, is_memory}
+use Rattle.mdv_store.specs.Create.{replica_on, seats_asked}
+use Rattle.mdv_store.specs.Opened.{Opened}
+use Rattle.mdv_store.specs.Seats.{AreLeft, TakesSlot, active_of, drive_of, is_half_active, replicas_of}
+use Rattle.mdv_store.specs.declared.booting.BootEnd.{BootEnd}
+use Rattle.mdv_store.specs.declared.booting.BootEnd.TheVariants as end
+use Rattle.mdv_store.specs.declared.seats.Seat.{Seat}
+use Rattle.mdv_survey.specs.Choice.{IsChoice}
+use Rattle.mdv_survey.specs.Replica.{IsFoundIn}
+use Rattle.mdv_survey.specs.Survey.{IsSurveyOf}
+use Rattle.mdv_survey.specs.declared.choosing.Choice.TheVariants as chosen
+use Rattle.mdv_survey.specs.declared.replica.Newest.{Newest}
+use Rattle.mdv_survey.specs.declared.replica.Replica.{Replica}
+use Rattle.mdv_survey.specs.declared.replica.Survey.{Survey}
+use Rattle.mdv_table.specs.Slices.{IsSound}
+use Rattle.mdv_volumes.proofs.Lists.{in_filter}
+use Rattle.mdv_words.proofs.Form.{commands_are_in_form}
+use Rattle.mdv_words.specs.Line as words
+use Rattle.mdv_words.specs.Line.{Line}
+use Rattle.mdv_words.specs.declared.command.Command.{Command}
+use Rattle.mdv_words.specs.declared.command.Command.TheVariants as command
+use Rattle.mdv_words.specs.declared.command.Command.TheVariants.{Create, Print, Read, Write}
+use Rattle.mdv_theorem.specs.Exchanges.{Asks, Exchange, IsTold}
+use Rattle.mdv_theorem.specs.Observed.{MostLieOn}
+use Rattle.mdv_theorem.proofs.Adopted.{IsBlind, blind_boot}
+use Rattle.mdv_theorem.proofs.Counting.{made_on, most_up, places_in}
+use Rattle.mdv_theorem.proofs.Founded.{WasMade}
+use Rattle.mdv_theorem.proofs.Tables.{granted_done}
+
+-- Of drives that pass a test.
+module _ (calm : ℕ → Bool) where
+  abbrev pub is_borne : Replica → Bool
+  is_borne r = calm (drive_of r)
+
+  -- more than half of the places have replicas on such drives
+  abbrev pub AreBorne : List Seat → Type 0
+  AreBorne seats = length seats < 2 * count_by is_borne (replicas_of seats)
+
+  borne_half : (seats : List Seat) → AreBorne seats → is_half_active seats ≡ false → ⊥
+  borne_half seats borne few =
+      let less = leb-false (length seats) (2 * active_of seats) few in
+      let some = count_length is_borne (replicas_of seats) in
+      omega (arith, borne, less, some)
+
+  -- as many have, at least, as places pass another test, where the seat of each of these has one there
+  seats_least : (on : Place → Bool) (seats : List Seat) → ((s : Seat) → Contains seats s → on s.place ≡ true → (r : Replica) × (s.replica ≡ Some r) × (is_borne r ≡ true)) → count_by on (places_in seats) ≤ count_by is_borne (replicas_of seats)
+  seats_least on [] each = omega arith
+  seats_least on (s ∷ seats) each =
+      let rest = seats_least on seats (λ x has. each x (contains_behind s x seats has)) in
+      subst (λ (n : ℕ). n ≤ count_by is_borne (replicas_of (s ∷ seats))) (sym (count_cons on s.place (places_in seats))) (by (on s.place) refl s.replica refl rest)
+    where
+      by : (b : Bool) → on s.place ≡ b → (o : Option Replica) → s.replica ≡ o → count_by on (places_in seats) ≤ count_by is_borne (replicas_of seats) → cond {A = ℕ} b 1 0 + count_by on (places_in seats) ≤ count_by is_borne (cons_option o (replicas_of seats))
+      by true is None none rest = absurd (let one = each s (contains_first s seats) is in let both : None ≡ Some one.0 = sym none ∙ one.1 in cc (both))
+      by true is (Some r) some rest =
+          let one = each s (contains_first s seats) is in
+          let both : Some one.0 ≡ Some r = sym one.1 ∙ some in
+          let same : one.0 ≡ r = cc (both) in
+          let more : cond {A = ℕ} (is_borne r) 1 0 ≡ 1 = ap (λ (b : Bool). cond {A = ℕ} b 1 0) (ap (λ (x : Replica). is_borne x) (sym same) ∙ one.2) in
+          omega (arith, rest, more, count_cons is_borne r (replicas_of seats))
+      by false isnt None none rest = omega (arith, rest)
+      by false isnt (Some r) some rest = omega (arith, rest, count_cons is_borne r (replicas_of seats))
+
+  -- what is open, of which that is so
+  pub record Bears (kept : Kept) : Type 0 where
+    pub o : Opened
+    pub opened : kept.memory.opened ≡ Some o
+    pub borne : AreBorne o.seats
+
+  -- it isn't the end of a run whose places were lost
+  abbrev pub IsNoLoss : Ended → Type 0
+  IsNoLoss (stop.Lost active listed) = ⊥
+  IsNoLoss other = Unit {0}
+
+  -- that is so behind an answer with which the run goes on, and no other one tells that places were lost
+  abbrev pub IsBorneBy : Answer → Kept → Type 0
+  IsBorneBy (Said this) next = Bears next
+  IsBorneBy (Ends over) next = IsNoLoss over
+
+  pub said_bears : (answer : Answer) (next : Kept) → IsSaid answer → IsBorneBy answer next → Bears next
+  said_bears (Said this) next said bears = bears
+  said_bears (Ends over) next said bears = absurd said
+
+  pub lost_never : (over : Ended) (active listed : ℕ) → status_at over ≡ status.Panic active listed → IsNoLoss over → ⊥
+  lost_never (stop.Lost some all) active listed is never = never
+  lost_never (stop.NoQuorum readable needed) active listed is fine = cc (is)
+  lost_never (stop.TwoDatabases a b) active listed is fine = cc (is)
+  lost_never stop.Spent active listed is fine = cc (is)
+  lost_never stop.Memory active listed is fine = cc (is)
+
+  -- Calls of which none failed on such a drive.
+  module _ (calls : Outcomes) (unfailed : (drive : ℕ) → calm drive ≡ true → (calls drive).some → ⊥) where
+    -- each such place stays behind a pass
+    module _ (Took : Replica → Replica → Type 0) (stays : (r n : Replica) → Took r n → n.line ≡ r.line) where
+      left_least : (old new : List Seat) → AreLeft calls Took old new → count_by is_borne (replicas_of old) ≤ count_by is_borne (replicas_of new)
+      left_least [] [] are = omega arith
+      left_least [] (n ∷ new) are = absurd are
+      left_least (s ∷ old) [] are = absurd are
+      left_least (s ∷ old) (n ∷ new) are = by s.replica n.replica are.0.1 (left_least old new are.1) where
+        fallen : (r : Replica) (b : Bool) → is_borne r ≡ b → (calls (drive_of r)).some → cond {A = ℕ} b 1 0 ≡ 0
+        fallen r true is gone = absurd (unfailed (drive_of r) is gone)
+        fallen r false is gone = refl
+
+        by : (o m : Option Replica) → MatchOption o (m ≡ None) (λ (r : Replica). MatchOption m (calls (drive_of r)).some (λ (x : Replica). (calls (drive_of r)).none × Took r x)) → count_by is_borne (replicas_of old) ≤ count_by is_borne (replicas_of new)
+            → count_by is_borne (cons_option o (replicas_of old)) ≤ count_by is_borne (cons_option m (replicas_of new))
+        by None None is rest = rest
+        by None (Some x) is rest = absurd (cc (is))
+        by (Some r) None gone rest = omega (arith, rest, count_cons is_borne r (replicas_of old), fallen r (is_borne r) refl gone)
+        by (Some r) (Some x) took rest =
+            let same : cond {A = ℕ} (is_borne x) 1 0 ≡ cond {A = ℕ} (is_borne r) 1 0 = ap (λ (l : SliceLine). cond {A = ℕ} (calm l.at.drive.0) 1 0) (stays r x took.1) in
+            omega (arith, rest, count_cons is_borne r (replicas_of old), count_cons is_borne x (replicas_of new), same)
+
+      left_borne : (old new : List Seat) → AreLeft calls Took old new → AreBorne old → AreBorne new
+      left_borne old new left borne = (let least = left_least old new left in let same = left_count calls Took old new left in omega (arith, borne, least, same))
+
+    -- What a line comes to where that is so.
+    module _ (host : Host) (kept next : Kept) (answer : Answer) where
+      opened_bears : Bears kept → next.memory.opened ≡ kept.memory.opened → Bears next
+      opened_bears b same = record { o = b.o; opened = same ∙ b.opened; borne = b.borne }
+
+      pub memory_bears : Bears kept → next.memory ≡ kept.memory → Bears next
+      memory_bears b same = opened_bears b (ap (λ (m : Memory). m.opened) same)
+
+      pub told_bears : (r : _) → answer ≡ refusing r → Bears next → IsBorneBy answer next
+      told_bears r is b = subst (λ (a : Answer). IsBorneBy a next) (sym is) b
+
+      effect_borne : (cmd : Command) → IsAllowed (case_of host kept) cmd → Bears kept → Effect calls host kept cmd answer next → IsBorneBy answer next
+      effect_borne (Create slices force count blocks) free b is = absurd (never_shut kept.memory.opened b.o (allowed_none (case_of host kept) slices force count blocks free) b.opened)
+      effect_borne (command.MakeStripe volume slice) free b is =
+          let its = subst (λ (o : Opened). AreBorne o.seats) (opened_twice kept.memory.opened is.1 b.o is.2 b.opened) b.borne in
+          subst (λ (a : Answer). IsBorneBy a next) (sym is.0) (record {
+            o = is.3.opened;
+            opened = ap (λ (m : Memory). m.opened) is.3.memory;
+            borne = left_borne (TakesSlot _ _) (λ r n took. ap (λ (x : Replica). x.line) took.2) is.1.seats is.3.opened.seats is.3.committed.tried.left its;
+          })
+      effect_borne (Read volume at count) free b is = subst (λ (a : Answer). IsBorneBy a next) (sym is.3) (memory_bears b is.4.memory)
+      effect_borne (Write volume at block) free b is = subst (λ (a : Answer). IsBorneBy a next) (sym is.3) (memory_bears b is.4)
+      effect_borne (Print names) free b is = subst (λ (a : Answer). IsBorneBy a next) (sym is.3) (memory_bears b is.4.memory)
+
+      gives_borne : (cmd : Command) (over : Ended) → IsAllowed (case_of host kept) cmd → Bears kept → GivesUp calls host kept cmd over next → IsNoLoss over
+      gives_borne (Create slices force count blocks) (stop.Lost active listed) free b gives = never_shut kept.memory.opened b.o (allowed_none (case_of host kept) slices force count blocks free) b.opened
+      gives_borne (command.MakeStripe volume slice) (stop.Lost active listed) free b gives =
+          let its = subst (λ (o : Opened). AreBorne o.seats) (opened_twice kept.memory.opened gives.0 b.o gives.1 b.opened) b.borne in
+          borne_half gives.2.lost.new.seats (left_borne (TakesSlot _ _) (λ r n took. ap (λ (x : Replica). x.line) took.2) gives.0.seats gives.2.lost.new.seats gives.2.lost.lost.tried.left its) gives.2.lost.lost.few
+      gives_borne (Read volume at count) (stop.Lost active listed) free b gives = gives
+      gives_borne (Write volume at block) (stop.Lost active listed) free b gives = gives
+      gives_borne (Print names) (stop.Lost active listed) free b gives = gives
+      gives_borne cmd (stop.NoQuorum readable needed) free b gives = tt
+      gives_borne cmd (stop.TwoDatabases one other) free b gives = tt
+      gives_borne cmd stop.Spent free b gives = tt
+      gives_borne cmd stop.Memory free b gives = tt
+
+      wanting_bears : (cmd : Command) → Bears kept → Wanting host kept cmd next → Bears next
+      wanting_bears (Create slices force count blocks) b left = opened_bears b (ap (λ (m : Memory). m.opened) left.1.memory)
+      wanting_bears (command.MakeStripe volume slice) b left = memory_bears b left.1.memory
+      wanting_bears (Read volume at count) b left = memory_bears b left.1.memory
+      wanting_bears (Write volume at block) b left = absurd left
+      wanting_bears (Print names) b left = memory_bears b left.1.memory
+
+      fault_bears : (cmd : Command) → Bears kept → Fault calls host kept cmd next → Bears next
+      fault_bears (Create slices force count blocks) b is = opened_bears b (ap (λ (m : Memory). m.opened) is.memory)
+      fault_bears (command.MakeStripe volume slice) b is = absurd is
+      fault_bears (Read volume at count) b is = memory_bears b is.3.memory
+      fault_bears (Write volume at block) b is = memory_bears b is.3
+      fault_bears (Print names) b is = absurd is
+
+      came_borne : (cmd : Command) → Bears kept → CameTo calls host kept cmd answer next → IsBorneBy answer next
+      came_borne cmd b (came.refused quiet r is left) = told_bears r left.0 (memory_bears b left.1.memory)
+      came_borne cmd b (came.wanting quiet is left) = told_bears _ is (wanting_bears cmd b left)
+      came_borne cmd b (came.done free effect) = effect_borne cmd free b effect
+      came_borne cmd b (came.faulted free is fault) = told_bears _ is (fault_bears cmd b fault)
+      came_borne cmd b (came.over over free is gives) = subst (λ (a : Answer). IsBorneBy a next) (sym is) (gives_borne cmd over free b gives)
+
+      tab_borne : (lines : List ℕ) → Bears kept → KeepsTab calls kept lines answer next → IsBorneBy answer next
+      tab_borne lines b (came.entered quiet entries tab is memory same) = subst (λ (a : Answer). IsBorneBy a next) (sym is) (opened_bears b (ap (λ (m : Memory). m.opened) memory))
+      tab_borne lines b (came.unfit quiet r why left) = told_bears r left.0 (memory_bears b left.1.memory)
+      tab_borne lines b (came.unread quiet is left) = told_bears _ is (memory_bears b left.memory)
+
+      module _ (boots : IsRebooted calls host kept answer next → IsBorneBy answer next) where
+        line_borne : (spelled : Line) → Bears kept → ComesTo calls host kept spelled answer next → IsBorneBy answer next
+        line_borne words.Boot b is = boots is
+        line_borne (words.Tab lines) b is = tab_borne lines b is
+        line_borne (words.Exec cmd) b is = came_borne cmd b is
+
+        pub answered_borne : (text : List ℕ) → Bears kept → IsAnswered calls host kept text answer next → IsBorneBy answer next
+        answered_borne text b (inl (none, quiet, refused)) = told_bears _ refused.0 (memory_bears b refused.1.memory)
+        answered_borne text b (inr (inl (spelled, is, comes))) = line_borne spelled b comes
+        answered_borne text b (inr (inr (quiet, refused))) = told_bears _ refused.0 (memory_bears b refused.1.memory)
+
+    -- Where more than half of these slices are on such drives.
+    module _ (drives : Geometry) (name : List ℕ) (fresh : ℕ) (sound : IsSound (host_of drives name fresh).drives) (slices : List SliceName) (most : MostLieOn drives name (λ (drive : DriveNo). calm drive.0 ≡ true) slices) where
+      abbrev host : Host
+      host = host_of drives name fresh
+
+      lies_calm : (slice : SliceName) (at : SliceAt) → most.chosen slice ≡ true → HasSlice host.site.lines slice at → calm at.drive.0 ≡ true
+      lies_calm slice at is has = most.each slice at is (in_filter (is_line_of host.drives (key_of host)) host.drives.slices (record { name = slice; at = at }) has).0
+
+      -- a creation on them that was told `ok`
+      pub made_bears : (kept next : Kept) (one : Exchange) (answer : Answer) → IsAnswered calls host kept one.text answer next → IsSaid answer → IsTold one (text_of answer)
+          → (force : Bool) (count blocks : ℕ) → Asks one (Create slices force count blocks) → IsTold one ok_line → Bears next
+      made_bears kept next one answer comes said told_it force count blocks asks told =
+          let done = granted_done host calls kept next one answer comes said told_it (Create slices force count blocks) asks told in
+          let is = done.1.1 in
+          let form = commands_are_in_form one.text (Create slices force count blocks) asks.1 in
+          let identity = identity_of host kept.memory.begun in
+          let seats = seats_asked (key_of host) identity (lines_asked host slices) count blocks in
+          let own : (r : Replica) → Contains (replicas_of seats) r → Contains host.site.lines r.line = λ r has. (is.formed r has).1.found.one_of in
+          let made = made_on host sound refl (key_of host) identity kept.memory slices force count blocks form.1.0 done.0 own in
+          let up = most_up host sound refl slices (places_in seats) most.chosen calm made most.most lies_calm in
+          let least = seats_least (λ (place : Place). is_on calm (slice_at host.site.lines place.slice)) seats (λ s has on.
+          let at = seat_is (key_of host) identity count blocks (lines_asked host slices) s has in
+          let r = replica_on (key_of host) identity at.line count blocks at.number in
+          let some : s.replica ≡ Some r = ap (λ (x : Seat). x.replica) at.is in
+          let found = line_found host.drives sound (key_of host) at.line (own r (replica_of seats s r has some)) in
+          (r, some, sym (ap (λ (x : Seat). is_on calm (slice_at host.site.lines x.place.slice)) at.is ∙ ap (is_on calm) found) ∙ on)) in
+          let long = length-map seats (λ (s : Seat). s.place) in
+          record {
+            o = is.opened;
+            opened = ap (λ (m : Memory). m.opened) is.memory;
+            borne = left_borne (TakesSlot _ _) (λ r n took. ap (λ (x : Replica). x.line) took.2) seats is.opened.seats is.made.tried (omega (arith, up, least, long));
+          }
+
+      -- A boot of drives on which the database was made on them.
+      module _ (ran : List Ran) (t : Tale) (was : WasMade drives name ran slices t) (kept next : Kept) (answer : Answer) (reads : IsSame kept.content (contents t)) where
+        same : kept.content ≡ last t
+        same = λ i drive block. sym (reads drive block) i
+
+        most_calm : MostOn host.drives (key_of host) calm was.places
+        most_calm = most_up host sound refl slices was.places most.chosen calm was.made most.most lies_calm
+
+        module _ (up : Drives) {e : BootEnd} (survey : Survey) (read : IsReadOf calls host kept.content up e survey) where
+          of : IsSurveyOf host.drives (site_of host.drives (key_of host)) read.calm (last t) survey
+          of = subst (λ (c : Image). IsSurveyOf host.drives host.site read.calm c survey) same read.of
+
+          answered : (lies : SliceLine) → Contains host.site.lines lies → calm lies.at.drive.0 ≡ true → answers_on read.calm survey lies.at.drive.0 ≡ true
+          answered lies has is = by (has_drive read.calm lies.at.drive) refl where
+            by : (b : Bool) → has_drive read.calm lies.at.drive ≡ b → answers_on read.calm survey lies.at.drive.0 ≡ true
+            by true on = λ i. on i && not (read.none lies.at.drive on i)
+            by false off = absurd (unfailed lies.at.drive.0 is (read.failed lies.at.drive (law_sites.brought host.drives (key_of host) lies has) off))
+
+          most_answer : MostOn host.drives (key_of host) (answers_on read.calm survey) was.places
+          most_answer = most_up host sound refl slices was.places most.chosen (answers_on read.calm survey) was.made most.most (λ slice at is has. answered (record { name = slice; at = at }) has (lies_calm slice at is has))
+
+          -- so is what it has in hand
+          in_hand_borne : (newest : Newest) (replica : Replica) (seats : List Seat) → IsInHand survey newest replica seats → AreBorne seats
+          in_hand_borne newest replica seats hand = subst AreBorne (sym hand.seats_are)
+              (most_borne host.drives was.history.databases (key_of host) read.calm survey t sound was.stands.databases read.survey_is of was.lasting.firm was.places (λ v may. was.lasting.all v may) most_answer calm answered most_calm newest hand.newest_is replica hand.the)
+
+          -- and there is something
+          never_empty : IsChoice survey chosen.Empty → ⊥
+          never_empty empty =
+              let blind = blind_boot calls host kept.content up survey read empty in
+              let found = databases_meet host.drives was.history.databases (key_of host) was.places calm t was.stands.databases was.lasting.firm (λ v may. was.lasting.all v may) most_calm in
+              sees blind found.0 (subst (λ (c : Image). IsFoundIn host.drives host.site c found.0) (sym same) found.1) found.2 found.3 (blind.up found.0.line.at.drive.0) refl
+            where
+              sees : (blind : IsBlind host calls kept.content) (r : Replica) → IsFoundIn host.drives host.site kept.content r → calm r.line.at.drive.0 ≡ true → shows r.head ≡ true → (b : Bool) → blind.up r.line.at.drive.0 ≡ b → ⊥
+              sees blind r found is shown true on = false≢true (sym (blind.none r found on) ∙ shown)
+              sees blind r found is shown false off = unfailed r.line.at.drive.0 is (blind.failed r.line.at.drive (law_sites.brought host.drives (key_of host) r.line found.one_of) off)
+
+        abbrev EndsBy : BootEnd → Drives → Type 0
+        EndsBy e up = (is_memory e ≡ true) ⊎ ((survey : Survey) × IsReadOf calls host kept.content up e survey × IsEndBy calls (λ hand table. WritesTo kept.content next.content hand.seats) host.site survey e)
+
+        end_borne : (e : BootEnd) (up : Drives) (clean : Bool) → EndsBy e up → answer ≡ answered_by e → (answer ≡ accepted → next.memory ≡ booted_with (opened_by e) up clean kept.memory.begun) → IsBorneBy answer next
+        end_borne (end.Adopted o) up clean (inl never) is memory = absurd (false≢true never)
+        end_borne (end.Adopted o) up clean (inr (survey, read, a)) is memory = subst (λ (x : Answer). IsBorneBy x next) (sym is) (record {
+          o = o;
+          opened = ap (λ (m : Memory). m.opened) (memory is);
+          borne = left_borne (TakesBoth _ _) (λ r n took. ap (λ (x : Replica). x.line) took.2) a.seats o.seats a.left (in_hand_borne up survey read a.newest a.replica a.seats a.drawn.hand);
+        })
+        end_borne end.Empty up clean (inl never) is memory = absurd (false≢true never)
+        end_borne end.Empty up clean (inr (survey, read, empty)) is memory = absurd (never_empty up survey read empty)
+        end_borne (end.TwoDatabases one other) up clean by is memory = subst (λ (x : Answer). IsBorneBy x next) (sym is) tt
+        end_borne (end.NoQuorum readable needed) up clean by is memory = subst (λ (x : Answer). IsBorneBy x next) (sym is) tt
+        end_borne (end.Lost active listed) up clean (inl never) is memory = absurd (false≢true never)
+        end_borne (end.Lost active listed) up clean (inr (survey, read, lost)) is memory =
+            absurd (borne_half lost.now (left_borne (TakesClaimOrBoth _ _) claimed lost.seats lost.now lost.left (in_hand_borne up survey read lost.newest lost.replica lost.seats lost.drawn.hand)) lost.few)
+          where
+            claimed : (r n : Replica) → TakesClaimOrBoth lost.number (length (record_text lost.newest.table)) r n → n.line ≡ r.line
+            claimed r n (inl one) = ap (λ (x : Replica). x.line) one
+            claimed r n (inr both) = ap (λ (x : Replica). x.line) both.2
+        end_borne end.Spent up clean by is memory = subst (λ (x : Answer). IsBorneBy x next) (sym is) tt
+        end_borne end.Memory up clean by is memory = subst (λ (x : Answer). IsBorneBy x next) (sym is) tt
+
+        pub boot_borne : IsRebooted calls host kept answer next → IsBorneBy answer next
+        boot_borne boots = end_borne boots.end boots.up boots.clean boots.by boots.answer_is boots.memory
