@@ -4,6 +4,7 @@ use Rattle.std.proofs.Math.Nat.{mul-le-mul_right}
 use Rattle.std.proofs.lemmas.Bool.{leb-true}
 use Rattle.std.specs.Prelude.{IsTrue, MatchBool}
 use Rattle.mdv_record.proofs.Rooms.{room_most}
+use Rattle.mdv_table.specs.Change.{table_after}
 use Rattle.mdv_table.specs.Plan.{places_of}
 use Rattle.mdv_shelf.proofs.Between.{between_wider}
 use Rattle.mdv_shelf.proofs.Moments.{ends_both, moments_end, moments_weaker}
@@ -12,13 +13,14 @@ use Rattle.mdv_shelf.specs.Drives.{KeptAmong}
 use Rattle.mdv_shelf.specs.Made.{made_of}
 use Rattle.mdv_shelf.specs.Shelves.{AtEachTale, AtEnd, DriveFailures}
 use Rattle.mdv_shelf.specs.declared.shelf.Shelf.{Ghosts}
-use Rattle.mdv_store.proofs.Losing.{left_or_lost, pass_wrote, rose_less}
+use Rattle.mdv_store.proofs.Losing.{left_or_lost, pass_wrote}
 use Rattle.mdv_store.proofs.Passes.{left_as}
 use Rattle.mdv_store.specs.Commit as commit
 use Rattle.mdv_store.specs.Commit.{CommitAnswer, CommitDone, CommitMoment}
 use Rattle.mdv_store.specs.Counts.{ArePassCounted, IsCommitCounted, drives_lost}
 use Rattle.mdv_store.specs.Seats.{AreLeft, TakesSlot}
 use Rattle.mdv_store.specs.Text.{blocks_for}
+use Rattle.mdv_store.specs.Writing.{AreWrittenBy}
 use Rattle.mdv_store.specs.declared.store.CommitFault.TheVariants as unwritten
 use Rattle.mdv_words.specs.declared.command.Command.TheVariants as command
 use Rattle.mdv_engine_law.specs.Answers.{accepted, refusing}
@@ -33,7 +35,7 @@ use Rattle.mdv_engine_law.specs.declared.answer.Outcome.TheVariants as outcome
 use Rattle.mdv_engine_law.proofs.Plain.{numbers_plain}
 use Rattle.mdv_engine_law.proofs.Refusing.{opened_has, spent_still}
 use Rattle.mdv_engine.specs.Below.{Answer, AreLaid, CameTo, CarriedTo, CarryMoment, Change, Changed, CommitFault, Created, Geometry, IsOfGeometry, IsOpenedAt, IsPlainAnswer, IsReady, Knows, MakeStripe, Memory, Opened, Outcomes, ReplicaFull, Seat, SliceName, Table, Tale, TooLong, VolId, active_of, drives_of, is_half_active, kept_at, key_of, record_room, record_text}
-use Rattle.mdv_engine.specs.Counts.{HasWrittenTo, IsCommandCounted, WereTried}
+use Rattle.mdv_engine.specs.Counts.{IsCommandCounted, WereTried}
 use Rattle.mdv_engine.specs.Ends.{ChangeMoments, HasAnswered, StripeEnds}
 use Rattle.mdv_engine.specs.Engine.{IsHeldBy, IsLostOnSite, IsNextTable, IsWell, commit_answer}
 use Rattle.mdv_engine.specs.declared.engine.Engine.{Engine}
@@ -42,7 +44,6 @@ use Rattle.mdv_engine.proofs.Committing as committing
 use Rattle.mdv_engine.proofs.Committing.{IsChanging, next_of, with_open}
 use Rattle.mdv_engine.proofs.Creating.{calm_beside}
 use Rattle.mdv_engine.proofs.Ending.{command_ends, no_creation, other_ends}
-use Rattle.mdv_engine.proofs.Formats.{three_of}
 use Rattle.mdv_engine.proofs.Losing.{lost_on_site}
 use Rattle.mdv_engine.proofs.Makes.{moved}
 
@@ -212,12 +213,6 @@ module _ {S : Type 0} (shelf : Ghosts S) (a b : S) (v : Engine) (ready : IsReady
           let one = left_or_lost 6 o.seats new.seats (omega arith) some_active in
           pass_most shelf a b (blocks_for (length (record_text next))) (6 * active_of new.seats + drives_lost o.seats new.seats) least (active_of o.seats) (omega (arith, lower, one)) (text_few next o.table fits) counted.some
 
-      -- what it wrote to each place that is left
-      pass_all : ArePassCounted shelf a b 6 (2 + blocks_for (length (record_text next))) o.seats new.seats → HasWrittenTo shelf a b 0 (2 + blocks_for (length (record_text next))) o.seats new.seats
-      pass_all counted =
-          let all = (2 + blocks_for (length (record_text next))) * active_of new.seats + drives_lost o.seats new.seats in
-          rose_less all (0 + all) (shelf.written a) (shelf.written b) (omega arith) counted.wrote
-
       pub done_counted : CommitAnswer shelf a b o new next (Ok tt) → IsCommitCounted shelf a b (length (record_text next)) o.seats new.seats (Ok tt) → Counted accepted
       done_counted said counted = subst (λ (before : Option Opened). CountedAt before accepted) (sym opened) (record {
         exactly = subst (λ (t : Table). PassCalls (made_of shelf a b) (blocks_for (length (record_text t))) o.seats new.seats) (sym (ap (λ (x : Opened). x.table) said.came.is)) (record {
@@ -226,11 +221,11 @@ module _ {S : Type 0} (shelf : Ghosts S) (a b : S) (v : Engine) (ready : IsReady
           wrote = pass_wrote shelf a b 6 (2 + blocks_for (length (record_text next))) o.seats new.seats (omega arith) some_active counted;
         });
         most = pass_fits 0 (omega arith) said.came.tried.fits counted;
-        wrote = subst (λ (t : Table). HasWrittenTo shelf a b 0 (2 + blocks_for (length (record_text t))) o.seats new.seats) (sym (ap (λ (x : Opened). x.table) said.came.is)) (pass_all counted);
+        wrote = subst (λ (x : Opened). AreWrittenBy shelf x.mark x.table a b o.seats new.seats) (sym said.came.is) (said.steps tt);
       })
 
-      lost_counted : (active listed : ℕ) → CommitAnswer shelf a b o new next (Err (unwritten.Lost active listed)) → IsCommitCounted shelf a b (length (record_text next)) o.seats new.seats (Err (unwritten.Lost active listed)) → Counted (Over (ended.Lost active listed))
-      lost_counted active listed said counted = subst (λ (before : Option Opened). CountedAt before (Over (ended.Lost active listed))) (sym opened) (pass_fits 1 (omega arith) tried.fits pass, were_tried)
+      lost_counted : IsNextTable v.host v.state (MakeStripe volume slice) next → (active listed : ℕ) → CommitAnswer shelf a b o new next (Err (unwritten.Lost active listed)) → IsCommitCounted shelf a b (length (record_text next)) o.seats new.seats (Err (unwritten.Lost active listed)) → Counted (Over (ended.Lost active listed))
+      lost_counted is active listed said counted = subst (λ (before : Option Opened). CountedAt before (Over (ended.Lost active listed))) (sym opened) (pass_fits 1 (omega arith) tried.fits pass, were_tried)
         where
           pass : ArePassCounted shelf a b 6 (2 + blocks_for (length (record_text next))) o.seats new.seats
           pass = subst (λ (h : Bool). MatchBool h (ArePassCounted shelf a b 6 (2 + blocks_for (length (record_text next))) o.seats new.seats) (b ≡ a)) held.half counted
@@ -242,18 +237,18 @@ module _ {S : Type 0} (shelf : Ghosts S) (a b : S) (v : Engine) (ready : IsReady
           tried : commit.IsTried (DriveFailures shelf a b) o new next
           tried = tried_by said.came.2
 
-          were_tried : WereTried shelf a b 0 o.seats active
+          were_tried : WereTried shelf a b (AreWrittenBy shelf (commit.next_mark o.mark) (table_after v.host.drives (MakeStripe volume slice) o.table) a b o.seats) o.seats active
           were_tried = record {
             now = new.seats;
             left = left_as (DriveFailures shelf a b) (DriveFailures shelf a b) (TakesSlot (commit.next_mark o.mark) (length (record_text next))) (λ r n. Unit {0}) o.seats new.seats (λ r has some. some) (λ r has none. none) (λ r n took. tt) tried.left;
             active_is = said.came.0;
-            wrote = three_of shelf a b 0 (length (record_text next)) o.seats new.seats (pass_all pass);
+            steps = subst (λ (t : Table). AreWrittenBy shelf (commit.next_mark o.mark) t a b o.seats new.seats) (next_of v.host v.state (MakeStripe volume slice) next o opened is).is (said.steps held.half);
           }
 
-      unwritten_calls : (fault : CommitFault) → CommitAnswer shelf a b o new next (Err fault) → IsCommitCounted shelf a b (length (record_text next)) o.seats new.seats (Err fault) → Counted (commit_answer fault)
-      unwritten_calls (unwritten.Lost active listed) said counted = lost_counted active listed said counted
-      unwritten_calls (unwritten.TooLong fault) said counted = counted
-      unwritten_calls unwritten.Spent said counted = counted
+      unwritten_calls : IsNextTable v.host v.state (MakeStripe volume slice) next → (fault : CommitFault) → CommitAnswer shelf a b o new next (Err fault) → IsCommitCounted shelf a b (length (record_text next)) o.seats new.seats (Err fault) → Counted (commit_answer fault)
+      unwritten_calls is (unwritten.Lost active listed) said counted = lost_counted is active listed said counted
+      unwritten_calls is (unwritten.TooLong fault) said counted = counted
+      unwritten_calls is unwritten.Spent said counted = counted
 
-      pub uncommitted_counted : (fault : CommitFault) (answer : Answer) → answer ≡ commit_answer fault → CommitAnswer shelf a b o new next (Err fault) → IsCommitCounted shelf a b (length (record_text next)) o.seats new.seats (Err fault) → Counted answer
-      uncommitted_counted fault answer is said counted = subst Counted (sym is) (unwritten_calls fault said counted)
+      pub uncommitted_counted : IsNextTable v.host v.state (MakeStripe volume slice) next → (fault : CommitFault) (answer : Answer) → answer ≡ commit_answer fault → CommitAnswer shelf a b o new next (Err fault) → IsCommitCounted shelf a b (length (record_text next)) o.seats new.seats (Err fault) → Counted answer
+      uncommitted_counted next_is fault answer is said counted = subst Counted (sym is) (unwritten_calls next_is fault said counted)

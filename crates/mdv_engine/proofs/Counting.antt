@@ -1,13 +1,11 @@
 -- How the calls of a command add up, and what a refusal says of them.
-use Rattle.std.proofs.Common.{◌≡◌, ◌≢◌, ◌⊎◌, ◌≤◌, inl, inr, ◌+◌, ◌*◌, ℕ, List, length, Option, Some, None, refl, sym, subst, ap, arith}
+use Rattle.std.proofs.Common.{◌≡◌, ◌≢◌, ◌⊎◌, ◌≤◌, inl, inr, ◌+◌, ◌*◌, ℕ, List, Option, Some, None, refl, sym, subst, ap, arith}
 use Rattle.mdv_shelf.specs.Calls.{OnReplies, Part}
-use Rattle.mdv_shelf.specs.Between.{RoseByAtLeast}
 use Rattle.mdv_shelf.specs.Made.{and_more, made_of}
 use Rattle.mdv_shelf.specs.Shelves.{MadeCalls}
 use Rattle.mdv_shelf.specs.declared.shelf.Shelf.{Ghosts}
-use Rattle.mdv_shelf.proofs.Between.{between_none, between_of, between_then, between_wider, rose_at_least}
+use Rattle.mdv_shelf.proofs.Between.{between_none, between_of, between_then, between_wider}
 use Rattle.mdv_shelf.proofs.Made.{with_more}
-use Rattle.mdv_store.proofs.Losing.{rose_then}
 use Rattle.mdv_store.specs.Create.{blanked_asked}
 use Rattle.mdv_words.specs.declared.command.Command.TheVariants.{MakeStripe, Print}
 use Rattle.mdv_engine.specs.Below.{Answer, Command, Create, Ended, Host, IoFault, Memory, Opened, OutOfMemory, Outcomes, Read, Refusal, VolId, Write, lines_asked}
@@ -23,7 +21,7 @@ use Rattle.mdv_engine_law.specs.declared.answer.Reply.{Reply}
 use Rattle.mdv_engine_law.specs.declared.answer.Reply.TheVariants as reply
 use Rattle.mdv_engine_law.proofs.Efforts.{command_too, done_too, fault_too}
 use Rattle.mdv_engine.specs.Ends.{IsSaid}
-use Rattle.mdv_engine.specs.Counts.{DoneCalls, HasTriedAll, HasWrittenAll, IsCommandCounted, IsQuietRefusal, IsUnlooked, blocks_of, calls_of}
+use Rattle.mdv_engine.specs.Counts.{DoneCalls, HasTriedAll, IsCommandCounted, IsQuietRefusal, IsUnlooked, blocks_of, calls_of}
 use Rattle.mdv_engine.specs.Engine.{HasBlocksCause}
 
 -- what is only said has a reply
@@ -166,20 +164,6 @@ module _ {S : Type 0} (shelf : Ghosts S) where
   -- and behind one that was done
   pub done_then : (a b c : S) (host : Host) (command : Command) (before now : Option Opened) → MadeCallsOf (made_of shelf a b) command host before now → MadeCalls shelf b c 1 0 → MadeCallsOf (and_more 1 (made_of shelf a c)) command host before now
   done_then a b c host command before now done told = done_too (made_of shelf a b) (and_more 1 (made_of shelf a c)) (with_more shelf.calls shelf.written a b c 1 told) command host before now done
-
-  -- a telling writes nothing
-  written_then : (a b c : S) (all : ℕ) → RoseByAtLeast all (shelf.written a) (shelf.written b) → MadeCalls shelf b c 1 0 → RoseByAtLeast all (shelf.written a) (shelf.written c)
-  written_then a b c all wrote told = rose_then all 0 all (shelf.written a) (shelf.written b) (shelf.written c) (omega arith) wrote (rose_at_least 0 0 (shelf.written b) (shelf.written c) (omega arith) told.in_blocks)
-
-  pub wrote_then : (a b c : S) (host : Host) (command : Command) (before now : Option Opened) → HasWrittenAll shelf a b host command before now → MadeCalls shelf b c 1 0 → HasWrittenAll shelf a c host command before now
-  wrote_then a b c host (MakeStripe volume slice) (Some o) (Some n) wrote told = written_then a b c _ wrote told
-  wrote_then a b c host (MakeStripe volume slice) (Some o) None wrote told = tt
-  wrote_then a b c host (MakeStripe volume slice) None now wrote told = tt
-  wrote_then a b c host (Create slices force count blocks) before (Some n) wrote told = written_then a b c _ wrote told
-  wrote_then a b c host (Create slices force count blocks) before None wrote told = tt
-  wrote_then a b c host (Read volume at count) before now wrote told = tt
-  wrote_then a b c host (Write volume at block) before now wrote told = tt
-  wrote_then a b c host (Print names) before now wrote told = tt
 
   -- the calls by an answer that is this one
   pub counted_as : (old new : S) (host : Host) (command : Command) (this answer : Answer) → answer ≡ this → (before now : Option Opened) → IsCommandCounted shelf old new host command this before now → IsCommandCounted shelf old new host command answer before now

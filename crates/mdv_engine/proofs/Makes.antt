@@ -11,7 +11,6 @@ use Rattle.mdv_store.specs.Counts.{drives_lost}
 use Rattle.mdv_store.specs.Create.{AreAsked, CreateEnds, CreateMoment, IsCreated, IsCreationCounted, WereFormed, blanked_asked, drives_asked, seats_asked, table_of}
 use Rattle.mdv_standing.specs.Creating.{first_mark}
 use Rattle.mdv_store.specs.Seats.{AreTheirs, TakesSlot}
-use Rattle.mdv_store.specs.Text.{blocks_for}
 use Rattle.mdv_store.specs.declared.creating.CreateFault.TheVariants as unmade
 use Rattle.mdv_words.specs.Line.{IsCount, IsLength}
 use Rattle.mdv_engine_law.specs.Answers.{accepted, refusing}
@@ -22,7 +21,7 @@ use Rattle.mdv_engine_law.specs.declared.answer.Ended.TheVariants as ended
 use Rattle.mdv_engine_law.specs.declared.answer.Outcome.TheVariants as outcome
 use Rattle.mdv_engine_law.proofs.Plain.{fault_plain, memory_plain}
 use Rattle.mdv_engine.specs.Below.{Answer, AreLaid, CameTo, CarriedTo, CarryMoment, Create, CreateFault, Identity, IoFault, IsAllowed, IsOpenedAt, IsReady, Key, Knows, Memory, Opened, OutOfMemory, Seat, SliceLine, SliceName, Table, Tale, active_of, identity_of, kept_at, key_of, lines_asked, record_text}
-use Rattle.mdv_engine.specs.Counts.{HasWrittenTo, IsCommandCounted, WereTried, formats_on}
+use Rattle.mdv_engine.specs.Counts.{IsCommandCounted, WereMadeInTurn, WereTried}
 use Rattle.mdv_engine.specs.Ends.{CreationEnds, HasAnswered, LeavesMade, made_at}
 use Rattle.mdv_engine.specs.Engine.{IsHeldBy, IsLostOnSite, IsWell, answer_of, case_at}
 use Rattle.mdv_engine.specs.declared.engine.Engine.{Engine}
@@ -30,7 +29,7 @@ use Rattle.mdv_engine.proofs.Counting as counting
 use Rattle.mdv_engine.proofs.Creating as creating
 use Rattle.mdv_engine.proofs.Creating.{begun, with_new}
 use Rattle.mdv_engine.proofs.Ending.{command_ends, done_ends, lost_ends}
-use Rattle.mdv_engine.proofs.Formats.{formed_calls, formed_three, formed_wrote}
+use Rattle.mdv_engine.proofs.Formats.{formed_calls}
 
 -- what is told of the engine as it stands is so of the one before
 pub to_old : (v e : Engine) → e ≡ v → (lines : List SliceLine) (slices : List SliceName) → lines ≡ lines_asked e.host slices → (P : Key → Identity → List SliceLine → Type 0)
@@ -191,14 +190,17 @@ module _ {S : Type 0} (shelf : Ghosts S) (a b : S) (v : Engine) (ready : IsReady
   abbrev Counted : Bool → Answer → Option Opened → Type 0
   Counted force answer opened = IsCommandCounted shelf a b v.host (Create slices force count blocks) answer v.state.opened opened
 
-  -- what was written to each place that is left, behind the formats
-  tried : (active listed : ℕ) → (f : WereFormed shelf a b key identity lines count blocks) × (active ≡ active_of f.now) × (listed ≡ length f.now) → WereTried shelf a b (formats_on lines count) (seats_asked key identity lines count blocks) active
+  in_turn : (formed : WereFormed shelf a b key identity lines count blocks) → WereMadeInTurn shelf a b key identity lines count blocks formed.now
+  in_turn formed = record { formed = formed.formed; gone = formed.gone; steps = formed.steps }
+
+  -- how it was written to each place, behind the formats
+  tried : (active listed : ℕ) → (f : WereFormed shelf a b key identity lines count blocks) × (active ≡ active_of f.now) × (listed ≡ length f.now) → WereTried shelf a b (WereMadeInTurn shelf a b key identity lines count blocks) (seats_asked key identity lines count blocks) active
   tried active listed (formed, active_is, listed_is) = record {
     now = formed.now;
     left = left_as (DriveFailures shelf a b) (DriveFailures shelf a b) (TakesSlot first_mark (length (record_text (table_of (seats_asked key identity lines count blocks))))) (λ r n. Unit {0}) (seats_asked key identity lines count blocks) formed.now
         (λ r has some. some) (λ r has none. none) (λ r n took. tt) formed.tried;
     active_is = active_is;
-    wrote = formed_three shelf a b key identity lines count blocks form.1.0 formed;
+    steps = in_turn formed;
   }
 
   unmade_calls : (fault : CreateFault) → IsCreated shelf a b key identity lines count blocks (Err fault) → IsCreationCounted shelf a b lines count blocks (Err fault) → (force : Bool) (opened : Option Opened) → Counted force (answer_of fault) opened
@@ -230,5 +232,5 @@ module _ {S : Type 0} (shelf : Ghosts S) (a b : S) (v : Engine) (ready : IsReady
         };
       };
       most = counting.creation_most shelf a b v.host slices count _ counted.1;
-      wrote = of_made (λ k i t ss. HasWrittenTo shelf a b (formats_on lines count) (2 + blocks_for (length (record_text t))) (seats_asked k i lines count blocks) ss) (formed_wrote shelf a b key identity lines count blocks form.1.0 f);
+      wrote = of_made (λ k i t ss. WereMadeInTurn shelf a b k i lines count blocks ss) (in_turn f);
     }

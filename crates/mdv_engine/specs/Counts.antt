@@ -4,7 +4,6 @@ use Rattle.mdv_base.specs.DriveSet.{no_drives}
 use Rattle.mdv_base.specs.declared.refusal.Refusal.{Refusal}
 use Rattle.mdv_base.specs.declared.refusal.Refusal.TheVariants.{IoFault, OutOfMemory}
 use Rattle.mdv_base.specs.declared.name.VolId.{VolId}
-use Rattle.mdv_shelf.specs.Between.{RoseByAtLeast}
 use Rattle.mdv_shelf.specs.Made.{Made, made_of}
 use Rattle.mdv_shelf.specs.Shelves.{DriveFailures, MadeCalls}
 use Rattle.mdv_shelf.specs.Tale.{Tale, last}
@@ -12,11 +11,15 @@ use Rattle.mdv_shelf.specs.declared.shelf.Shelf.{Ghosts}
 use Rattle.mdv_words.specs.declared.command.Command.{Command}
 use Rattle.mdv_words.specs.declared.command.Command.TheVariants as command
 use Rattle.mdv_store.specs.BootCounts.{most_blocks, most_reads}
-use Rattle.mdv_store.specs.Counts.{drives_lost}
-use Rattle.mdv_store.specs.Create.{blanked_asked, seats_asked}
+use Rattle.mdv_store.specs.Acts.{HaveGone, acts_asked}
+use Rattle.mdv_store.specs.Commit.{next_mark}
+use Rattle.mdv_store.specs.Create.{blanked_asked, drives_asked, seats_asked, table_of}
 use Rattle.mdv_store.specs.Seats.{AreLeft}
 use Rattle.mdv_store.specs.Text.{blocks_for}
+use Rattle.mdv_store.specs.Writing.{AreWrittenBy}
+use Rattle.mdv_standing.specs.Creating.{first_mark}
 use Rattle.mdv_survey.specs.Counts.{AreLinesBy}
+use Rattle.mdv_table.specs.Change.{table_after}
 use Rattle.mdv_engine_law.specs.Efforts.{FaultCalls, LossCalls, MadeCallsOf, places_on, wanting_calls}
 use Rattle.mdv_engine_law.specs.declared.answer.Answer.{Answer}
 use Rattle.mdv_engine_law.specs.declared.answer.Answer.TheVariants.{Said, Over}
@@ -25,7 +28,7 @@ use Rattle.mdv_engine_law.specs.declared.answer.Outcome.TheVariants as outcome
 use Rattle.mdv_engine_law.specs.Answers.{accepted, refusing}
 use Rattle.mdv_engine_law.specs.declared.answer.Reply.{Reply}
 use Rattle.mdv_engine_law.specs.declared.answer.Reply.TheVariants as reply
-use Rattle.mdv_engine.specs.Below.{Create, Host, Identity, Memory, Opened, Read, Seat, SliceLine, Write, active_of, key_of, lines_asked, record_text}
+use Rattle.mdv_engine.specs.Below.{Create, Host, Identity, Key, MakeStripe, Memory, Opened, Read, Seat, SliceLine, Write, active_of, key_of, lines_asked, record_text}
 
 -- the most calls that a command makes, and the most blocks that it writes
 abbrev pub calls_of : Host → Option Opened → Command → ℕ
@@ -44,33 +47,31 @@ blocks_of host opened (Read volume at count) = 0
 blocks_of host opened (Write volume at block) = 1
 blocks_of host opened (command.Print names) = 0
 
--- how many blocks a creation writes before its table: a master where it is blanked, and each place as it is formatted
-abbrev pub formats_on : List SliceLine → ℕ → ℕ
-formats_on lines count = blanked_asked lines count + 5 * places_on lines count
+-- Places were formatted, and behind that their first table was written at each of them in turn.
+pub record WereMadeInTurn {S : Type 0} (shelf : Ghosts S) (old new : S) (key : Key) (identity : Identity) (lines : List SliceLine) (count blocks : ℕ) (now : List Seat) : Type 0 where
+  pub formed : S
+  pub gone : HaveGone shelf old formed (drives_asked lines) (acts_asked key identity lines count blocks)
+  pub steps : AreWrittenBy shelf first_mark (table_of (seats_asked key identity lines count blocks)) formed new (seats_asked key identity lines count blocks) now
 
--- Behind so many blocks as many at least were written as it takes to write so many to each of these places that is left, and one to each drive that was left meanwhile.
-abbrev pub HasWrittenTo : {S : Type 0} → Ghosts S → S → S → ℕ → ℕ → List Seat → List Seat → Type 0
-HasWrittenTo shelf old new before each seats now = RoseByAtLeast (before + (each * active_of now + drives_lost seats now)) (shelf.written old) (shelf.written new)
-
--- A change that is done wrote as many blocks as its table takes at each place that is left, and one for each drive that it left meanwhile; and so did a creation behind its formats.
+-- A change that is done wrote its table at each place that was active, in turn: one is left only where its own writing was begun and a call on its drive failed, or behind an earlier one of this pass on its drive. So did a creation behind its formats.
 abbrev pub HasWrittenAll : {S : Type 0} → Ghosts S → S → S → Host → Command → Option Opened → Option Opened → Type 0
-HasWrittenAll shelf old new host (Create slices force count blocks) before (Some now) =
-    HasWrittenTo shelf old new (formats_on (lines_asked host slices) count) (2 + blocks_for (length (record_text now.table))) (seats_asked now.key now.identity (lines_asked host slices) count blocks) now.seats
-HasWrittenAll shelf old new host (command.MakeStripe volume slice) (Some before) (Some now) = HasWrittenTo shelf old new 0 (2 + blocks_for (length (record_text now.table))) before.seats now.seats
+HasWrittenAll shelf old new host (Create slices force count blocks) before (Some now) = WereMadeInTurn shelf old new now.key now.identity (lines_asked host slices) count blocks now.seats
+HasWrittenAll shelf old new host (command.MakeStripe volume slice) (Some before) (Some now) = AreWrittenBy shelf now.mark now.table old new before.seats now.seats
 HasWrittenAll shelf old new host other before now = Unit {0}
 
--- A table was written to these places behind so many blocks, and so many have it, those on whose drives no call failed: as many blocks were written as two gates and a block of text for each, and one for each drive that was left.
-pub record WereTried {S : Type 0} (shelf : Ghosts S) (old new : S) (before : ℕ) (seats : List Seat) (active : ℕ) : Type 0 where
+-- By these steps some of the places are left, and so many have the table, those on whose drives no call failed.
+pub record WereTried {S : Type 0} (shelf : Ghosts S) (old new : S) (Steps : List Seat → Type 0) (seats : List Seat) (active : ℕ) : Type 0 where
   pub now : List Seat
   pub left : AreLeft (DriveFailures shelf old new) (λ r n. Unit {0}) seats now
   pub active_is : active ≡ active_of now
-  pub wrote : HasWrittenTo shelf old new before 3 seats now
+  pub steps : Steps now
 
 -- so it is where too few places took the table of a command
 abbrev pub HasTriedAll : {S : Type 0} → Ghosts S → S → S → Host → Command → Option Opened → ℕ → Type 0
 HasTriedAll shelf old new host (Create slices force count blocks) before active =
-    (identity : Identity) × WereTried shelf old new (formats_on (lines_asked host slices) count) (seats_asked (key_of host) identity (lines_asked host slices) count blocks) active
-HasTriedAll shelf old new host (command.MakeStripe volume slice) (Some o) active = WereTried shelf old new 0 o.seats active
+    (identity : Identity) × WereTried shelf old new (WereMadeInTurn shelf old new (key_of host) identity (lines_asked host slices) count blocks) (seats_asked (key_of host) identity (lines_asked host slices) count blocks) active
+HasTriedAll shelf old new host (command.MakeStripe volume slice) (Some o) active =
+    WereTried shelf old new (AreWrittenBy shelf (next_mark o.mark) (table_after host.drives (MakeStripe volume slice) o.table) old new o.seats) o.seats active
 HasTriedAll shelf old new host other before active = Unit {0}
 
 -- The calls of a command that was done: exactly so many, and no more than it may make at all; a creation and a change wrote to each place so.

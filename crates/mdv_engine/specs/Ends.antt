@@ -159,12 +159,12 @@ pub record HasOnlyReplied (calls : Outcomes) (replies : Type 0) (said : Outcome)
   pub same : new ≡ old
 
 -- The calls of a command and of its reply, by what was open before and is then: as many as the command takes, and one; where it was done, just these, and just
--- its blocks, of which a creation and a change wrote some to each place that is left and each drive that they left, also where the run is over with them. A refused command writes nothing, unless a call failed, and makes no call on a drive, unless memory was wanting behind it; where a call failed it made no more than it makes then. A count that is
+-- its blocks; a creation and a change wrote their table at each place in turn, also where the run is over with them. A refused command writes nothing, unless a call failed, and makes no call on a drive, unless memory was wanting behind it; where a call failed it made no more than it makes then. A count that is
 -- spent takes no call. Where the reply was told whole, none failed behind its first byte; and unless it was cut short no giving failed.
 pub record IsTurnCounted {S : Type 0} (shelf : Ghosts S) (old new : S) (host : Host) (command : Command) (r : Reply) (before now : Option Opened) : Type 0 where
   pub most : (made_of shelf old new).within 0 (1 + calls_of host before command) (counts.blocks_of host before command)
   pub done : r ≡ reply.Ok → MadeCallsOf (and_more 1 (made_of shelf old new)) command host before now
-  pub wrote : r ≡ reply.Ok → counts.HasWrittenAll shelf old new host command before now
+  pub wrote : r ≡ reply.Ok → (through : S) × counts.HasWrittenAll shelf old through host command before now × MadeCalls shelf through new 1 0
   pub unlooked : IsUnlooked r → (made_of shelf old new).within 0 1 0
   pub unwritten : IsQuietRefusal r → (made_of shelf old new).within 0 (1 + calls_of host before command) 0
   pub wanting : r ≡ reply.Refused OutOfMemory → (made_of shelf old new).within 0 (1 + wanting_calls command) 0

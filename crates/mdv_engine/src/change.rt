@@ -75,7 +75,7 @@ impl Engine {
         ensures moments { (change : AnyChange) → IsNext self.old change next → ChangeMoments S.Shelf shelf.old shelf.new self.old change }
         ensures end { (volume : VolId) (slice : SliceName) → IsStriped self.old volume slice next → StripeEnds S.Shelf shelf.old shelf.new self.old volume slice result self.new }
         ensures answer { (volume : VolId) (slice : SliceName) → IsStriped self.old volume slice next → StripeAnswered S.Shelf shelf.old shelf.new self.old volume slice result self.new }
-        ensures counted { (volume : VolId) (slice : SliceName) → IsStripeCounted S.Shelf shelf.old shelf.new self.old volume slice result self.new }
+        ensures counted { (volume : VolId) (slice : SliceName) → IsStriped self.old volume slice next → IsStripeCounted S.Shelf shelf.old shelf.new self.old volume slice result self.new }
         ensures kept { KeptAmong S.Shelf shelf.old shelf.new (drives_open self.old.state.opened) }
     {
         let Some(store) = &mut self.state.database else {

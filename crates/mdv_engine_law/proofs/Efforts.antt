@@ -1,9 +1,10 @@
 -- The calls of a line, told of another stretch.
-use Rattle.std.proofs.Common.{ℕ, Option, Some, None}
+use Rattle.std.proofs.Common.{◌≡◌, ◌⊎◌, inl, inr, ℕ, true, Option, Some, None}
 use Rattle.mdv_base.specs.declared.refusal.Refusal.TheVariants as refusal
 use Rattle.mdv_shelf.specs.Made.{Made}
 use Rattle.mdv_shelf.proofs.Made.{IsToo, more_too}
-use Rattle.mdv_engine_law.specs.Below.{BootEnd, Image, Opened, Refusal, Command, Create, Print, Read, Write, Line}
+use Rattle.mdv_engine_law.specs.Below.{BootEnd, Drives, Image, Opened, Refusal, Command, Create, Print, Read, Write, Line}
+use Rattle.mdv_store.specs.Boot.{is_memory}
 use Rattle.mdv_store.specs.declared.booting.BootEnd.TheVariants as end
 use Rattle.mdv_words.specs.declared.command.Command.TheVariants.{MakeStripe}
 use Rattle.mdv_words.specs.Line as words
@@ -12,10 +13,10 @@ use Rattle.mdv_engine_law.specs.declared.answer.Answer.TheVariants.{Said, Over}
 use Rattle.mdv_engine_law.specs.declared.answer.Ended.TheVariants as ended
 use Rattle.mdv_engine_law.specs.declared.answer.Outcome.TheVariants as outcome
 use Rattle.mdv_engine_law.specs.declared.host.Host.{Host}
-use Rattle.mdv_engine_law.specs.Efforts.{BootCalls, CommandCalls, EndCalls, FaultCalls, LineCalls, LossCalls, MadeCallsOf, NoCalls, replied_to}
+use Rattle.mdv_engine_law.specs.Efforts.{BootCalls, CommandCalls, EndCalls, EndsByCalls, FaultCalls, HandCalls, LineCalls, LossCalls, MadeCallsOf, NoCalls, looks_of, replied_to}
 use Rattle.mdv_shelf.specs.Failing.{Outcomes}
 use Rattle.mdv_engine_law.specs.Line.{Kept, Memory}
-use Rattle.mdv_engine_law.proofs.Widening.{AreWithin, up_more}
+use Rattle.mdv_engine_law.proofs.Widening.{AreWithin, end_more, read_more, up_more}
 
 module _ (one other : Made) (too : IsToo one other) where
   pub none_too : NoCalls one → NoCalls other
@@ -72,6 +73,17 @@ module _ (one other : Made) (too : IsToo one other) where
 
 -- of a stretch by which a call failed just where one did by the first
 module _ (calls more : Outcomes) (cause : AreWithin calls more) (one other : Made) (too : IsToo one other) where
+  hand_too : (host : Host) (content : Image) (up : Drives) (e : BootEnd) → (is_memory e ≡ true) ⊎ EndsByCalls calls one host content up e → (is_memory e ≡ true) ⊎ EndsByCalls more other host content up e
+  hand_too host content up e (inl memory) = inl memory
+  hand_too host content up e (inr by) =
+      let looks = looks_of host up by.read.calm in
+      inr (record {
+        survey = by.survey;
+        read = read_more calls more cause host content up e by.survey by.read;
+        by_hand = end_more calls more cause (λ hand table. HandCalls one looks hand.seats table) (λ hand table. HandCalls other looks hand.seats table) (λ hand table made. too.within _ _ _ made) host.site by.survey e by.by_hand;
+        still = λ unwritten. too.within _ _ _ (by.still unwritten);
+      })
+
   pub boot_too : (host : Host) (answer : Answer) (memory : Memory) (content : Image) → BootCalls calls one host answer memory content → BootCalls more other host answer memory content
   boot_too host answer memory content is = record {
     most = too.within _ _ _ is.most;
@@ -81,7 +93,8 @@ module _ (calls more : Outcomes) (cause : AreWithin calls more) (one other : Mad
     clean = is.clean;
     by = up_more calls more cause host is.end is.up is.clean is.by;
     tied = is.tied;
-    within = too.within _ _ _ is.within;
+    by_hand = hand_too host content is.up is.end is.by_hand;
+    still = λ unwritten. too.within _ _ _ (is.still unwritten);
     wrote = λ written. too.wrote (is.wrote written);
     exactly = λ clean. (let by = is.exactly clean in (by.0, by.1, end_too one other too _ is.end by.2));
   }

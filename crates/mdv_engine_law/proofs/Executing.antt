@@ -37,7 +37,7 @@ module _ (failed more : Outcomes) (cause : AreWithin failed more) (host : Host) 
   by_more : (e : BootEnd) (up : Drives) → (is_memory e ≡ true) ⊎ ((survey : Survey) × IsReadOf failed host kept.content up e survey × IsEndBy failed (λ hand table. WritesTo kept.content next.content hand.seats) host.site survey e)
       → (is_memory e ≡ true) ⊎ ((survey : Survey) × IsReadOf more host kept.content up e survey × IsEndBy more (λ hand table. WritesTo kept.content next.content hand.seats) host.site survey e)
   by_more e up (inl memory) = inl memory
-  by_more e up (inr by) = inr (by.0, read_more failed more cause host kept.content up e by.0 by.1, end_more failed more cause (WritesTo kept.content next.content) host.site by.0 e by.2)
+  by_more e up (inr by) = inr (by.0, read_more failed more cause host kept.content up e by.0 by.1, end_more failed more cause (λ hand table. WritesTo kept.content next.content hand.seats) (λ hand table. WritesTo kept.content next.content hand.seats) (λ hand table wrote. wrote) host.site by.0 e by.2)
 
   pub rebooted_more : IsRebooted failed host kept answer next → IsRebooted more host kept answer next
   rebooted_more is = record {

@@ -1,5 +1,5 @@
 -- Behind what was told `ok` a database is open, but for a boot that found none.
-use Rattle.std.proofs.Common.{◌≡◌, ◌∙◌, Some, None, refl, sym, ap}
+use Rattle.std.proofs.Common.{◌≡◌, ◌∙◌, Some, None, refl, ap}
 use Rattle.mdv_shelf.specs.Failing.{Outcomes}
 use Rattle.mdv_words.specs.declared.command.Command.TheVariants.{MakeStripe}
 use Rattle.mdv_words.specs.Line as words

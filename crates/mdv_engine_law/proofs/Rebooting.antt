@@ -1,5 +1,5 @@
 -- What a boot of the store answered, as a line tells it: which drives came up, what was read of them, and what came of that.
-use Rattle.std.proofs.Common.{◌≡◌, ◌⊎◌, inl, inr, ◌≤◌, ◌+◌, ◌*◌, ℕ, length, Bool, true, false, List, Contains, Some, refl, sym, ◌∙◌, ap, subst, arith}
+use Rattle.std.proofs.Common.{◌≡◌, ◌⊎◌, inl, inr, ◌≤◌, ℕ, Bool, true, false, Contains, Some, refl, sym, ◌∙◌, ap, subst, arith}
 use Rattle.std.specs.Bool.{MatchBool}
 use Rattle.mdv_base.specs.Causes.{RoseOnce}
 use Rattle.mdv_shelf.proofs.Moments.{moments_end, some_is}
@@ -11,7 +11,7 @@ use Rattle.mdv_shelf.specs.Shelves.{DriveFailures}
 use Rattle.mdv_shelf.specs.declared.shelf.Shelf.{Ghosts}
 use Rattle.mdv_look.proofs.Among.{is_one_of}
 use Rattle.mdv_store.proofs.Few.{reads_between}
-use Rattle.mdv_store.specs.BootCounts.{IsBootCounted, IsEndCounted, most_reads}
+use Rattle.mdv_store.specs.BootCounts.{IsBootCounted, IsEndCounted}
 use Rattle.mdv_store.specs.Boot.{IfAdopted, IsEndBy, IsOnce, is_memory}
 use Rattle.mdv_store.specs.Booted.{IsBooted, IsReadAt}
 use Rattle.mdv_store.specs.Letters.{AreLettersOf}
@@ -21,14 +21,15 @@ use Rattle.mdv_store.specs.Taking.{RewriteMoment, Rewrites}
 use Rattle.mdv_store.specs.declared.booting.BootEnd.TheVariants as end
 use Rattle.mdv_store.specs.declared.booting.Booted.{Booted}
 use Rattle.mdv_survey.specs.declared.replica.Survey.{Survey}
-use Rattle.mdv_engine_law.specs.Below.{BootEnd, DriveNo, Key, Seat, Site, Table, Tale, has_drive, last}
+use Rattle.mdv_engine_law.specs.Below.{BootEnd, DriveNo, Table, Tale, has_drive, last}
 use Rattle.mdv_engine_law.specs.Answers.{accepted}
-use Rattle.mdv_engine_law.specs.Efforts.{BootCalls, EndCalls, in_hand, least_of, most_of}
+use Rattle.mdv_engine_law.specs.Efforts.{BootCalls, EndCalls, EndsByCalls, HandCalls, looks_of}
 use Rattle.mdv_engine_law.specs.Line.{IsLeftBy, IsReadOf, IsRebooted, IsUpBy, Memory, WritesTo, answered_by, booted_with, contents, kept_at, opened_by}
 use Rattle.mdv_engine_law.specs.declared.answer.Answer.{Answer}
 use Rattle.mdv_engine_law.specs.declared.host.Host.{Host}
 use Rattle.mdv_engine_law.proofs.Keeping.{open_on, same_beside}
-use Rattle.mdv_engine_law.proofs.Taking.{end_within, end_wrote, memory_still, unwritten_within}
+use Rattle.mdv_engine_law.proofs.Taking.{end_wrote, hand_calls, looks_alone, memory_still}
+use Rattle.mdv_engine_law.proofs.Widening.{end_more, within_itself}
 
 at_true : (A B : Type 0) (b : Bool) → b ≡ true → MatchBool b A B → A
 at_true A B b is m = subst (λ (c : Bool). MatchBool c A B) is m
@@ -40,39 +41,6 @@ at_false A B b is m = subst (λ (c : Bool). MatchBool c A B) is m
 rose_in_all : (a b c : ℕ) → a ≤ b → b ≤ c → RoseOnce a b → (c ≡ a) ⊎ RoseOnce a c → RoseOnce a c
 rose_in_all a b c front behind rose (inl same) = omega (arith, front, behind, rose, same)
 rose_in_all a b c front behind rose (inr once) = once
-
--- what an end says of what was written, told of the places in hand
-module _ {S : Type 0} (shelf : Ghosts S) (looked new : S) (key : Key) (failed : Outcomes) (Wrote : List Seat → Type 0) (more : (hand : _) (table : Table) → Rewrites shelf looked new key hand table → Wrote hand.seats) (site : Site) (survey : Survey) where
-  wrote_more : (e : BootEnd) → IsEndBy failed (Rewrites shelf looked new key) site survey e → IsEndBy failed (λ hand table. Wrote hand.seats) site survey e
-  wrote_more (end.Adopted o) is = record {
-    newest = is.newest;
-    replica = is.replica;
-    seats = is.seats;
-    number = is.number;
-    drawn = is.drawn;
-    written = record { hand = is.written.hand; identity_is = is.written.identity_is; number_is = is.written.number_is; seats_are = is.written.seats_are; wrote = more is.written.hand is.newest.table is.written.wrote };
-    left = is.left;
-    enough = is.enough;
-    is = is.is;
-  }
-  wrote_more end.Empty is = is
-  wrote_more (end.TwoDatabases a b) is = is
-  wrote_more (end.NoQuorum readable needed) is = is
-  wrote_more (end.Lost active listed) is = record {
-    newest = is.newest;
-    replica = is.replica;
-    seats = is.seats;
-    number = is.number;
-    drawn = is.drawn;
-    now = is.now;
-    written = record { hand = is.written.hand; identity_is = is.written.identity_is; number_is = is.written.number_is; seats_are = is.written.seats_are; wrote = more is.written.hand is.newest.table is.written.wrote };
-    left = is.left;
-    few = is.few;
-    active_is = is.active_is;
-    listed_is = is.listed_is;
-  }
-  wrote_more end.Spent is = is
-  wrote_more end.Memory is = is
 
 -- the calls of a boot on which none failed, by its end
 end_calls : {S : Type 0} (shelf : Ghosts S) (old new : S) (reads : ℕ) (e : BootEnd) → IsEndCounted shelf old new reads e → EndCalls (made_of shelf old new) reads e
@@ -130,7 +98,7 @@ module _ {S : Type 0} (shelf : Ghosts S) (old new : S) (host : Host) (answer : B
   AreAway survey at = (drive : DriveNo) → Contains host.site.drives drive → has_drive at.calm drive ≡ false → (calls drive.0).some
 
   module _ (t u : Tale) (told_old : shelf.tale old ≡ Some t) (told_new : shelf.tale new ≡ Some u) where
-    pub read_of : (survey : Survey) (at : IsReadAt shelf old new host.drives host.site answer survey) → AreAway survey at → IsReadOf calls host (contents t) answer.up answer.end survey
+    abbrev pub read_of : (survey : Survey) (at : IsReadAt shelf old new host.drives host.site answer survey) → AreAway survey at → IsReadOf calls host (contents t) answer.up answer.end survey
     read_of survey at away = record {
       calm = at.calm;
       were_up = at.up;
@@ -145,19 +113,24 @@ module _ {S : Type 0} (shelf : Ghosts S) (old new : S) (host : Host) (answer : B
     abbrev WasEnded : Type 0
     WasEnded = (is_memory answer.end ≡ true) ⊎ ((survey : Survey) × (at : IsReadAt shelf old new host.drives host.site answer survey) × IsEndBy calls (Rewrites shelf at.looked new host.site.key) host.site survey answer.end × AreLettersOf host.site survey at.calm answer.letters)
 
-    -- those by which it writes, and of one that doesn't
-    within_of : IsBootCounted shelf old new host.drives host.site answer → (made_of shelf old new).within (least_of answer.end) (2 * length host.site.drives + most_reads host.site + 8 * in_hand answer.end) (most_of answer.end)
-    within_of counted = by booted.ended where
-      by : WasEnded
-          → (made_of shelf old new).within (least_of answer.end) (2 * length host.site.drives + most_reads host.site + 8 * in_hand answer.end) (most_of answer.end)
-      by (inl memory) = unwritten_within shelf old new _ answer.end (memory_still answer.end memory) (counted.still (memory_still answer.end memory))
-      by (inr (survey, at, end_by, letters)) = end_within shelf old at.looked new _ at.reads calls host.site at.calm survey at.survey_is answer.end end_by counted.still
+    -- its calls, by what was read
+    ends_by_calls : (is_memory answer.end ≡ true) ⊎ EndsByCalls calls (made_of shelf old new) host (contents t) answer.up answer.end
+    ends_by_calls = by booted.ended where
+      by : WasEnded → (is_memory answer.end ≡ true) ⊎ EndsByCalls calls (made_of shelf old new) host (contents t) answer.up answer.end
+      by (inl memory) = inl memory
+      by (inr (survey, at, end_by, letters)) = inr (record {
+        survey = survey;
+        read = read_of survey at (λ drive one_of out. (at.failed drive one_of out).1);
+        by_hand = end_more calls calls (within_itself calls) (Rewrites shelf at.looked new host.site.key) (λ hand table. HandCalls (made_of shelf old new) (looks_of host answer.up at.calm) hand.seats table)
+            (hand_calls shelf old at.looked new host.site.key (looks_of host answer.up at.calm) at.reads) host.site survey answer.end end_by;
+        still = λ unwritten. looks_alone shelf old at.looked new host.site.key (looks_of host answer.up at.calm) at.reads (at.still unwritten);
+      })
 
     wrote_of : has_written answer.end ≡ true → (made_of shelf old new).wrote
     wrote_of written = by booted.ended where
       by : WasEnded → (made_of shelf old new).wrote
       by (inl memory) = absurd (let still = memory_still answer.end memory in cc (still, written))
-      by (inr (survey, at, end_by, letters)) = end_wrote shelf old at.looked new _ at.reads calls host.site at.calm survey at.survey_is answer.end end_by written
+      by (inr (survey, at, end_by, letters)) = end_wrote shelf old at.looked new host.site.key _ at.reads calls host.site survey answer.end end_by written
 
     -- its calls, as a line counts them
     pub boot_calls : IsUnclean → IsBootCounted shelf old new host.drives host.site answer
@@ -170,7 +143,8 @@ module _ {S : Type 0} (shelf : Ghosts S) (old new : S) (host : Host) (answer : B
       clean = answer.clean;
       by = up_by unclean;
       tied = λ ok. (let is = memory_is ok in (ap (λ (m : Memory). m.opened) is, ap (λ (m : Memory). m.up) is, ap (λ (m : Memory). m.clean) is));
-      within = within_of counted;
+      by_hand = ends_by_calls;
+      still = counted.still;
       wrote = wrote_of;
       exactly = λ clean. (let by = counted.clean clean t told_old in (by.0, by.1, end_calls shelf old new _ answer.end by.2));
     }
@@ -191,7 +165,7 @@ module _ {S : Type 0} (shelf : Ghosts S) (old new : S) (host : Host) (answer : B
             → (is_memory answer.end ≡ true) ⊎ ((survey : Survey) × IsReadOf calls host (contents t) answer.up answer.end survey × IsEndBy calls (λ hand table. WritesTo (contents t) (contents u) hand.seats) host.site survey answer.end)
         by true is end_by = inl is
         by false is (inl memory) = inl memory
-        by false is (inr (survey, at, end_by, letters)) = inr (survey, read_of survey at (away survey at), wrote_more shelf at.looked new host.site.key calls (λ seats. WritesTo (contents t) (contents u) seats) (wrote_to survey at) host.site survey answer.end end_by)
+        by false is (inr (survey, at, end_by, letters)) = inr (survey, read_of survey at (away survey at), end_more calls calls (within_itself calls) (Rewrites shelf at.looked new host.site.key) (λ hand table. WritesTo (contents t) (contents u) hand.seats) (wrote_to survey at) host.site survey answer.end end_by)
 
       pub left : IsLeftBy host.drives answer.end (contents u)
       left = by answer.end ends.adopted where

@@ -4,12 +4,13 @@ use Rattle.std.specs.Bool.{MatchBool}
 use Rattle.mdv_base.proofs.Causes.{IsWithin}
 use Rattle.mdv_engine_law.specs.Below.{BootEnd, DriveNo, Drives, Identity, Key, Opened, Site, SliceLine, Table, Command, Create, Print, Read, Write}
 use Rattle.mdv_store.proofs.Passes.{left_as}
-use Rattle.mdv_store.specs.Boot.{IsEndBy, IsOnce, is_memory}
+use Rattle.mdv_store.specs.Boot.{IsEndBy, IsOnce, IsWrittenTo, is_memory}
 use Rattle.mdv_store.specs.Commit as commit
 use Rattle.mdv_store.specs.Create as create
 use Rattle.mdv_store.specs.Seats.{AreLeft, drive_of}
 use Rattle.mdv_store.specs.declared.booting.BootEnd.TheVariants as end
 use Rattle.mdv_store.specs.declared.seats.Seat.{Seat}
+use Rattle.mdv_survey.specs.declared.replica.Newest.{Newest}
 use Rattle.mdv_survey.specs.declared.replica.Replica.{Replica}
 use Rattle.mdv_survey.specs.declared.replica.Survey.{Survey}
 use Rattle.mdv_words.specs.declared.command.Command.TheVariants as command
@@ -35,6 +36,15 @@ pub record IsBlamed (one other : Blame) : Type 0 where
   pub none : one.none → other.none
   pub some : one.some → other.some
   pub lost : (active listed : ℕ) → one.lost active listed → other.lost active listed
+
+-- what was written, told of what each leads to
+written_more : (One Other : _ → Table → Type 0) → ((hand : _) (table : Table) → One hand table → Other hand table) → (newest : Newest) (replica : Replica) (seats : List Seat) (number : ℕ)
+    → IsWrittenTo One newest replica seats number → IsWrittenTo Other newest replica seats number
+written_more One Other so newest replica seats number is = record { hand = is.hand; identity_is = is.identity_is; number_is = is.number_is; seats_are = is.seats_are; wrote = so is.hand newest.table is.wrote }
+
+-- a stretch, told of itself
+pub within_itself : (failed : Outcomes) → AreWithin failed failed
+within_itself failed drive = record { some = λ is. is; none = λ is. is }
 
 module _ (failed more : Outcomes) (cause : AreWithin failed more) where
   pub calm_more : AreCalm failed → AreCalm more
@@ -76,15 +86,15 @@ module _ (failed more : Outcomes) (cause : AreWithin failed more) where
   lost_commit_more old table active listed is = record { new = is.new; calm = beside_more _ is.calm; lost = now_more old is.new table is.lost; active_is = is.active_is; listed_is = is.listed_is }
 
   -- and a boot's end
-  pub end_more : (Wrote : List Seat → Type 0) (site : Site) (survey : Survey) (e : BootEnd) → IsEndBy failed (λ hand table. Wrote hand.seats) site survey e → IsEndBy more (λ hand table. Wrote hand.seats) site survey e
-  end_more Wrote site survey (end.Adopted o) is = record { newest = is.newest; replica = is.replica; seats = is.seats; number = is.number; drawn = is.drawn; written = is.written; left = left_more _ _ _ is.left; enough = is.enough; is = is.is }
-  end_more Wrote site survey end.Empty is = is
-  end_more Wrote site survey (end.TwoDatabases a b) is = is
-  end_more Wrote site survey (end.NoQuorum readable needed) is = is
-  end_more Wrote site survey (end.Lost active listed) is =
-      record { newest = is.newest; replica = is.replica; seats = is.seats; number = is.number; drawn = is.drawn; now = is.now; written = is.written; left = left_more _ _ _ is.left; few = is.few; active_is = is.active_is; listed_is = is.listed_is }
-  end_more Wrote site survey end.Spent is = is
-  end_more Wrote site survey end.Memory is = is
+  pub end_more : (One Other : _ → Table → Type 0) → ((hand : _) (table : Table) → One hand table → Other hand table) → (site : Site) (survey : Survey) (e : BootEnd) → IsEndBy failed One site survey e → IsEndBy more Other site survey e
+  end_more One Other so site survey (end.Adopted o) is = record { newest = is.newest; replica = is.replica; seats = is.seats; number = is.number; drawn = is.drawn; written = written_more One Other so _ _ _ _ is.written; left = left_more _ _ _ is.left; enough = is.enough; is = is.is }
+  end_more One Other so site survey end.Empty is = is
+  end_more One Other so site survey (end.TwoDatabases a b) is = is
+  end_more One Other so site survey (end.NoQuorum readable needed) is = is
+  end_more One Other so site survey (end.Lost active listed) is =
+      record { newest = is.newest; replica = is.replica; seats = is.seats; number = is.number; drawn = is.drawn; now = is.now; written = written_more One Other so _ _ _ _ is.written; left = left_more _ _ _ is.left; few = is.few; active_is = is.active_is; listed_is = is.listed_is }
+  end_more One Other so site survey end.Spent is = is
+  end_more One Other so site survey end.Memory is = is
 
   -- why a command is answered so
   blocks_more : (host : Host) (memory : Memory) (volume : _) (at count : ℕ) → FailedBlocks failed host memory volume at count → FailedBlocks more host memory volume at count
@@ -118,7 +128,7 @@ module _ (failed more : Outcomes) (cause : AreWithin failed more) where
     calm = match_more clean _ _ _ _ (λ calm drive. (cause drive.0).none (calm drive)) (some_more host e) is.calm;
   }
 
-  pub read_more : (host : Host) (content : Image) (up : Drives) (e : BootEnd) (survey : Survey) → IsReadOf failed host content up e survey → IsReadOf more host content up e survey
+  abbrev pub read_more : (host : Host) (content : Image) (up : Drives) (e : BootEnd) (survey : Survey) → IsReadOf failed host content up e survey → IsReadOf more host content up e survey
   read_more host content up e survey is = record {
     calm = is.calm;
     were_up = is.were_up;

@@ -1,9 +1,11 @@
 -- How many calls on the drives a line makes, and how many blocks it writes.
-use Rattle.std.specs.Prelude.{◌≡◌, ℕ, ◌+◌, ◌*◌, Bool, true, if◌then◌else◌, List, length, Option, Some}
+use Rattle.std.specs.Prelude.{◌≡◌, ◌⊎◌, ℕ, ◌+◌, ◌*◌, Bool, true, false, List, length, Option, Some}
 use Rattle.mdv_base.specs.DriveSet.{no_drives}
 use Rattle.mdv_shelf.specs.Everywhere.{Image}
 use Rattle.mdv_shelf.specs.Failing.{Outcomes}
 use Rattle.mdv_shelf.specs.Made.{Made, and_more}
+use Rattle.mdv_look.specs.Looking.{reads_by}
+use Rattle.mdv_store.specs.Boot.{IsEndBy, is_memory}
 use Rattle.mdv_store.specs.BootCounts.{most_blocks, most_reads}
 use Rattle.mdv_store.specs.Booting.{has_written}
 use Rattle.mdv_store.specs.Counts.{drives_lost}
@@ -11,9 +13,10 @@ use Rattle.mdv_store.specs.Create.{blanked_asked, seats_asked}
 use Rattle.mdv_store.specs.Text.{blocks_for}
 use Rattle.mdv_store.specs.declared.booting.BootEnd.TheVariants as end
 use Rattle.mdv_survey.specs.Counts.{AreLinesBy}
+use Rattle.mdv_survey.specs.declared.replica.Survey.{Survey}
 use Rattle.mdv_words.specs.declared.command.Command.TheVariants.{MakeStripe, Print}
 use Rattle.mdv_words.specs.Line as words
-use Rattle.mdv_engine_law.specs.Below.{BootEnd, Command, Create, Drives, IoFault, Line, Opened, OutOfMemory, Read, Seat, SliceLine, Write, active_of, record_text}
+use Rattle.mdv_engine_law.specs.Below.{BootEnd, Command, Create, Drives, IoFault, Line, Opened, OutOfMemory, Read, Seat, SliceLine, Table, Write, active_of, record_text}
 use Rattle.mdv_engine_law.specs.declared.answer.Answer.{Answer}
 use Rattle.mdv_engine_law.specs.declared.answer.Answer.TheVariants.{Said, Over}
 use Rattle.mdv_engine_law.specs.declared.answer.Ended.TheVariants as ended
@@ -21,7 +24,7 @@ use Rattle.mdv_engine_law.specs.declared.answer.Outcome.TheVariants as outcome
 use Rattle.mdv_engine_law.specs.declared.host.Host.{Host}
 use Rattle.mdv_engine_law.specs.Hosts.{lines_asked}
 use Rattle.mdv_engine_law.specs.Answers.{accepted}
-use Rattle.mdv_engine_law.specs.Line.{IsUpBy, Kept, Memory, answered_by, opened_by}
+use Rattle.mdv_engine_law.specs.Line.{IsReadOf, IsUpBy, Kept, Memory, answered_by, opened_by}
 
 -- it makes none, and writes nothing
 abbrev pub NoCalls : Made → Type 0
@@ -95,32 +98,23 @@ EndCalls made reads (end.Lost active listed) = Unit {0}
 EndCalls made reads end.Spent = made.within reads reads 0
 EndCalls made reads end.Memory = Unit {0}
 
--- how many places the list has of a boot that writes
-abbrev pub in_hand : BootEnd → ℕ
-in_hand (end.Adopted o) = length o.seats
-in_hand end.Empty = 0
-in_hand (end.TwoDatabases a b) = 0
-in_hand (end.NoQuorum readable needed) = 0
-in_hand (end.Lost active listed) = listed
-in_hand end.Spent = 0
-in_hand end.Memory = 0
+-- how many calls its looks make at most, where these drives were up, and these of them answered every read
+abbrev pub looks_of : Host → (up calm : Drives) → ℕ
+looks_of host up calm = 2 * length host.site.drives + reads_by host.site up calm
 
--- it makes one call at least, and another one none
-abbrev pub least_of : BootEnd → ℕ
-least_of e = if has_written e then 1 else 0
+-- Behind so many calls of its looks at most two calls are made for a claim and six for the table at each of these places that was found, with a claim, two gates and the table's text; one at least.
+abbrev pub HandCalls : Made → ℕ → List Seat → Table → Type 0
+HandCalls made looks seats table = made.within 1 (looks + 8 * active_of seats) ((3 + blocks_for (length (record_text table))) * active_of seats)
 
--- and how many blocks it writes at most: a claim, two gates and the table's text at each of these places
-abbrev pub most_of : BootEnd → ℕ
-most_of (end.Adopted o) = (3 + blocks_for (length (record_text o.table))) * length o.seats
-most_of end.Empty = 0
-most_of (end.TwoDatabases a b) = 0
-most_of (end.NoQuorum readable needed) = 0
-most_of (end.Lost active listed) = 4097 * listed
-most_of end.Spent = 0
-most_of end.Memory = 0
+-- Its end is by what its looks read; it made no more calls than these, and those by which it wrote to the places that it has in hand.
+pub record EndsByCalls (calls : Outcomes) (made : Made) (host : Host) (content : Image) (up : Drives) (end : BootEnd) : Type 0 where
+  pub survey : Survey
+  pub read : IsReadOf calls host content up end survey
+  pub by_hand : IsEndBy calls (λ hand table. HandCalls made (looks_of host up read.calm) hand.seats table) host.site survey end
+  pub still : has_written end ≡ false → made.within 0 (looks_of host up read.calm) 0
 
--- A boot reads a block of each of the host's drives and syncs it, and each head and each body of an open slot once, where no call failed; and then writes to each active place. Whatever failed, it takes no more looks than there are drives, and one; where it
--- adopts or is lost it began to write, by no more calls, and no more blocks, than the places of its list take, found or not, fifty at most; and else it writes nothing.
+-- A boot reads a block of each of the host's drives and syncs it, and each head and each body of an open slot once, where no call failed; and then writes to each active place. Whatever failed, it takes no more looks than there are drives of which a read failed, and one; where it
+-- adopts or is lost it began to write, by no more calls, and no more blocks, than the places take that it found of the newest table's list; and else it writes nothing.
 pub record BootCalls (calls : Outcomes) (made : Made) (host : Host) (answer : Answer) (memory : Memory) (content : Image) : Type 0 where
   pub most : made.within 0 (2 * length host.site.drives + most_reads host.site + 8 * 50) most_blocks
   pub end : BootEnd
@@ -129,7 +123,8 @@ pub record BootCalls (calls : Outcomes) (made : Made) (host : Host) (answer : An
   pub clean : Bool
   pub by : IsUpBy calls host end up clean
   pub tied : answer ≡ accepted → (memory.opened ≡ opened_by end) × (memory.up ≡ up) × (memory.clean ≡ clean)
-  pub within : made.within (least_of end) (2 * length host.site.drives + most_reads host.site + 8 * in_hand end) (most_of end)
+  pub by_hand : (is_memory end ≡ true) ⊎ EndsByCalls calls made host content up end
+  pub still : has_written end ≡ false → made.within 0 (2 * length host.site.drives + most_reads host.site) 0
   pub wrote : has_written end ≡ true → made.wrote
   pub exactly : clean ≡ true → (reads : ℕ) × AreLinesBy host.drives host.site up no_drives content host.site.lines reads × EndCalls made (2 * length host.site.drives + reads) end
 

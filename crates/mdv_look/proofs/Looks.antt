@@ -1,6 +1,6 @@
 -- Looks at a site's slices, on fewer drives each time.
-use Rattle.std.proofs.Common.{◌≡◌, ◌≢◌, ◌⊎◌, inl, inr, ℕ, zero, suc, ◌+◌, ◌*◌, ◌≤◌, ◌<◌, Bool, true, false, not, ◌&&◌, List, [], ◌∷◌, ◌++◌, length, Contains, Some, Result, Ok, slice_index_or, refl, sym, ◌∙◌, ap, subst, cond, arith}
-use Rattle.std.specs.Prelude.{count_by}
+use Rattle.std.proofs.Common.{◌≡◌, ◌≢◌, ◌⊎◌, inl, inr, ℕ, zero, suc, ◌+◌, ◌*◌, ◌≤◌, ◌<◌, Bool, true, false, not, ◌&&◌, List, [], ◌∷◌, ◌++◌, length, Contains, Some, Result, Ok, Err, slice_index_or, refl, sym, ◌∙◌, ap, subst, cond, arith}
+use Rattle.std.specs.Prelude.{IfOk, count_by}
 use Rattle.std.specs.Bool.{MatchBool}
 use Rattle.std.proofs.Math.Nat.{mul-le-mul_left}
 use Rattle.std.proofs.lemmas.Result.{IfOk-weaker}
@@ -14,7 +14,7 @@ use Rattle.mdv_survey.specs.Replica.{Contents}
 use Rattle.mdv_survey.specs.Survey.{AreWithin, HaveFailed, IsSurvey, IsSurveyOf, answers_in}
 use Rattle.mdv_survey.specs.declared.replica.Survey.{Survey}
 use Rattle.mdv_look.specs.Below.{DriveNo, Drives, Geometry, Ghosts, Site, SliceLine, Tale, has_drive, last}
-use Rattle.mdv_look.specs.Looking.{AreCalmBy, AreLeftOf, HasFailedOn, HaveAnswered, IsLookCounted, IsLooked, IsLookedAt}
+use Rattle.mdv_look.specs.Looking.{AreCalmBy, AreLeftOf, HasFailedOn, HaveAnswered, IsLookCounted, IsLooked, IsLookedAt, reads_by}
 use Rattle.mdv_look.specs.declared.looking.Looked.{Looked}
 use Rattle.mdv_look.proofs.Bringing.{count_cons, is_drive}
 use Rattle.mdv_look.proofs.Few.{few_more, few_wider}
@@ -252,6 +252,7 @@ module _ {S : Type 0} (shelf : Ghosts S) (g : Geometry) (site : Site) (old mid :
     pub counted_here : IsCounted shelf old mid (765 * length site.lines) (λ t n. AreLinesBy g site up found.failed (last t) site.lines n) → {E : Type 0} → IsLookCounted {E = E} shelf old mid g site up (Ok (record { survey = found; calm = left }))
     counted_here counted {E} = record {
       few = few_wider shelf old mid (765 * length site.lines) ((1 + count_by (has_drive up) site.drives) * (765 * length site.lines)) (omega arith) (counted.calls, counted.few, counted.made);
+      some = few_wider shelf old mid (765 * length site.lines) (reads_by site up left) (omega arith) (counted.calls, counted.few, counted.made);
       once = λ answered t is. (counted.calls, counted.made, lines_by g site up found.failed (last t) site.lines counted.calls (λ line one_of so. calm_up line.at.drive (brought line one_of) so) (counted.by t is));
     }
 
@@ -288,6 +289,27 @@ module _ {S : Type 0} (shelf : Ghosts S) (g : Geometry) (site : Site) (old mid :
         let left_in : has_drive left has.drive ≡ true = at.calm.is_up has.drive (answered has.drive has.one_of has.is_up) in
         cc (none_failed has.drive left_in, has.has)
 
+    -- the drive on which one failed is one more that didn't answer every read
+    fewer_silent : (calm : Drives) → ((drive : DriveNo) → has_drive calm drive ≡ true → has_drive left drive ≡ true)
+        → count_by (λ (drive : DriveNo). has_drive left drive && not (has_drive calm drive)) site.drives < count_by (λ (drive : DriveNo). has_drive up drive && not (has_drive calm drive)) site.drives
+    fewer_silent calm within =
+        let out : has_drive left has.drive ≡ false = are.each has.drive has.one_of ∙ failed_not (has_drive up has.drive) (has_drive found.failed has.drive) has.has in
+        let silent : has_drive calm has.drive ≡ false = elim (cases_bool (has_drive calm has.drive)) [ inl so ↦ absurd (cc (within has.drive so, out)) | inr so ↦ so ] in
+        count_less (λ (drive : DriveNo). has_drive left drive && not (has_drive calm drive)) (λ (drive : DriveNo). has_drive up drive && not (has_drive calm drive)) site.drives has.one_of.0 has.drive has.one_of.1 has.one_of.2
+        (λ d one_of so. yes_not (has_drive up d) (has_drive calm d) (was_up d (and_first (has_drive left d) (not (has_drive calm d)) so)) (no_more (has_drive calm d) (and_second (has_drive left d) (not (has_drive calm d)) so)))
+        (up_not (has_drive left has.drive) (has_drive calm has.drive) out) (yes_not (has_drive up has.drive) (has_drive calm has.drive) has.is_up silent)
+
+    some_more : (calm : Drives) → ((drive : DriveNo) → has_drive calm drive ≡ true → has_drive left drive ≡ true) → MadeFew shelf old mid (765 * length site.lines) → MadeFew shelf mid new (reads_by site left calm) → MadeFew shelf old new (reads_by site up calm)
+    some_more calm within first second =
+        let fewer = fewer_silent calm within in
+        let larger : 2 + count_by (λ (drive : DriveNo). has_drive left drive && not (has_drive calm drive)) site.drives ≤ 1 + count_by (λ (drive : DriveNo). has_drive up drive && not (has_drive calm drive)) site.drives = omega (arith, fewer) in
+        let all = mul-le-mul_left (765 * length site.lines) larger in
+        few_more shelf old mid new (765 * length site.lines) (reads_by site left calm) (reads_by site up calm) (omega (arith, all)) first second
+
+    some_both : (r : Result Looked E) → IfOk r (IsLookedAt shelf mid new g site left) → MadeFew shelf old mid (765 * length site.lines) → IfOk r (λ looked. MadeFew shelf mid new (reads_by site left looked.calm)) → IfOk r (λ looked. MadeFew shelf old new (reads_by site up looked.calm))
+    some_both (Ok looked) at first second = some_more looked.calm at.calm.is_up first second
+    some_both (Err fault) at first second = tt
+
     pub counted_more : MadeFew shelf old mid (765 * length site.lines) → IsLookCounted shelf mid new g site left result → IsLookCounted shelf old new g site up result
     counted_more first second = record {
       few =
@@ -295,5 +317,6 @@ module _ {S : Type 0} (shelf : Ghosts S) (g : Geometry) (site : Site) (old mid :
           let larger : 2 + count_by (has_drive left) site.drives ≤ 1 + count_by (has_drive up) site.drives = omega (arith, less) in
           let all = mul-le-mul_left (765 * length site.lines) larger in
           few_more shelf old mid new (765 * length site.lines) ((1 + count_by (has_drive left) site.drives) * (765 * length site.lines)) ((1 + count_by (has_drive up) site.drives) * (765 * length site.lines)) (omega (arith, all)) first second.few;
+      some = some_both result inner.found first second.some;
       once = IfOk-weaker result (IsLookedAt shelf mid new g site left) _ (λ looked at answered t is. absurd (never looked at answered)) inner.found;
     }

@@ -51,7 +51,7 @@ module _ {S : Type 0} (shelf : Ghosts S) (old new : S) (g : Geometry) (site : Si
       few_wider shelf old new ((1 + count_by (has_drive all) site.drives) * (765 * length site.lines)) (most_reads site) (omega (arith, product)) counted.few
 
   pub peeked : {E : Type 0} (looked : Looked) (result : Result Table PeekRefusal) → IsLookedAt shelf old new g site all looked → IsLookCounted {E = E} shelf old new g site all (Ok looked) → IsPeekBy looked.survey result → IsPeeked shelf old new g site result
-  peeked looked result at counted by = record { all = all; are = are; few = few_of (Ok looked) counted; ended = inr (record { looked = looked; at = at; by = by; once = counted.once }) }
+  peeked looked result at counted by = record { all = all; are = are; few = few_of (Ok looked) counted; ended = inr (record { looked = looked; at = at; by = by; some = counted.some; once = counted.once }) }
 
   pub unpeeked : {E : Type 0} (fault : E) → IsLookCounted shelf old new g site all (Err fault) → IsPeeked shelf old new g site (Err refused.Memory)
   unpeeked fault counted = record { all = all; are = are; few = few_of (Err fault) counted; ended = inl refl }

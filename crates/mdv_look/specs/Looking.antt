@@ -1,5 +1,5 @@
 -- What the look of a boot finds, on the drives that answer every read.
-use Rattle.std.specs.Prelude.{◌≡◌, ◌*◌, ◌+◌, ℕ, true, false, Contains, List, length, count_by, Some, Result, IfOk}
+use Rattle.std.specs.Prelude.{◌≡◌, ◌*◌, ◌+◌, ◌&&◌, ℕ, true, false, not, Contains, List, length, count_by, Some, Result, IfOk}
 use Rattle.std.specs.Bool.{MatchBool}
 use Rattle.mdv_base.specs.DriveSet.{no_drives}
 use Rattle.mdv_shelf.specs.Shelves.{DriveFailures}
@@ -54,8 +54,13 @@ HaveAnswered site up calm = (drive : DriveNo) → Contains site.drives drive →
 abbrev pub most_reads : Site → ℕ
 most_reads site = (1 + length site.drives) * (765 * length site.lines)
 
+-- at most so many, for as many looks as there are drives that are up and didn't answer every read, and one
+abbrev pub reads_by : Site → (up calm : Drives) → ℕ
+reads_by site up calm = (1 + count_by (λ (drive : DriveNo). has_drive up drive && not (has_drive calm drive)) site.drives) * (765 * length site.lines)
+
 -- Where no read failed each head and each body of an open slot was read once. A look at all slices takes 765 reads at most of each, and there are no more
--- looks than drives that are up, and one.
+-- looks than drives of which a read failed, and one; where memory was wanting, than drives that are up, and one.
 pub record IsLookCounted {S E : Type 0} (shelf : Ghosts S) (old new : S) (g : Geometry) (site : Site) (up : Drives) (result : Result Looked E) : Type 0 where
   pub few : MadeFew shelf old new ((1 + count_by (has_drive up) site.drives) * (765 * length site.lines))
+  pub some : IfOk result (λ looked. MadeFew shelf old new (reads_by site up looked.calm))
   pub once : IfOk result (λ looked. HaveAnswered site up looked.calm → (t : Tale) → shelf.tale old ≡ Some t → (n : ℕ) × MadeReads shelf old new n × AreLinesBy g site up no_drives (last t) site.lines n)

@@ -8,7 +8,7 @@ use Rattle.mdv_survey.specs.declared.replica.Newest.{Newest}
 use Rattle.mdv_survey.specs.declared.replica.Survey.{Survey}
 use Rattle.mdv_table.specs.declared.table.Table.{Table}
 use Rattle.mdv_look.specs.Below.{DriveNo, Drives, Geometry, Ghosts, Site, Tale, has_drive, last}
-use Rattle.mdv_look.specs.Looking.{HaveAnswered, IsLookedAt, most_reads}
+use Rattle.mdv_look.specs.Looking.{HaveAnswered, IsLookedAt, most_reads, reads_by}
 use Rattle.mdv_look.specs.declared.looking.Looked.{Looked}
 use Rattle.mdv_look.specs.declared.peeking.PeekRefusal.{PeekRefusal}
 use Rattle.mdv_look.specs.declared.peeking.PeekRefusal.TheVariants as refused
@@ -38,11 +38,12 @@ IsPeekBy survey (Err (refused.TwoDatabases a b)) = IsChoice survey (chosen.TwoDa
 IsPeekBy survey (Err refused.Memory) = Unit {0}
 
 -- All drives of the site were looked at, as a boot looks at those that are up, and the answer is by what the ones that answered every read hold. Where all of them
--- did, each head and each body of an open slot was read once.
+-- did, each head and each body of an open slot was read once; else there are no more looks than drives of which a read failed, and one.
 pub record IsPeekOf {S : Type 0} (shelf : Ghosts S) (old new : S) (g : Geometry) (site : Site) (all : Drives) (result : Result Table PeekRefusal) : Type 0 where
   pub looked : Looked
   pub at : IsLookedAt shelf old new g site all looked
   pub by : IsPeekBy looked.survey result
+  pub some : MadeFew shelf old new (reads_by site all looked.calm)
   pub once : HaveAnswered site all looked.calm → (t : Tale) → shelf.tale old ≡ Some t → (n : ℕ) × MadeReads shelf old new n × AreLinesBy g site all no_drives (last t) site.lines n
 
 -- So it was, or memory was wanting. There are no more looks than drives, and one.

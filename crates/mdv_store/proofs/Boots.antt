@@ -43,7 +43,7 @@ use Rattle.mdv_store.specs.Booting.{AreOfBoot, BootEnds, BootGoes, BootMoment, H
 use Rattle.mdv_look.specs.Bringing.{AreSynced, AreUpBy, BringingEnds, IsBringingCounted}
 use Rattle.mdv_store.specs.Commit.{AnyLog, AnyWorld}
 use Rattle.mdv_store.specs.Counts.{MadeCallsBetween}
-use Rattle.mdv_look.specs.Looking.{AreCalmBy, HaveAnswered, IsLookedAt}
+use Rattle.mdv_look.specs.Looking.{AreCalmBy, HaveAnswered, IsLookedAt, reads_by}
 use Rattle.mdv_look.specs.Quiet.{IsUnwritten}
 use Rattle.mdv_store.specs.Letters.{AreLettersOf}
 use Rattle.mdv_store.specs.Records.{Spells}
@@ -301,10 +301,13 @@ module _ {S : Type 0} (shelf : Ghosts S) (site : Site) (old m1 : S) (up : Drives
       }
 
     -- what was read was made something of
-    module _ (sound : IsSound g) (on : IsOnShelf (shelf.sizes old) site) (of_site : site ≡ site_of g site.key) (looked : Looked) (at : IsLookedAt shelf m1 m2 g site up looked) (new : S) (taken : Taken) (answer : IsTaken shelf m2 new site looked taken)
+    module _ (sound : IsSound g) (on : IsOnShelf (shelf.sizes old) site) (of_site : site ≡ site_of g site.key) (looked : Looked) (at : IsLookedAt shelf m1 m2 g site up looked) (l_some : MadeFew shelf m1 m2 (reads_by site up looked.calm)) (new : S) (taken : Taken) (answer : IsTaken shelf m2 new site looked taken)
         (t_kept : KeptAmong shelf m2 new (drives_read looked.survey.replicas)) (calm : Bool) (all : AreAllIn calm site.drives looked.calm) (clean : Bool) (clean_is : clean ≡ (calm && (taken.calm && not (is_memory taken.end)))) (letters : List Flags) (letters_are : AreLettersOf site looked.survey looked.calm letters) where
       abbrev faults_at : S → DriveNo → ℕ
       faults_at s drive = shelf.faults s (OnDrive drive.0)
+
+      looks_some : MadeFew shelf old m2 (2 * length site.drives + reads_by site up looked.calm)
+      looks_some = few_more shelf old m1 m2 (2 * length site.drives) (reads_by site up looked.calm) _ (omega arith) (b_counted.calls, b_counted.by.most, b_counted.made) l_some
 
       calm_up : (drive : DriveNo) → has_drive looked.calm drive ≡ true → has_drive up drive ≡ true
       calm_up = at.calm.is_up
@@ -378,7 +381,7 @@ module _ {S : Type 0} (shelf : Ghosts S) (site : Site) (old m1 : S) (up : Drives
         looked = m2;
         unwritten = subst (λ (o : Option Tale). Moments IsUnwritten (shelf.tale old) o) (sym l_same) b_moments;
         before = look_kept;
-        reads = looks_few;
+        reads = looks_some;
         behind = among_wider shelf m2 new (drives_read looked.survey.replicas) site.drives read_within t_kept;
         answered = calm_faults;
         calm = looked.calm;

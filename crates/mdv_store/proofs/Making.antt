@@ -19,7 +19,7 @@ use Rattle.mdv_store.specs.Create.{AreAsked, CreateAnswer, CreateEnds, CreateMom
 use Rattle.mdv_store.specs.Opened.{IsOpen, Opened, least_room}
 use Rattle.mdv_store.specs.Seats.{AreLaid, AreLeft, TakesSlot, active_of, drives_of, is_half_active, replicas_of}
 use Rattle.mdv_store.specs.Text.{blocks_for}
-use Rattle.mdv_store.specs.Writing.{WritingEnds, WritingMoment}
+use Rattle.mdv_store.specs.Writing.{WereWritten, WritingEnds, WritingMoment}
 use Rattle.mdv_store.specs.declared.creating.CreateFault.{CreateFault}
 use Rattle.mdv_store.specs.declared.creating.CreateFault.TheVariants as unmade
 use Rattle.mdv_store.specs.declared.seats.Seat.{Seat}
@@ -175,7 +175,7 @@ module _ {S : Type 0} (shelf : Ghosts S) (key : Key) (identity : Identity) (line
     all_kept kept = among_more shelf a b c drives s.calm s.kept (write_kept kept)
 
     -- each place was formatted
-    abbrev were_formed : ArePassCounted shelf b c 6 (2 + blocks_for bytes) seats new → KeptAmong shelf b c (drives_of seats) → AtEachTale shelf (WritingMoment seats first_mark table) b c → AtEnd shelf (WritingEnds seats new first_mark table) b c → WereFormed shelf a c key identity lines count blocks
+    abbrev were_formed : WereWritten shelf first_mark table b c seats new → KeptAmong shelf b c (drives_of seats) → AtEachTale shelf (WritingMoment seats first_mark table) b c → AtEnd shelf (WritingEnds seats new first_mark table) b c → WereFormed shelf a c key identity lines count blocks
     were_formed pass kept moments ends = record {
       formed = b;
       gone = s;
@@ -195,7 +195,8 @@ module _ {S : Type 0} (shelf : Ghosts S) (key : Key) (identity : Identity) (line
       now = new;
       left = left;
       tried = tried;
-      counted = pass;
+      steps = pass.steps;
+      counted = pass.counted;
       ends = ends;
     }
 
@@ -256,10 +257,10 @@ module _ {S : Type 0} (shelf : Ghosts S) (key : Key) (identity : Identity) (line
     lost_answer : (some listed : ℕ) → is_half_active new ≡ false → some ≡ active_of new → listed ≡ length new → CreateAnswer (DriveFailures shelf a c) key identity lines count blocks (Err (unmade.Lost some listed))
     lost_answer some listed few is are = record { now = new; tried = tried; few = few; active_is = is; listed_is = are }
 
-    pub made_created : is_half_active new ≡ true → ArePassCounted shelf b c 6 (2 + blocks_for bytes) seats new → KeptAmong shelf b c (drives_of seats) → AtEachTale shelf (WritingMoment seats first_mark table) b c → AtEnd shelf (WritingEnds seats new first_mark table) b c → IsCreated shelf a c key identity lines count blocks (Ok made)
+    pub made_created : is_half_active new ≡ true → WereWritten shelf first_mark table b c seats new → KeptAmong shelf b c (drives_of seats) → AtEachTale shelf (WritingMoment seats first_mark table) b c → AtEnd shelf (WritingEnds seats new first_mark table) b c → IsCreated shelf a c key identity lines count blocks (Ok made)
     made_created half pass kept moments ends = record { came = made_answer half; formed = (were_formed pass kept moments ends, refl, new_laid kept) }
 
-    pub lost_created : (some listed : ℕ) → is_half_active new ≡ false → some ≡ active_of new → listed ≡ length new → ArePassCounted shelf b c 6 (2 + blocks_for bytes) seats new → KeptAmong shelf b c (drives_of seats) → AtEachTale shelf (WritingMoment seats first_mark table) b c → AtEnd shelf (WritingEnds seats new first_mark table) b c → IsCreated shelf a c key identity lines count blocks (Err (unmade.Lost some listed))
+    pub lost_created : (some listed : ℕ) → is_half_active new ≡ false → some ≡ active_of new → listed ≡ length new → WereWritten shelf first_mark table b c seats new → KeptAmong shelf b c (drives_of seats) → AtEachTale shelf (WritingMoment seats first_mark table) b c → AtEnd shelf (WritingEnds seats new first_mark table) b c → IsCreated shelf a c key identity lines count blocks (Err (unmade.Lost some listed))
     lost_created some listed few is are pass kept moments ends = record { came = lost_answer some listed few is are; formed = (were_formed pass kept moments ends, is, are) }
 
     pub made_end : is_half_active new ≡ true → AtEnd shelf (WritingEnds seats new first_mark table) b c → AtEnd shelf (Ended (Ok made)) a c

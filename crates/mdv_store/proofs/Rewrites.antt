@@ -19,7 +19,7 @@ use Rattle.mdv_store.specs.BootCounts.{most_blocks}
 use Rattle.mdv_store.specs.Claims.{ClaimingEnds, ClaimingMoment}
 use Rattle.mdv_store.specs.Counts.{ArePassCounted, MadeCallsBetween, drives_lost}
 use Rattle.mdv_store.specs.Opened.{IsOpen, Opened, least_room}
-use Rattle.mdv_store.specs.Passing.{IsPassing, slotting}
+use Rattle.mdv_store.specs.Passing.{IsPassing, WentBy, WentOver, claiming, slotting}
 use Rattle.mdv_store.specs.Seats.{AreLaid, AreLeft, HaveRoom, IsLaid, TakesClaim, TakesSlot, active_of, drive_of, drives_of, replicas_of, seats_area}
 use Rattle.mdv_store.specs.Slots.{SlottingEnds, SlottingMoment}
 use Rattle.mdv_store.specs.Taking.{IsCalmOn, IsReadied, IsRewriteAnswer, IsRewriteEnd, IsTakingCounted, MadeRewriteCalls, RewriteEnds, RewriteMoment, StaySynced, WereClaimed, WerePassed, WereSlotted}
@@ -37,6 +37,7 @@ use Rattle.mdv_look.proofs.Quiet.{quiet_more, quiet_wider}
 use Rattle.mdv_store.proofs.Quorums.{more_enough}
 use Rattle.mdv_store.proofs.Rewriting.{blank_goes, both_none_above, claims_go, ends_go, opened, rest_goes, slots_go}
 use Rattle.mdv_store.proofs.Sitting.{active_most, left_count, left_replica, left_seats, some_active}
+use Rattle.mdv_store.proofs.Texts.{spelled_long}
 
 -- at most fifty are active
 few_active : (seats : List Seat) → length seats ≤ 50 → active_of seats ≤ 50
@@ -44,7 +45,10 @@ few_active seats few = omega (arith, few, active_most seats)
 
 module _ {S : Type 0} (shelf : Ghosts S) (key : Key) (hand : Hand) (table : Table) (ready : IsReadied hand table) (old mid : S) (now : List Seat)
     (left : AreLeft (DriveFailures shelf old mid) (TakesClaim hand.number) hand.seats now) (moments : AtEachTale shelf (ClaimingMoment hand.seats hand.number) old mid) (ends : AtEnd shelf (ClaimingEnds hand.seats now hand.number) old mid)
-    (counted : ArePassCounted shelf old mid 2 1 hand.seats now) (kept : KeptAmong shelf old mid (drives_of hand.seats)) where
+    (passed : WentOver shelf (claiming hand.number) old mid hand.seats now) (kept : KeptAmong shelf old mid (drives_of hand.seats)) where
+  counted : ArePassCounted shelf old mid 2 1 hand.seats now
+  counted = passed.counted
+
   claim_drive : (r m : Replica) → TakesClaim hand.number r m → drive_of m ≡ drive_of r
   claim_drive r m took = ap drive_of took
 
@@ -76,7 +80,7 @@ module _ {S : Type 0} (shelf : Ghosts S) (key : Key) (hand : Hand) (table : Tabl
   first_wrote = pass_wrote shelf old mid 2 1 hand.seats now (omega arith) some_active_then counted
 
   claimed_all : WereClaimed shelf old mid hand.number hand.seats now
-  claimed_all = record { left = left; counted = counted; end = ends }
+  claimed_all = record { left = left; steps = passed.steps; counted = counted; end = ends }
 
   -- not enough claimed
   module _ (few : is_enough key now ≡ false) (taken : Taken) (end_is : taken.end ≡ end.Lost (active_of now) (length now)) (calm_is : taken.calm ≡ false) where
@@ -122,7 +126,10 @@ module _ {S : Type 0} (shelf : Ghosts S) (key : Key) (hand : Hand) (table : Tabl
   -- enough claimed, and the table was written
   module _ (enough : is_enough key now ≡ true) (bytes : ℕ) (body : List (List ℕ)) (spelled : IsSpelled table bytes body) (new : S) (last : List Seat) (left_last : AreLeft (DriveFailures shelf mid new) (TakesSlot (drawn hand.number) bytes) now last)
       (slot_moments : AtEachTale shelf (SlottingMoment now (drawn hand.number) bytes body) mid new) (slot_ends : AtEnd shelf (SlottingEnds now last (drawn hand.number) bytes body) mid new)
-      (slot_counted : ArePassCounted shelf mid new 6 (2 + length body) now last) (slot_kept : KeptAmong shelf mid new (drives_of now)) where
+      (slot_passed : WentOver shelf (slotting (drawn hand.number) bytes body) mid new now last) (slot_kept : KeptAmong shelf mid new (drives_of now)) where
+    slot_counted : ArePassCounted shelf mid new 6 (2 + length body) now last
+    slot_counted = slot_passed.counted
+
     slot_drive : (r m : Replica) → TakesSlot (drawn hand.number) bytes r m → drive_of m ≡ drive_of r
     slot_drive r m took = ap drive_of took.2
 
@@ -145,7 +152,7 @@ module _ {S : Type 0} (shelf : Ghosts S) (key : Key) (hand : Hand) (table : Tabl
     both_wrote = rose_then 1 _ 1 (shelf.written old) (shelf.written mid) (shelf.written new) (omega arith) first_wrote slot_counted.wrote
 
     long : length body ≡ blocks_for (length (record_text table))
-    long = spelled.blocks ∙ ap blocks_for spelled.counted
+    long = spelled_long table bytes body spelled
 
     -- the table was written to each place that claimed
     both_passed : WerePassed shelf old new key hand table
@@ -156,6 +163,11 @@ module _ {S : Type 0} (shelf : Ghosts S) (key : Key) (hand : Hand) (table : Tabl
       first = claimed_all;
       behind = subst (λ (b : Bool). MatchBool b (WereSlotted shelf mid new (drawn hand.number) table now last) ((new ≡ mid) × (last ≡ now))) (sym enough) (record {
         left = subst (λ (n : ℕ). AreLeft (DriveFailures shelf mid new) (TakesSlot (drawn hand.number) n) now last) spelled.counted left_last;
+        steps = (
+          body,
+          subst (λ (n : ℕ). IsSpelled table n body) spelled.counted spelled,
+          subst (λ (n : ℕ). WentBy shelf (slotting (drawn hand.number) n body) mid now (length now) new last) spelled.counted slot_passed.steps,
+        );
         counted = subst (λ (n : ℕ). ArePassCounted shelf mid new 6 (2 + n) now last) long slot_counted;
         end = λ t is. (let e = slot_ends t is in (
           e.0,

@@ -19,7 +19,7 @@ use Rattle.mdv_shelf.proofs.Counts.{took_more}
 use Rattle.mdv_shelf.proofs.Moments.{ends_more, moments_after, moments_end, moments_none}
 use Rattle.mdv_store.specs.Below.{Ghosts, Replica}
 use Rattle.mdv_store.specs.Counts.{ArePassCounted, MadeCallsBetween, different, drives_lost, drives_under}
-use Rattle.mdv_store.specs.Passing.{AreThen, IsActiveAt, IsFailed, IsPassing, IsStep, IsStepAt, IsTaken, IsTried, IsWriteOf, Passed, Writing, begun, beside, left_on, lost, took}
+use Rattle.mdv_store.specs.Passing.{AreThen, IsActiveAt, IsFailed, IsPassing, IsStep, IsStepAt, IsTaken, IsTried, IsWriteOf, Passed, WentBy, WentOver, Writing, begun, beside, left_on, lost, took}
 use Rattle.mdv_store.specs.Passing as step
 use Rattle.mdv_store.specs.Seats.{AreLeft, IsLeft, active_of, drive_of, drives_of, replicas_of}
 use Rattle.mdv_store.specs.declared.seats.Seat.{Seat}
@@ -517,7 +517,7 @@ module _ {S : Type 0} (shelf : Ghosts S) (w : Writing) (old : S) (ss : List Seat
     pub whole_end : AtEnd shelf (λ t u. Passed w (replicas_of ss) t (replicas_of ns) [] u) old now
     whole_end = come_over.end
 
-    pub whole_counted : ArePassCounted shelf old now w.calls w.blocks ss ns
+    whole_counted : ArePassCounted shelf old now w.calls w.blocks ss ns
     whole_counted = record {
       none = come_over.none;
       all = λ some every. come_over.all some (omega (arith, every));
@@ -525,6 +525,15 @@ module _ {S : Type 0} (shelf : Ghosts S) (w : Writing) (old : S) (ss : List Seat
           subst (λ (l : List Seat). MadeCallsBetween shelf old now (w.calls * active_of ns + drives_lost ss l) (w.calls * active_of ss) (w.blocks * active_of ss)) (append-nil ns) come_over.some;
       wrote = subst (λ (l : List Seat). RoseByAtLeast (w.blocks * active_of ns + drives_lost ss l) (shelf.written old) (shelf.written now)) (append-nil ns) come_over.wrote;
     }
+
+    index_over : index ≡ length ss
+    index_over =
+        let long = ap length so.ns_is ∙ length-append so.done so.due in
+        let same = so_far_length now ns index so in
+        omega (arith, long, same, over, so.index_is)
+
+    pub whole_over : WentBy shelf w old ss index now ns → WentOver shelf w old now ss ns
+    whole_over steps = record { steps = subst (λ (k : ℕ). WentBy shelf w old ss k now ns) index_over steps; counted = whole_counted }
 
 -- What was written to the replica at the place of this number, as the list was read there, and what became of the list.
 module _ {S : Type 0} (shelf : Ghosts S) (w : Writing) (old new : S) (before now read : List Seat) (index : ℕ) (one other : Seat) (r : Replica) (within : index < length before) (same : read ≡ before)

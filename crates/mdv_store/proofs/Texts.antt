@@ -9,6 +9,10 @@ use Rattle.mdv_record.proofs.Lengths.{length-record_text}
 use Rattle.mdv_store.specs.Below.{Table, record_text}
 use Rattle.mdv_store.specs.Text.{IsSpelled, blocks_for}
 
+-- a body has just the blocks that its table's text takes
+pub spelled_long : (table : Table) (bytes : ℕ) (body : List (List ℕ)) → IsSpelled table bytes body → length body ≡ blocks_for (length (record_text table))
+spelled_long table bytes body spelled = spelled.blocks ∙ ap blocks_for spelled.counted
+
 -- a table's text isn't empty
 pub text_some : (table : Table) → 1 ≤ length (record_text table)
 text_some table = omega (arith, length-record_text table)

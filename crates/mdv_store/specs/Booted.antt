@@ -7,6 +7,7 @@ use Rattle.mdv_survey.specs.Survey.{IsSurvey, IsSurveyOf}
 use Rattle.mdv_survey.specs.declared.replica.Survey.{Survey}
 use Rattle.mdv_store.specs.Below.{DriveNo, Drives, Geometry, Ghosts, Site, Tale, has_drive, last}
 use Rattle.mdv_look.specs.Bringing.{AreUpBy, BringingEnds, IsBringingCounted}
+use Rattle.mdv_look.specs.Looking.{reads_by}
 use Rattle.mdv_look.specs.Quiet.{IsUnwritten}
 use Rattle.mdv_store.specs.Letters.{AreLettersOf}
 use Rattle.mdv_store.specs.Seats.{AreLaid}
@@ -14,7 +15,6 @@ use Rattle.mdv_store.specs.declared.booting.Booted.{Booted}
 use Rattle.mdv_base.specs.DriveSet.{no_drives}
 use Rattle.mdv_survey.specs.Counts.{AreLinesBy, MadeFew, MadeReads}
 use Rattle.mdv_store.specs.Boot.{IfAdopted, IsEndBy, IsOnce, is_memory}
-use Rattle.mdv_store.specs.BootCounts.{most_reads}
 use Rattle.mdv_store.specs.Booting.{has_written}
 use Rattle.mdv_store.specs.Taking.{Rewrites}
 
@@ -28,16 +28,16 @@ pub record WasBroughtUp {S : Type 0} (shelf : Ghosts S) (old new : S) (site : Si
   pub behind : KeptAmong shelf ready new site.drives
 
 -- What was read in the last look, of the drives that were up and on which no call had failed, and of no other one: what the blocks held as the boot began. On each
--- other drive a call had failed before that look; in it each head and each body of an open slot was read once. Till its end reads and syncs were all that was done, and nothing
--- was written, nor was a write begun that took nothing. Where nothing is adopted nothing was done behind it.
+-- other drive a call had failed before that look; in it each head and each body of an open slot was read once. Till its end reads and syncs were all that was done: no more looks
+-- than drives that are up and of which a read failed, and one; nothing was written, nor was a write begun that took nothing. Where nothing is adopted nothing was done behind it.
 pub record IsReadAt {S : Type 0} (shelf : Ghosts S) (old new : S) (g : Geometry) (site : Site) (answer : Booted) (survey : Survey) : Type 0 where
   pub begun : S
   pub looked : S
   pub unwritten : AtEachTale shelf IsUnwritten old looked
-  pub reads : MadeFew shelf old looked (2 * length site.drives + most_reads site)
   pub before : KeptAmong shelf old looked site.drives
   pub behind : KeptAmong shelf looked new site.drives
   pub calm : Drives
+  pub reads : MadeFew shelf old looked (2 * length site.drives + reads_by site answer.up calm)
   pub up : (drive : DriveNo) → has_drive calm drive ≡ true → has_drive answer.up drive ≡ true
   pub failed : (drive : DriveNo) → Contains site.drives drive → has_drive calm drive ≡ false → (DriveFailures shelf old begun drive.0).some × (DriveFailures shelf old new drive.0).some
   pub once : (t : Tale) → shelf.tale old ≡ Some t → (n : ℕ) × MadeReads shelf begun looked n × AreLinesBy g site calm no_drives (last t) site.lines n

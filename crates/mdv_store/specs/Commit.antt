@@ -9,7 +9,7 @@ use Rattle.mdv_store.specs.Opened.{IsOpenedAt, Opened}
 use Rattle.mdv_look.specs.Quiet.{IsQuiet}
 use Rattle.mdv_store.specs.Records.{Spells}
 use Rattle.mdv_store.specs.Seats.{AreLaid, AreLeft, TakesSlot, active_of, is_half_active, replicas_of, seats_area, spots_of}
-use Rattle.mdv_store.specs.Writing.{IsBeingWritten, WritingEnds}
+use Rattle.mdv_store.specs.Writing.{AreWrittenBy, IsBeingWritten, WritingEnds}
 use Rattle.mdv_store.specs.declared.store.CommitFault.{CommitFault}
 use Rattle.mdv_store.specs.declared.store.CommitFault.TheVariants as unwritten
 
@@ -74,11 +74,12 @@ WasTried old (Err (unwritten.Lost active listed)) = IsTrue (is_half_active old.s
 WasTried old (Err (unwritten.TooLong fault)) = ⊥
 WasTried old (Err unwritten.Spent) = ⊥
 
--- What came of a commit; the replicas at the places that are active then lie where the next one may write; and where the table was written each of them took it, one
--- by one in their order, and each other place's drive was left: whatever a crash leaves, those show it, also where they are fewer than half.
+-- What came of a commit; the replicas at the places that are active then lie where the next one may write; and where the table was written it was at each place in
+-- turn: each of them took it, and each other place's drive was left; whatever a crash leaves, those show it, also where they are fewer than half.
 pub record CommitAnswer {S : Type 0} (shelf : Ghosts S) (from to : S) (old new : Opened) (next : Table) (result : Result (Unit {0}) CommitFault) : Type 0 where
   pub came : CameOfCommit (DriveFailures shelf from to) old new next result
   pub laid : AreLaid (shelf.sizes to) new.seats
+  pub steps : WasTried old result → AreWrittenBy shelf (next_mark old.mark) next from to old.seats new.seats
   pub passed : WasTried old result → AtEnd shelf (WritingEnds old.seats new.seats (next_mark old.mark) next) from to
   pub shown : WasTried old result → AtEnd shelf (λ t u. (g : Geometry) → IsOfGeometry g next → IsOpenedAt g old t → IsOpenedAt g (record new { mark = next_mark old.mark; table = next }) u) from to
 

@@ -20,7 +20,7 @@ use Rattle.mdv_look.specs.Quiet.{IsQuiet}
 use Rattle.mdv_store.specs.Records.{Spells}
 use Rattle.mdv_store.specs.Seats.{AreHeld, AreLaid, AreLeft, AreTheirs, TakesSlot, active_of, is_half_active, seats_area, spots_of}
 use Rattle.mdv_store.specs.Text.{blocks_for}
-use Rattle.mdv_store.specs.Writing.{WritingEnds, WritingMoment}
+use Rattle.mdv_store.specs.Writing.{AreWrittenBy, WritingEnds, WritingMoment}
 use Rattle.mdv_store.specs.declared.creating.CreateFault.{CreateFault}
 use Rattle.mdv_store.specs.declared.creating.CreateFault.TheVariants as unmade
 use Rattle.mdv_store.specs.declared.seats.Seat.{Seat}
@@ -121,7 +121,7 @@ StayFormed key identity lines count blocks m =
     (g : Geometry) → MayForm g key lines (seats_asked key identity lines count blocks) → AreTheirs g key identity (seats_asked key identity lines count blocks) m
 
 -- Masters were blanked and each place was formatted, in their order, with no call that failed; whatever a crash leaves each place has its replica then; and behind
--- that the first table was written to each of these replicas, and nothing else was done; at each moment of it each place has its replica still, also one whose write
+-- that the first table was written to each of these replicas in turn, and nothing else was done; at each moment of it each place has its replica still, also one whose write
 -- failed. In the end those that are left show it.
 pub record WereFormed {S : Type 0} (shelf : Ghosts S) (old new : S) (key : Key) (identity : Identity) (lines : List SliceLine) (count blocks : ℕ) : Type 0 where
   pub formed : S
@@ -133,6 +133,7 @@ pub record WereFormed {S : Type 0} (shelf : Ghosts S) (old new : S) (key : Key) 
   pub now : List Seat
   pub left : AreLeft (DriveFailures shelf formed new) (TakesSlot first_mark (length (record_text (table_of (seats_asked key identity lines count blocks))))) (seats_asked key identity lines count blocks) now
   pub tried : IsTried (DriveFailures shelf old new) key identity lines count blocks now
+  pub steps : AreWrittenBy shelf first_mark (table_of (seats_asked key identity lines count blocks)) formed new (seats_asked key identity lines count blocks) now
   pub counted : ArePassCounted shelf formed new 6 (2 + blocks_for (length (record_text (table_of (seats_asked key identity lines count blocks))))) (seats_asked key identity lines count blocks) now
   pub ends : AtEnd shelf (WritingEnds (seats_asked key identity lines count blocks) now first_mark (table_of (seats_asked key identity lines count blocks))) formed new
 

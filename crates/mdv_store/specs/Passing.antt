@@ -6,7 +6,7 @@ use Rattle.mdv_shelf.specs.Between.{RoseByAtLeast}
 use Rattle.mdv_shelf.specs.Calls.{OnDrive}
 use Rattle.mdv_shelf.specs.Shelves.{AtEachTale, AtEnd, DriveFailures, KeptOn, MadeCalls}
 use Rattle.mdv_store.specs.Below.{DriveNo, Ghosts, Mark, Open, Replica, Slot, Tale, at_of, with_slot}
-use Rattle.mdv_store.specs.Counts.{MadeCallsBetween}
+use Rattle.mdv_store.specs.Counts.{ArePassCounted, MadeCallsBetween}
 use Rattle.mdv_store.specs.Seats.{IsSpareOf, TakesClaim, TakesSlot, drive_of}
 use Rattle.mdv_store.specs.declared.seats.Seat.{Seat}
 
@@ -91,6 +91,16 @@ IsStepAt shelf w old new before index now s (Some r) = IsTried shelf w old new b
 -- One step of a pass: at the place of this number.
 abbrev pub IsStep : {S : Type 0} → Ghosts S → Writing → S → S → List Seat → ℕ → List Seat → Type 0
 IsStep shelf w old new before index now = (s : Seat) → slice_get before index ≡ Some s → IsStepAt shelf w old new before index now s s.replica
+
+-- A pass went on from the first place to the one of this number, by a step at each.
+pub data WentBy {S : Type 0} (shelf : Ghosts S) (w : Writing) (old : S) (before : List Seat) : ℕ → S → List Seat → Type 0 where
+  begun : WentBy shelf w old before 0 old before
+  next : (index : ℕ) (mid new : S) (between now : List Seat) → WentBy shelf w old before index mid between → IsStep shelf w mid new between index now → WentBy shelf w old before (index + 1) new now
+
+-- It went over all places, and so many calls were made.
+pub record WentOver {S : Type 0} (shelf : Ghosts S) (w : Writing) (old new : S) (before now : List Seat) : Type 0 where
+  pub steps : WentBy shelf w old before (length before) new now
+  pub counted : ArePassCounted shelf old new w.calls w.blocks before now
 
 -- those that don't lie on the drive
 abbrev pub beside : DriveNo → List Replica → List Replica

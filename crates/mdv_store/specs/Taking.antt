@@ -17,12 +17,12 @@ use Rattle.mdv_store.specs.Claims.{ClaimingEnds}
 use Rattle.mdv_store.specs.Commit.{AnyLog, AnyWorld, IsNewestWritten}
 use Rattle.mdv_store.specs.Counts.{ArePassCounted, MadeCallsBetween}
 use Rattle.mdv_store.specs.Opened.{AreSeatsOf, IsOpenedAt, Opened, least_room}
-use Rattle.mdv_store.specs.Passing.{IsPassing, Passed, claiming}
+use Rattle.mdv_store.specs.Passing.{IsPassing, Passed, WentBy, claiming}
 use Rattle.mdv_look.specs.Quiet.{IsQuiet}
 use Rattle.mdv_store.specs.Records.{Spells}
 use Rattle.mdv_store.specs.Seats.{AreHeld, AreLaid, AreLeft, AreNamed, HaveRoom, TakesClaim, TakesSlot, active_of, drive_of, replicas_of, seats_area, spots_of}
 use Rattle.mdv_store.specs.Text.{blocks_for}
-use Rattle.mdv_store.specs.Writing.{IsBeingWritten, WritingEnds}
+use Rattle.mdv_store.specs.Writing.{AreWrittenBy, IsBeingWritten, WritingEnds}
 use Rattle.mdv_store.specs.declared.booting.BootEnd.{BootEnd}
 use Rattle.mdv_store.specs.declared.booting.BootEnd.TheVariants as end
 use Rattle.mdv_store.specs.declared.booting.Hand.{Hand}
@@ -87,15 +87,17 @@ pub record RewriteMoment (key : Key) (hand : Hand) (table : Table) (t m : Tale) 
 abbrev pub MadeRewriteCalls : {S : Type 0} → Ghosts S → S → S → Hand → Table → Type 0
 MadeRewriteCalls shelf old new hand table = MadeCallsBetween shelf old new 1 (8 * active_of hand.seats) ((3 + blocks_for (length (record_text table))) * active_of hand.seats)
 
--- The claim was written to each of these places, and these are left.
+-- The claim was written at each of these places in turn, and these are left.
 pub record WereClaimed {S : Type 0} (shelf : Ghosts S) (old new : S) (number : ℕ) (before now : List Seat) : Type 0 where
   pub left : AreLeft (DriveFailures shelf old new) (TakesClaim number) before now
+  pub steps : WentBy shelf (claiming number) old before (length before) new now
   pub counted : ArePassCounted shelf old new 2 1 before now
   pub end : AtEnd shelf (ClaimingEnds before now number) old new
 
 -- And the table.
 pub record WereSlotted {S : Type 0} (shelf : Ghosts S) (old new : S) (mark : Mark) (table : Table) (before now : List Seat) : Type 0 where
   pub left : AreLeft (DriveFailures shelf old new) (TakesSlot mark (length (record_text table))) before now
+  pub steps : AreWrittenBy shelf mark table old new before now
   pub counted : ArePassCounted shelf old new 6 (2 + blocks_for (length (record_text table))) before now
   pub end : AtEnd shelf (WritingEnds before now mark table) old new
 

@@ -1,9 +1,10 @@
 -- What a pass says that spells a table once, and writes it to each active place.
-use Rattle.std.specs.Prelude.{ℕ, List, length}
-use Rattle.mdv_store.specs.Below.{Mark, Replica, Table, Tale, record_text}
-use Rattle.mdv_store.specs.Passing.{IsPassing, slotting}
+use Rattle.std.specs.Prelude.{◌+◌, ℕ, List, length}
+use Rattle.mdv_store.specs.Below.{Ghosts, Mark, Replica, Table, Tale, record_text}
+use Rattle.mdv_store.specs.Counts.{ArePassCounted}
+use Rattle.mdv_store.specs.Passing.{IsPassing, WentBy, slotting}
 use Rattle.mdv_store.specs.Slots.{SlottingEnds, SlottingMoment}
-use Rattle.mdv_store.specs.Text.{IsSpelled}
+use Rattle.mdv_store.specs.Text.{IsSpelled, blocks_for}
 use Rattle.mdv_store.specs.declared.seats.Seat.{Seat}
 
 -- how many bytes a table's text has
@@ -13,6 +14,16 @@ text_size table = length (record_text table)
 -- A body of the table is written to these replicas, one by one in their order; and nothing else is done.
 abbrev pub IsBeingWritten : List Replica → Mark → Table → Tale → Tale → Type 0
 IsBeingWritten replicas mark table t m = (body : List (List ℕ)) × IsSpelled table (text_size table) body × IsPassing (slotting mark (text_size table) body) replicas t m
+
+-- One body of the table was written to the active places, at each place in turn.
+abbrev pub AreWrittenBy : {S : Type 0} → Ghosts S → Mark → Table → S → S → List Seat → List Seat → Type 0
+AreWrittenBy shelf mark table old new before now =
+    (body : List (List ℕ)) × IsSpelled table (text_size table) body × WentBy shelf (slotting mark (text_size table) body) old before (length before) new now
+
+-- and so many calls were made
+pub record WereWritten {S : Type 0} (shelf : Ghosts S) (mark : Mark) (table : Table) (old new : S) (before now : List Seat) : Type 0 where
+  pub steps : AreWrittenBy shelf mark table old new before now
+  pub counted : ArePassCounted shelf old new 6 (2 + blocks_for (text_size table)) before now
 
 -- a body of the table is written
 pub record WritingMoment (seats : List Seat) (mark : Mark) (table : Table) (t m : Tale) : Type 0 where

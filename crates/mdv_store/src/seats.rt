@@ -6,8 +6,7 @@ ghost use Rattle.mdv_replica.specs.Form.{with_slot as spec_with_slot};
 ghost use Rattle.mdv_replica.specs.Forms.{IsMark};
 ghost use Rattle.mdv_replica.specs.Replica.{slot_blocks};
 ghost use Rattle.mdv_store.specs.Claims.{ClaimingEnds, ClaimingMoment};
-ghost use Rattle.mdv_store.specs.Counts.{ArePassCounted};
-ghost use Rattle.mdv_store.specs.Passing.{IsActiveAt, IsStep, IsWriteOf, claiming, left_on as spec_left_on, slotting, unless_on as spec_unless_on};
+ghost use Rattle.mdv_store.specs.Passing.{IsActiveAt, IsStep, IsWriteOf, WentOver, claiming, left_on as spec_left_on, slotting, unless_on as spec_unless_on};
 ghost use Rattle.mdv_store.specs.Seats.{AreLaid, IsLaid, AreLeft, HaveRoom, TakesClaim, TakesSlot, active_of, drives_of, is_half_active as spec_is_half_active};
 ghost use Rattle.mdv_store.specs.Slots.{SlottingEnds, SlottingMoment};
 
@@ -32,7 +31,7 @@ pub(crate) fn claim_all<S: Shelf>(shelf: &mut S, seats: &mut Row<Seat>, number: 
     ensures left { AreLeft (DriveFailures S.Shelf shelf.old shelf.new) (TakesClaim number) seats.old seats.new }
     ensures moments { AtEachTale S.Shelf (ClaimingMoment seats.old number) shelf.old shelf.new }
     ensures end { AtEnd S.Shelf (ClaimingEnds seats.old seats.new number) shelf.old shelf.new }
-    ensures counted { ArePassCounted S.Shelf shelf.old shelf.new 2 1 seats.old seats.new }
+    ensures passed { WentOver S.Shelf (claiming number) shelf.old shelf.new seats.old seats.new }
     ensures kept { KeptAmong S.Shelf shelf.old shelf.new (drives_of seats.old) }
 {
     for index in 0..seats.as_slice().len() {
@@ -87,7 +86,7 @@ pub(crate) fn slot_all<S: Shelf>(
     ensures left { AreLeft (DriveFailures S.Shelf shelf.old shelf.new) (TakesSlot mark bytes) seats.old seats.new }
     ensures moments { AtEachTale S.Shelf (SlottingMoment seats.old mark bytes body.now) shelf.old shelf.new }
     ensures end { AtEnd S.Shelf (SlottingEnds seats.old seats.new mark bytes body.now) shelf.old shelf.new }
-    ensures counted { ArePassCounted S.Shelf shelf.old shelf.new 6 (2 + length body.now) seats.old seats.new }
+    ensures passed { WentOver S.Shelf (slotting mark bytes body.now) shelf.old shelf.new seats.old seats.new }
     ensures kept { KeptAmong S.Shelf shelf.old shelf.new (drives_of seats.old) }
 {
     for index in 0..seats.as_slice().len() {

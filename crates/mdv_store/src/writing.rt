@@ -3,10 +3,9 @@ ghost use Rattle.std.specs.Prelude.{◌≤◌, ◌<◌, ◌+◌, ◌*◌, ◌^�
 ghost use Rattle.mdv_shelf.specs.Drives.{KeptAmong};
 ghost use Rattle.mdv_shelf.specs.Shelves.{AtEachTale, AtEnd, DriveFailures};
 ghost use Rattle.mdv_replica.specs.Forms.{IsMark};
-ghost use Rattle.mdv_store.specs.Counts.{ArePassCounted};
 ghost use Rattle.mdv_store.specs.Seats.{AreLaid, AreLeft, HaveRoom, TakesSlot, drives_of};
 ghost use Rattle.mdv_store.specs.Text.{blocks_for};
-ghost use Rattle.mdv_store.specs.Writing.{WritingEnds, WritingMoment, text_size};
+ghost use Rattle.mdv_store.specs.Writing.{WereWritten, WritingEnds, WritingMoment, text_size};
 
 use crate::seats::{Seat, slot_all};
 use crate::text::spell;
@@ -32,7 +31,7 @@ pub(crate) fn write_all<S: Shelf>(
     ensures left { AreLeft (DriveFailures S.Shelf shelf.old shelf.new) (TakesSlot mark (text_size table.now)) seats.old seats.new }
     ensures moments { AtEachTale S.Shelf (WritingMoment seats.old mark table.now) shelf.old shelf.new }
     ensures end { AtEnd S.Shelf (WritingEnds seats.old seats.new mark table.now) shelf.old shelf.new }
-    ensures counted { ArePassCounted S.Shelf shelf.old shelf.new 6 (2 + blocks_for (text_size table.now)) seats.old seats.new }
+    ensures passed { WereWritten S.Shelf mark table.now shelf.old shelf.new seats.old seats.new }
     ensures kept { KeptAmong S.Shelf shelf.old shelf.new (drives_of seats.old) }
 {
     let text = spell(table, room);

@@ -10,7 +10,7 @@ use Rattle.mdv_store.specs.Create.{CreateEnds, IsCreated, IsCreationCounted, dri
 use Rattle.mdv_store.specs.Opened.{IsOpen, least_room}
 use Rattle.mdv_store.specs.Seats.{AreLaid, AreLeft, HaveRoom, TakesSlot, active_of, drives_of, is_half_active}
 use Rattle.mdv_store.specs.Text.{blocks_for}
-use Rattle.mdv_store.specs.Writing.{WritingEnds, WritingMoment, text_size}
+use Rattle.mdv_store.specs.Writing.{WereWritten, WritingEnds, WritingMoment, text_size}
 use Rattle.mdv_store.specs.declared.creating.CreateFault.{CreateFault}
 use Rattle.mdv_store.specs.declared.seats.Seat.{Seat}
 use Rattle.mdv_store.proofs.Acting.{gone_then, stopped_front, stopped_then}
@@ -167,7 +167,7 @@ returns-then-not-is_half_active-clause-answer g c =
     let own = owner g (goal.at.returns-then-not-is_half_active-clause-answer g c).After-check_owner in
     let left = as_asked g d (λ l u. AreLeft (DriveFailures g.S.Shelf c.format_all.new.shelf c.write_all.new.shelf) (TakesSlot first_mark (text_size u)) l c.write_all.new.seats) c.write_all.ensures.left in
     subst (λ (f : CreateFault). IsCreated g.S.Shelf c.args.shelf.now c.write_all.new.shelf c.args.key.now c.args.identity c.args.lines.now c.args.count c.args.blocks (Err f)) (sym c.lost.ensures)
-    (lost_created g.S.Shelf c.args.key.now c.args.identity c.args.lines.now c.args.count c.args.blocks c.args.shelf.now c.requires.asked own c.format_all.new.shelf c.write_all.new.shelf c.write_all.new.seats (gone g d) left (active_of c.as_slice-then-not-is_half_active.result.now) (length c.as_slice-then-not-is_half_active.result.now) (ap is_half_active (sym c.as_slice-2.ensures) ∙ (sym c.is_half_active.ensures ∙ c.if-not-is_half_active.true)) (ap active_of c.as_slice-then-not-is_half_active.ensures) (ap length c.as_slice-then-not-is_half_active.ensures) (as_asked g d (λ l u. ArePassCounted g.S.Shelf c.format_all.new.shelf c.write_all.new.shelf 6 (2 + blocks_for (text_size u)) l c.write_all.new.seats) c.write_all.ensures.counted) (as_asked g d (λ l u. KeptAmong g.S.Shelf c.format_all.new.shelf c.write_all.new.shelf (drives_of l)) c.write_all.ensures.kept) (as_asked g d (λ l u. AtEachTale g.S.Shelf (WritingMoment l first_mark u) c.format_all.new.shelf c.write_all.new.shelf) c.write_all.ensures.moments) (as_asked g d (λ l u. AtEnd g.S.Shelf (WritingEnds l c.write_all.new.seats first_mark u) c.format_all.new.shelf c.write_all.new.shelf) c.write_all.ensures.end))
+    (lost_created g.S.Shelf c.args.key.now c.args.identity c.args.lines.now c.args.count c.args.blocks c.args.shelf.now c.requires.asked own c.format_all.new.shelf c.write_all.new.shelf c.write_all.new.seats (gone g d) left (active_of c.as_slice-then-not-is_half_active.result.now) (length c.as_slice-then-not-is_half_active.result.now) (ap is_half_active (sym c.as_slice-2.ensures) ∙ (sym c.is_half_active.ensures ∙ c.if-not-is_half_active.true)) (ap active_of c.as_slice-then-not-is_half_active.ensures) (ap length c.as_slice-then-not-is_half_active.ensures) (as_asked g d (λ l u. WereWritten g.S.Shelf first_mark u c.format_all.new.shelf c.write_all.new.shelf l c.write_all.new.seats) c.write_all.ensures.passed) (as_asked g d (λ l u. KeptAmong g.S.Shelf c.format_all.new.shelf c.write_all.new.shelf (drives_of l)) c.write_all.ensures.kept) (as_asked g d (λ l u. AtEachTale g.S.Shelf (WritingMoment l first_mark u) c.format_all.new.shelf c.write_all.new.shelf) c.write_all.ensures.moments) (as_asked g d (λ l u. AtEnd g.S.Shelf (WritingEnds l c.write_all.new.seats first_mark u) c.format_all.new.shelf c.write_all.new.shelf) c.write_all.ensures.end))
 
 pub returns-then-not-is_half_active-clause-moments : goal.returns-then-not-is_half_active-clause-moments
 returns-then-not-is_half_active-clause-moments g c =
@@ -189,7 +189,7 @@ returns-then-not-is_half_active-clause-counted g c =
     let own = owner g (goal.at.returns-then-not-is_half_active-clause-counted g c).After-check_owner in
     let left = as_asked g d (λ l u. AreLeft (DriveFailures g.S.Shelf c.format_all.new.shelf c.write_all.new.shelf) (TakesSlot first_mark (text_size u)) l c.write_all.new.seats) c.write_all.ensures.left in
     subst (λ (f : CreateFault). IsCreationCounted g.S.Shelf c.args.shelf.now c.write_all.new.shelf c.args.lines.now c.args.count c.args.blocks (Err f)) (sym c.lost.ensures)
-    (lost_counted g.S.Shelf c.args.key.now c.args.identity c.args.lines.now c.args.count c.args.blocks c.args.shelf.now c.requires.asked own c.format_all.new.shelf c.write_all.new.shelf c.write_all.new.seats (gone g d) left (as_asked g d (λ l u. ArePassCounted g.S.Shelf c.format_all.new.shelf c.write_all.new.shelf 6 (2 + blocks_for (text_size u)) l c.write_all.new.seats) c.write_all.ensures.counted) (active_of c.as_slice-then-not-is_half_active.result.now) (length c.as_slice-then-not-is_half_active.result.now) (ap is_half_active (sym c.as_slice-2.ensures) ∙ (sym c.is_half_active.ensures ∙ c.if-not-is_half_active.true)))
+    (lost_counted g.S.Shelf c.args.key.now c.args.identity c.args.lines.now c.args.count c.args.blocks c.args.shelf.now c.requires.asked own c.format_all.new.shelf c.write_all.new.shelf c.write_all.new.seats (gone g d) left (as_asked g d (λ l u. ArePassCounted g.S.Shelf c.format_all.new.shelf c.write_all.new.shelf 6 (2 + blocks_for (text_size u)) l c.write_all.new.seats) c.write_all.ensures.passed.counted) (active_of c.as_slice-then-not-is_half_active.result.now) (length c.as_slice-then-not-is_half_active.result.now) (ap is_half_active (sym c.as_slice-2.ensures) ∙ (sym c.is_half_active.ensures ∙ c.if-not-is_half_active.true)))
 
 pub returns-then-not-is_half_active-clause-kept : goal.returns-then-not-is_half_active-clause-kept
 returns-then-not-is_half_active-clause-kept g c =
@@ -211,7 +211,7 @@ returns-clause-answer g c =
     let d = (goal.at.returns-clause-answer g c).After-deref_mut in
     let own = owner g (goal.at.returns-clause-answer g c).After-check_owner in
     let left = as_asked g d (λ l u. AreLeft (DriveFailures g.S.Shelf c.format_all.new.shelf c.write_all.new.shelf) (TakesSlot first_mark (text_size u)) l c.write_all.new.seats) c.write_all.ensures.left in
-    subst (λ (u : Table). IsCreated g.S.Shelf c.args.shelf.now c.write_all.new.shelf c.args.key.now c.args.identity c.args.lines.now c.args.count c.args.blocks (Ok (record { key = c.args.key.now; identity = c.args.identity; mark = first_mark; table = u; seats = c.write_all.new.seats }))) (sym (table_is g d)) (made_created g.S.Shelf c.args.key.now c.args.identity c.args.lines.now c.args.count c.args.blocks c.args.shelf.now c.requires.asked own c.format_all.new.shelf c.write_all.new.shelf c.write_all.new.seats (gone g d) left (ap is_half_active (sym c.as_slice-2.ensures) ∙ (sym c.is_half_active.ensures ∙ c.if-not-is_half_active.false)) (as_asked g d (λ l u. ArePassCounted g.S.Shelf c.format_all.new.shelf c.write_all.new.shelf 6 (2 + blocks_for (text_size u)) l c.write_all.new.seats) c.write_all.ensures.counted) (as_asked g d (λ l u. KeptAmong g.S.Shelf c.format_all.new.shelf c.write_all.new.shelf (drives_of l)) c.write_all.ensures.kept) (as_asked g d (λ l u. AtEachTale g.S.Shelf (WritingMoment l first_mark u) c.format_all.new.shelf c.write_all.new.shelf) c.write_all.ensures.moments) (as_asked g d (λ l u. AtEnd g.S.Shelf (WritingEnds l c.write_all.new.seats first_mark u) c.format_all.new.shelf c.write_all.new.shelf) c.write_all.ensures.end))
+    subst (λ (u : Table). IsCreated g.S.Shelf c.args.shelf.now c.write_all.new.shelf c.args.key.now c.args.identity c.args.lines.now c.args.count c.args.blocks (Ok (record { key = c.args.key.now; identity = c.args.identity; mark = first_mark; table = u; seats = c.write_all.new.seats }))) (sym (table_is g d)) (made_created g.S.Shelf c.args.key.now c.args.identity c.args.lines.now c.args.count c.args.blocks c.args.shelf.now c.requires.asked own c.format_all.new.shelf c.write_all.new.shelf c.write_all.new.seats (gone g d) left (ap is_half_active (sym c.as_slice-2.ensures) ∙ (sym c.is_half_active.ensures ∙ c.if-not-is_half_active.false)) (as_asked g d (λ l u. WereWritten g.S.Shelf first_mark u c.format_all.new.shelf c.write_all.new.shelf l c.write_all.new.seats) c.write_all.ensures.passed) (as_asked g d (λ l u. KeptAmong g.S.Shelf c.format_all.new.shelf c.write_all.new.shelf (drives_of l)) c.write_all.ensures.kept) (as_asked g d (λ l u. AtEachTale g.S.Shelf (WritingMoment l first_mark u) c.format_all.new.shelf c.write_all.new.shelf) c.write_all.ensures.moments) (as_asked g d (λ l u. AtEnd g.S.Shelf (WritingEnds l c.write_all.new.seats first_mark u) c.format_all.new.shelf c.write_all.new.shelf) c.write_all.ensures.end))
 
 pub returns-clause-moments : goal.returns-clause-moments
 returns-clause-moments g c =
@@ -232,7 +232,7 @@ returns-clause-counted g c =
     let d = (goal.at.returns-clause-counted g c).After-deref_mut in
     let own = owner g (goal.at.returns-clause-counted g c).After-check_owner in
     let left = as_asked g d (λ l u. AreLeft (DriveFailures g.S.Shelf c.format_all.new.shelf c.write_all.new.shelf) (TakesSlot first_mark (text_size u)) l c.write_all.new.seats) c.write_all.ensures.left in
-    made_counted g.S.Shelf c.args.key.now c.args.identity c.args.lines.now c.args.count c.args.blocks c.args.shelf.now c.requires.asked own c.format_all.new.shelf c.write_all.new.shelf c.write_all.new.seats (gone g d) left (as_asked g d (λ l u. ArePassCounted g.S.Shelf c.format_all.new.shelf c.write_all.new.shelf 6 (2 + blocks_for (text_size u)) l c.write_all.new.seats) c.write_all.ensures.counted) (record { key = c.args.key.now; identity = c.args.identity; mark = first_mark; table = c.table_asked-table.result; seats = c.write_all.new.seats }) refl (table_is g d)
+    made_counted g.S.Shelf c.args.key.now c.args.identity c.args.lines.now c.args.count c.args.blocks c.args.shelf.now c.requires.asked own c.format_all.new.shelf c.write_all.new.shelf c.write_all.new.seats (gone g d) left (as_asked g d (λ l u. ArePassCounted g.S.Shelf c.format_all.new.shelf c.write_all.new.shelf 6 (2 + blocks_for (text_size u)) l c.write_all.new.seats) c.write_all.ensures.passed.counted) (record { key = c.args.key.now; identity = c.args.identity; mark = first_mark; table = c.table_asked-table.result; seats = c.write_all.new.seats }) refl (table_is g d)
 
 pub returns-clause-kept : goal.returns-clause-kept
 returns-clause-kept g c =

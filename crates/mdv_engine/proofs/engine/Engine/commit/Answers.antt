@@ -45,12 +45,12 @@ returns-clause-answer g c = λ volume slice is.
     ])
 
 pub returns-clause-counted : goal.returns-clause-counted
-returns-clause-counted g c = λ volume slice.
+returns-clause-counted g c = λ volume slice is.
     let v = c.args.self.now in
     elim c.match-commit.branch [
       | in-Ok w ↦
           subst (λ (answer : Answer). IsCommandCounted g.S.Shelf c.args.shelf.now c.commit.new.shelf v.host (command.MakeStripe volume slice) answer v.state.opened (Some c.commit.new.self)) (sym w.result-is)
           (commits.done_counted g.S.Shelf c.args.shelf.now c.commit.new.shelf v c.requires.ready c.requires.well c.in-Some.store (ap (λ (e : Engine). e.state.opened) (sym c.self.view_is) ∙ c.in-Some.is) c.args.next c.commit.new.self volume slice w.in-Ok.ensures.answer w.in-Ok.ensures.counted)
       | in-Err w ↦
-          commits.uncommitted_counted g.S.Shelf c.args.shelf.now c.commit.new.shelf v c.requires.ready c.requires.well c.in-Some.store (ap (λ (e : Engine). e.state.opened) (sym c.self.view_is) ∙ c.in-Some.is) c.args.next c.commit.new.self volume slice w.in-Err.fault c.match-commit.result (w.result-is ∙ w.uncommitted.ensures) w.in-Err.ensures.answer w.in-Err.ensures.counted
+          commits.uncommitted_counted g.S.Shelf c.args.shelf.now c.commit.new.shelf v c.requires.ready c.requires.well c.in-Some.store (ap (λ (e : Engine). e.state.opened) (sym c.self.view_is) ∙ c.in-Some.is) c.args.next c.commit.new.self volume slice is w.in-Err.fault c.match-commit.result (w.result-is ∙ w.uncommitted.ensures) w.in-Err.ensures.answer w.in-Err.ensures.counted
     ]

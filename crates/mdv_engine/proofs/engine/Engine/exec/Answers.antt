@@ -18,7 +18,7 @@ use Rattle.mdv_engine_law.specs.Replies.{IsLost}
 use Rattle.mdv_engine_law.specs.Commands.{MaySpend, blame_of}
 use Rattle.mdv_shelf.specs.Shelves.{DriveFailures}
 use Rattle.mdv_engine.proofs.Asked.{asked_goes, asked_replies, asked_then}
-use Rattle.mdv_engine.proofs.Counting.{calm_given, command_calls, command_most, done_told, replied_calls, then_told, done_then, fault_then, fault_told, lost_told, none_within, not_lost, quiet_answer, quiet_told, said_of, spent_told, told_lost, told_ok, unlooked_told, unwritten_told, wanting_told, whole_or_lost, wrote_then}
+use Rattle.mdv_engine.proofs.Counting.{calm_given, command_calls, command_most, done_told, replied_calls, then_told, done_then, fault_then, fault_told, lost_told, none_within, not_lost, quiet_answer, quiet_told, said_of, spent_told, told_lost, told_ok, unlooked_told, unwritten_told, wanting_told, whole_or_lost}
 use Rattle.mdv_engine.proofs.Ending.{leaves_more}
 use Rattle.mdv_engine.proofs.Losing.{site_more}
 use Rattle.mdv_engine.proofs.engine.Engine.exec.Goals as goal
@@ -120,7 +120,7 @@ returns-clause-counted g c =
     record {
       most = then_told g.B.Shelf _ _ _ c.tell.result _ _ (command_most g.B.Shelf _ _ host command before now answer by) c.tell.ensures.counted;
       done = λ is. done_then g.B.Shelf _ _ _ host command before now (done_told g.B.Shelf _ _ host command before now _ answer piece (rw is at answers) by).exactly (c.tell.ensures.counted.once (λ lost. subst IsLost is lost));
-      wrote = λ is. wrote_then g.B.Shelf _ _ _ host command before now (done_told g.B.Shelf _ _ host command before now _ answer piece (rw is at answers) by).wrote (c.tell.ensures.counted.once (λ lost. subst IsLost is lost));
+      wrote = λ is. (_, (done_told g.B.Shelf _ _ host command before now _ answer piece (rw is at answers) by).wrote, c.tell.ensures.counted.once (λ lost. subst IsLost is lost));
       unlooked = λ is. then_told g.B.Shelf _ _ _ c.tell.result 0 0 (none_within g.B.Shelf _ _ 0 0 (unlooked_told g.B.Shelf _ _ host command before now _ answer c.tell.result _ answers is by)) c.tell.ensures.counted;
       unwritten = λ is. then_told g.B.Shelf _ _ _ c.tell.result _ 0 (unwritten_told g.B.Shelf _ _ host command before now _ answer c.tell.result _ answers is by) c.tell.ensures.counted;
       wanting = λ is. then_told g.B.Shelf _ _ _ c.tell.result _ 0 (wanting_told g.B.Shelf _ _ host command before now _ answer piece (rw is at answers) by) c.tell.ensures.counted;

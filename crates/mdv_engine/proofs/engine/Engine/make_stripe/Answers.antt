@@ -38,7 +38,7 @@ returns-in-Err-clause-counted g c =
     (change_no_fault c.args.self.now.host c.args.self.now.state (MakeStripe c.args.volume c.args.slice) c.in-Err.refusal c.in-Err.ensures.err) refl
 
 pub returns-in-Ok-clause-counted : goal.returns-in-Ok-clause-counted
-returns-in-Ok-clause-counted g c = c.commit.ensures.counted c.args.volume c.args.slice
+returns-in-Ok-clause-counted g c = c.commit.ensures.counted c.args.volume c.args.slice c.in-Ok.ensures.ok
 
 pub returns-in-Ok-clause-moments : goal.returns-in-Ok-clause-moments
 returns-in-Ok-clause-moments g c = c.commit.ensures.moments (MakeStripe c.args.volume c.args.slice) c.in-Ok.ensures.ok

@@ -5,7 +5,7 @@ use Rattle.mdv_store.specs.Below.{Failures, Geometry, IsOfGeometry, record_text}
 use Rattle.mdv_store.specs.Commit.{CameOfCommit, CommitDone, CommitMoment, IsCommitted, IsLostNow, next_mark, room_in}
 use Rattle.mdv_store.specs.Opened.{IsOpenedAt, Opened}
 use Rattle.mdv_store.specs.Seats.{AreLaid, TakesSlot, active_of, is_half_active}
-use Rattle.mdv_store.specs.Writing.{WritingEnds}
+use Rattle.mdv_store.specs.Writing.{AreWrittenBy, WritingEnds}
 use Rattle.mdv_store.specs.declared.seats.Seat.{Seat}
 use Rattle.mdv_store.specs.declared.store.CommitFault.{CommitFault}
 use Rattle.mdv_store.specs.declared.store.CommitFault.TheVariants.{Lost}
@@ -85,6 +85,10 @@ written : (g : _) (c : After-write_all g) → AtEnd g.S.Shelf (WritingEnds c.arg
 written g c =
     subst (λ (o : Opened). AtEnd g.S.Shelf (WritingEnds o.seats c.write_all.new.seats (next_mark o.mark) c.args.next) c.args.shelf.now c.write_all.new.shelf) c.self.view_is c.write_all.ensures.end
 
+-- at each place in turn
+steps : (g : _) (c : After-write_all g) → AreWrittenBy g.S.Shelf (next_mark c.args.self.now.mark) c.args.next c.args.shelf.now c.write_all.new.shelf c.args.self.now.seats c.write_all.new.seats
+steps g c = subst (λ (o : Opened). AreWrittenBy g.S.Shelf (next_mark o.mark) c.args.next c.args.shelf.now c.write_all.new.shelf o.seats c.write_all.new.seats) c.self.view_is c.write_all.ensures.passed.steps
+
 -- and these show it
 left_show : (g : _) (c : After-write_all g) → AtEnd g.S.Shelf (λ t u. (geometry : Geometry) → IsOfGeometry geometry c.args.next → IsOpenedAt geometry c.args.self.now t → IsOpenedAt geometry (record (opened g c) { mark = next_mark c.args.self.now.mark; table = c.args.next; seats = c.write_all.new.seats }) u)
     c.args.shelf.now c.write_all.new.shelf
@@ -99,7 +103,7 @@ returns-then-not-is_half_active-2-clause-answer g c =
     let new : Opened = record (opened g w) { seats = c.write_all.new.seats } in
     let now = subst (λ (o : Opened). IsLostNow (failed g w) o new c.args.next) c.self.view_is (lost_now (opened g w) c.args.next (committing g w) (failed g w) c.write_all.new.seats c.write_all.ensures.left few) in
     let told = subst (λ (l : List Seat). c.lost-then-not-is_half_active-2.result ≡ Lost (active_of l) (length l)) c.as_slice-then-not-is_half_active-2.ensures c.lost-then-not-is_half_active-2.ensures in
-    record { came = subst (λ (fault : CommitFault). CameOfCommit (failed g w) c.args.self.now new c.args.next (Err fault)) (sym told) (refl, refl, inl now); laid = laid g w; passed = λ tried. written g w; shown = λ tried. left_show g w }
+    record { came = subst (λ (fault : CommitFault). CameOfCommit (failed g w) c.args.self.now new c.args.next (Err fault)) (sym told) (refl, refl, inl now); laid = laid g w; steps = λ tried. steps g w; passed = λ tried. written g w; shown = λ tried. left_show g w }
 
 pub returns-clause-answer : goal.returns-clause-answer
 returns-clause-answer g c =
@@ -109,6 +113,7 @@ returns-clause-answer g c =
     record {
       came = subst (λ (o : Opened). IsCommitted (failed g w) o new c.args.next) c.self.view_is (committed (opened g w) c.args.next (committing g w) (failed g w) c.write_all.new.seats c.write_all.ensures.left half);
       laid = laid g w;
+      steps = λ tried. steps g w;
       passed = λ tried. written g w;
       shown = λ tried. left_show g w;
     }
