@@ -44,8 +44,11 @@ pub(crate) fn told(
         volume: number(volume),
         slice: slice(text)?,
     };
-    Ok(match table.apply(alloc, &geometry, &change) {
-        Ok(()) => 0,
+    Ok(match table.after(alloc, &geometry, &change) {
+        Ok(next) => {
+            *table = next;
+            0
+        }
         Err(ApplyFault::Refused(refusal)) => refusal.number(),
         Err(ApplyFault::Memory) => Refusal::OutOfMemory.number(),
     })
@@ -102,9 +105,8 @@ fn has_both(table: &Table) -> Result<bool, Fail> {
 fn keeps_volumes_in_order(rt: HostRuntime) -> Result<(), Fail> {
     let mut table = Table::empty(rt.alloc(), place(b"c0t0d0s7", 16, 8192)?);
     assert_eq!(rt; first_wrong(rt.alloc(), &mut table, KEPT)?, None);
-    let copy = table.copy(rt.alloc())?;
-    assert!(rt; has_both(&copy)?);
-    assert!(rt; is_of_drives(rt.alloc(), &copy)?);
+    assert!(rt; has_both(&table)?);
+    assert!(rt; is_of_drives(rt.alloc(), &table)?);
     Ok(())
 }
 

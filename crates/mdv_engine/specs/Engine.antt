@@ -4,8 +4,6 @@ use Rattle.mdv_engine.specs.Below.{Answer, AreCalm, AreLaid, BootEnd, Change, Co
 pub use Rattle.mdv_engine_law.specs.Commands.{FailedBlocks}
 use Rattle.mdv_table.specs.Change.{table_after}
 use Rattle.mdv_table.specs.Change as table
-use Rattle.mdv_table.specs.declared.change.ApplyFault.{ApplyFault}
-use Rattle.mdv_table.specs.declared.change.ApplyFault.TheVariants.{Refused, Memory as ApplyMemory}
 use Rattle.mdv_engine_law.specs.Answers.{accepted, refusing}
 use Rattle.mdv_engine_law.specs.Refusals.{Case, IsUnopposed, blocks_refusal, change_refusal, read_refusal}
 use Rattle.mdv_engine_law.specs.Replies.{HasEndCause}
@@ -123,11 +121,6 @@ HasChangeCause host memory change refusal = (change_refusal host memory.opened c
 pub record IsCommittable (host : Host) (o : Opened) (next : Table) : Type 0 where
   pub of_geometry : IsOfGeometry host.drives next
   pub lists : next.plan.lists ≡ o.table.plan.lists
-
--- what refuses the change, or want of memory, where nothing does
-abbrev pub HasApplyFault : Option Refusal → ApplyFault → Type 0
-HasApplyFault refusal (Refused r) = refusal ≡ Some r
-HasApplyFault refusal ApplyMemory = refusal ≡ None
 
 -- what is answered where a database isn't made
 abbrev pub answer_of : CreateFault → Answer

@@ -1,22 +1,20 @@
-ghost use Rattle.std.specs.Prelude.{◌≡◌, ◌<◌, None, IfOk, IfErr, IfSome, OnOk};
+ghost use Rattle.std.specs.Prelude.{◌≡◌, ◌<◌, IfOk, IfErr, IfSome};
 ghost use Rattle.mdv_base.specs.declared.drive.SliceName.{SliceName};
 ghost use Rattle.mdv_base.specs.declared.name.VolId.{VolId};
 ghost use Rattle.mdv_table.specs.declared.change.Change.{Change as AnyChange};
-ghost use Rattle.mdv_table.specs.Change.{IsNumbered, refusal_of, table_after};
+ghost use Rattle.mdv_table.specs.Change.{IsNumbered};
 ghost use Rattle.mdv_table.specs.Slices.{IsSound};
-ghost use Rattle.mdv_table.specs.Table.{IsOfGeometry};
 ghost use Rattle.mdv_words.specs.declared.command.Command.TheVariants as command;
 ghost use Rattle.mdv_engine.specs.Counts.{IsCommandCounted};
 ghost use Rattle.mdv_shelf.specs.Drives.{KeptAmong};
 ghost use Rattle.mdv_shelf.specs.Shelves.{AtEnd, DriveFailures};
 ghost use Rattle.mdv_engine_law.specs.Hosts.{IsReady};
 ghost use Rattle.mdv_engine.specs.Ends.{ChangeMoments, CommandEnd, StripeEnds, HasAnswered, IsNext, IsStriped, IsStripeCounted, StripeAnswered};
-ghost use Rattle.mdv_engine.specs.Engine.{HasApplyFault, HasChangeCause, IsCommittable, IsNextTable, IsWell, commit_answer, drives_open};
+ghost use Rattle.mdv_engine.specs.Engine.{HasChangeCause, IsCommittable, IsNextTable, IsWell, commit_answer, drives_open};
 
 use crate::engine::Engine;
 use mdv_base::{Refusal, SliceName, VolId};
 use mdv_engine_law::{Answer, Ended, Outcome};
-use mdv_name::Geometry;
 use mdv_shelf::Shelf;
 use mdv_store::CommitFault;
 use mdv_table::{ApplyFault, Change, Table};
@@ -59,7 +57,7 @@ impl Engine {
         let Some(store) = &self.state.database else {
             return Err(Refusal::NoDatabase);
         };
-        match changed(alloc, &self.host.drives, store.table(), change) {
+        match store.table().after(alloc, &self.host.drives, change) {
             Ok(next) => Ok(next),
             Err(ApplyFault::Refused(refusal)) => Err(refusal),
             Err(ApplyFault::Memory) => Err(Refusal::OutOfMemory),
@@ -100,26 +98,4 @@ fn uncommitted(fault: CommitFault) -> Answer
         })),
         CommitFault::Spent => Answer::Over(Ended::Spent),
     }
-}
-
-// The table after the change. It is judged before it is copied, so that a refusal needs no memory.
-fn changed(
-    alloc: Global,
-    drives: &Geometry,
-    table: &Table,
-    change: &Change,
-) -> Result<Table, ApplyFault>
-    requires sound { IsSound drives.now }
-    requires numbered { IsNumbered change.now }
-    ensures made { IfOk result (λ next. next ≡ table_after drives.now change.now table.now) }
-    ensures of_geometry { IsOfGeometry drives.now table.now → IfOk result (IsOfGeometry drives.now) }
-    ensures allowed { OnOk result (refusal_of drives.now table.now.plan change.now ≡ None) }
-    ensures fault { IfErr result (HasApplyFault (refusal_of drives.now table.now.plan change.now)) }
-{
-    if let Some(refusal) = table.refusal(drives, change) {
-        return Err(ApplyFault::Refused(refusal));
-    }
-    let mut next = table.copy(alloc)?;
-    next.apply(alloc, drives, change)?;
-    Ok(next)
 }

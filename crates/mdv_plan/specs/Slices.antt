@@ -8,7 +8,7 @@ use Rattle.mdv_plan.specs.declared.clash.Asked.TheVariants.{ReplicasTo, OneCompo
 use Rattle.mdv_plan.specs.declared.uses.SliceUse.{SliceUse}
 use Rattle.mdv_plan.specs.declared.uses.User.{User}
 use Rattle.mdv_plan.specs.declared.uses.User.TheVariants.{Replica, Component, Extent, Spare}
-pub use Rattle.mdv_name.specs.SliceIndex.{slice_at}
+pub use Rattle.mdv_name.specs.SliceIndex.{HasSlice, slice_at}
 pub use Rattle.mdv_name.specs.Sound.{IsSound, IsSoundSlice}
 
 -- they lie on one drive and share a block, as each slice does with itself
@@ -25,7 +25,7 @@ abbrev pub overlap : Geometry → SliceName → SliceName → Bool
 overlap g m n = overlap_at (slice_at g.slices m) (slice_at g.slices n)
 
 abbrev pub same_drive : DriveName → DriveName → Bool
-same_drive a b = (a.controller == b.controller && a.target == b.target) && a.disk == b.disk
+same_drive a b = (a.target == b.target && a.disk == b.disk) && a.controller == b.controller
 
 -- the slice of this number on the same drive
 abbrev pub beside : SliceName → ℕ → SliceName
@@ -58,6 +58,12 @@ clashes_with g asked name u = if same_slice u.slice name then not (can_share ask
 
 abbrev pub clashes : Geometry → Asked → SliceName → List SliceUse → Bool
 clashes g asked name uses = list_any (clashes_with g asked name) uses
+
+-- the slice is there, and set aside for replicas
+pub record IsDb (g : Geometry) (name : SliceName) : Type 0 where
+  pub at : SliceAt
+  pub has : HasSlice g.slices name at
+  pub db : at.db ≡ true
 
 -- another slice that overlaps it is set aside for replicas
 abbrev pub is_other_db : Geometry → SliceName → SliceLine → Bool

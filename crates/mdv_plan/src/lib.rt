@@ -17,7 +17,7 @@ mod table;
 mod uses;
 mod volume;
 
-pub use clash::{Asked, meets_db, overlap, slice_at};
+pub use clash::{Asked, is_neighbour, meets_db, meets_db_beside, neighbours_of, overlap, slice_at};
 pub use listed::{Copied, Listed};
 pub use lists::Lists;
 pub use mdv_name::read_geometries_are_sound;

@@ -1,12 +1,11 @@
 -- The slices of a site share no block: those of one drive are known by their numbers.
-use Rattle.std.proofs.Common.{◌≡◌, ◌⊎◌, inl, inr, ◌<◌, ◌==◌, ◌&&◌, ℕ, zero, suc, ◌+◌, Bool, true, false, refl, sym, ◌∙◌, ap, subst, List, [], ◌∷◌, slice_get, filter, Contains, Option, None, Some, arith}
+use Rattle.std.proofs.Common.{◌≡◌, ◌⊎◌, inl, inr, ◌&&◌, ℕ, zero, suc, ◌+◌, Bool, true, false, sym, ◌∙◌, ap, subst, List, [], ◌∷◌, slice_get, filter, Contains, Option, Some, arith}
 use Rattle.std.proofs.lemmas.Bool.Decides.{nat_tests}
 use Rattle.std.proofs.lemmas.Bool.{and_parts, and_from, cases_Bool, cond-true, cond-false, false_from_ne_true, false≢true, leb-true, not-true, not_from_false}
 use Rattle.std.proofs.lemmas.List.Elements.{All-contains, All-contains_itself, All-filter, filter_passes}
-use Rattle.std.proofs.lemmas.List.Folds.{Any-from_list_any, list_any_at}
+use Rattle.std.proofs.lemmas.List.Folds.{list_any_at}
 use Rattle.std.specs.List.{list_any}
 use Rattle.std.specs.Prelude.{not, nat_le}
-use Rattle.mdv_base.specs.declared.drive.DriveName.{DriveName}
 use Rattle.mdv_base.specs.declared.drive.SliceName.{SliceName}
 use Rattle.mdv_name.proofs.Finding.{same_slice-equal, slice_at-some}
 use Rattle.mdv_name.specs.SliceIndex.{HasSlice, same_slice}
@@ -14,11 +13,10 @@ use Rattle.mdv_name.specs.Sound.{IsSound}
 use Rattle.mdv_name.specs.declared.drive_line.DriveLine.{DriveLine}
 use Rattle.mdv_name.specs.declared.geometry.Geometry.{Geometry}
 use Rattle.mdv_name.specs.declared.slice_lines.SliceAt.{SliceAt}
-use Rattle.mdv_plan.proofs.Neighbours.{apart}
-use Rattle.mdv_plan.specs.Slices.{beside, is_other_db, meets_db, overlap, overlap_at, same_drive, share_a_block, slice_at}
+use Rattle.mdv_plan.specs.Slices.{is_other_db, meets_db, overlap, overlap_at, share_a_block, slice_at}
 use Rattle.mdv_shown.specs.Below.{AreApart, DriveNo, Key, SliceLine}
 use Rattle.mdv_shown.specs.Site.{IsSite, line_area}
-use Rattle.mdv_shown.specs.Sites.{SitesAre, drives_from, is_db_at, is_db_beside, is_line_of, is_reached, is_reached_at, is_reached_line, is_slice_of, lines_of, site_of, takes_replicas}
+use Rattle.mdv_shown.specs.Sites.{SitesAre, drives_from, is_line_of, is_reached, is_reached_at, is_reached_line, is_slice_of, lines_of, site_of, takes_replicas}
 use Rattle.mdv_shown.proofs.Elsewhere.{in_range}
 
 some_same : {A : Type 0} (a b : A) → Some a ≡ Some b → a ≡ b
@@ -34,59 +32,6 @@ in_filter p xs x has = (
 -- a list has it, so the test finds it
 any_has : {X : Type 0} (p : X → Bool) (xs : List X) (x : X) → Contains xs x → p x ≡ true → list_any p xs ≡ true
 any_has p xs x has is = list_any_at p xs has.0 x has.1 (ap p has.2 ∙ is)
-
-same_drives : (a b : DriveName) → same_drive a b ≡ true → a ≡ b
-same_drives a b same =
-    let one : a.controller ≡ b.controller = grind (arith, nat_tests) in
-    let two : a.target ≡ b.target = grind (arith, nat_tests) in
-    let three : a.disk ≡ b.disk = grind (arith, nat_tests) in
-    λ i. record { controller = one i; target = two i; disk = three i }
-
-module _ (g : Geometry) (sound : IsSound g) (name : SliceName) where
-  pub beside_meets : (n : ℕ) → is_db_beside g name n ≡ true → meets_db g name ≡ true
-  beside_meets n is =
-      let a = and_parts (is_db_at (slice_at g.slices (beside name n)) && not (n == name.slice)) (overlap g (beside name n) name) is in
-      let b = and_parts (is_db_at (slice_at g.slices (beside name n))) (not (n == name.slice)) a.0 in
-      at (slice_at g.slices (beside name n)) refl b.0 b.1 a.1
-    where
-      at : (o : Option SliceAt) → slice_at g.slices (beside name n) ≡ o → is_db_at o ≡ true → not (n == name.slice) ≡ true → overlap g (beside name n) name ≡ true → meets_db g name ≡ true
-      at None e db other over = absurd (false≢true db)
-      at (Some a) e db other over =
-          let line : SliceLine = record { name = beside name n; at = a } in
-          let differs : same_slice (beside name n) name ≡ false = grind (arith, nat_tests) in
-          any_has (is_other_db g name) g.slices line ((slice_at-some g (beside name n) a sound).0 e)
-          (and_from (a.db && not (same_slice (beside name n) name)) (overlap g (beside name n) name)
-          (and_from a.db (not (same_slice (beside name n) name)) db (not_from_false (same_slice (beside name n) name) differs)) over)
-
-  pub meets_beside : meets_db g name ≡ true → (n : ℕ) × (n < 8) × (is_db_beside g name n ≡ true)
-  meets_beside is =
-      let found = Any-from_list_any (is_other_db g name) g.slices is in
-      let line = found.1 in
-      let has : Contains g.slices line = (found.0, found.2, found.3) in
-      let a = and_parts (line.at.db && not (same_slice line.name name)) (overlap g line.name name) found.4 in
-      let b = and_parts line.at.db (not (same_slice line.name name)) a.0 in
-      let drives : same_drive line.name.drive name.drive ≡ true = elim (cases_Bool (same_drive line.name.drive name.drive)) [
-        | inl same ↦ same
-        | inr other ↦ absurd (false≢true (sym (apart g line.name name sound other) ∙ a.1))
-      ] in
-      let drive = same_drives line.name.drive name.drive drives in
-      let named : beside name line.name.slice ≡ line.name = λ i. record { drive = sym drive i; slice = line.name.slice } in
-      let lies : slice_at g.slices line.name ≡ Some line.at = (slice_at-some g line.name line.at sound).1 has in
-      let differs : (line.name.slice == name.slice) ≡ false = numbers line.name drives (not-true (same_slice line.name name) b.1) in
-      let beside_is : (s : SliceName) → s ≡ line.name → (is_db_at (slice_at g.slices s) && not (line.name.slice == name.slice)) && overlap g s name ≡ true
-      = λ s e.
-      and_from (is_db_at (slice_at g.slices s) && not (line.name.slice == name.slice)) (overlap g s name)
-      (and_from (is_db_at (slice_at g.slices s)) (not (line.name.slice == name.slice)) (ap is_db_at (ap (slice_at g.slices) e ∙ lies) ∙ b.0)
-      (not_from_false (line.name.slice == name.slice) differs)) (ap (λ (t : SliceName). overlap g t name) e ∙ a.1) in
-      (line.name.slice, (sound.each line.name line.at has).named.slice, beside_is (beside name line.name.slice) named)
-    where
-      numbers : (other : SliceName) → same_drive other.drive name.drive ≡ true → same_slice other name ≡ false → (other.slice == name.slice) ≡ false
-      numbers other drives differs = grind (arith, nat_tests)
-
-  pub none_meets : ((n : ℕ) → n < 8 → is_db_beside g name n ≡ false) → meets_db g name ≡ false
-  none_meets none = false_from_ne_true (meets_db g name) (λ is.
-      let m = meets_beside is in
-      false≢true (sym (none m.0 m.1) ∙ m.2))
 
 -- slices that share no block are apart
 lie_apart : (a b : SliceLine) → share_a_block a.at b.at ≡ false → AreApart (line_area a) (line_area b)

@@ -8,8 +8,7 @@ use Rattle.mdv_name.specs.declared.drive_line.DriveKind.{DriveKind}
 use Rattle.mdv_name.specs.declared.drive_line.DriveKind.TheVariants.{Own, Shared, Mediator}
 use Rattle.mdv_name.specs.declared.drive_line.DriveLine.{DriveLine}
 use Rattle.mdv_name.specs.declared.geometry.Geometry.{Geometry}
-use Rattle.mdv_name.specs.declared.slice_lines.SliceAt.{SliceAt}
-use Rattle.mdv_plan.specs.Slices.{beside, meets_db, overlap, slice_at}
+use Rattle.mdv_plan.specs.Slices.{meets_db}
 use Rattle.mdv_shown.specs.Below.{DriveNo, Key, SliceLine}
 use Rattle.mdv_shown.specs.Site.{Site, IsSite}
 
@@ -57,14 +56,6 @@ site_of g key = record {
   drives = drives_from key 0 g.drives;
   sizes = map (λ (line : DriveLine). line.blocks) g.drives;
 }
-
-abbrev pub is_db_at : Option SliceAt → Bool
-is_db_at None = false
-is_db_at (Some at) = at.db
-
--- the slice of this number on the same drive is another one, is set aside for replicas, and shares a block with this one
-abbrev pub is_db_beside : Geometry → SliceName → ℕ → Bool
-is_db_beside g name number = (is_db_at (slice_at g.slices (beside name number)) && not (number == name.slice)) && overlap g (beside name number) name
 
 -- The site of each database of a sound table is one, and each of its slices lies on a drive that is brought up.
 pub record SitesAre : Type 0 where

@@ -2,14 +2,13 @@
 ghost use Rattle.std.specs.Prelude.{◌≡◌, ℕ, List, map, IfOk};
 ghost use Rattle.mdv_name.specs.Sound.{IsSound};
 ghost use Rattle.mdv_name.specs.declared.drive_line.DriveLine.{DriveLine};
-ghost use Rattle.mdv_plan.specs.Slices.{meets_db as spec_meets_db};
 ghost use Rattle.mdv_shown.specs.Sites.{site_of as spec_site_of, is_line_of as spec_is_line_of, is_reached as spec_is_reached, drives_from};
-ghost use Rattle.mdv_shown.specs.Sites.{lines_of as spec_lines_of, takes_replicas as spec_takes_replicas, is_db_beside as spec_is_db_beside};
+ghost use Rattle.mdv_shown.specs.Sites.{lines_of as spec_lines_of, takes_replicas as spec_takes_replicas};
 ghost use Rattle.mdv_shown.specs.Sites.{is_slice_of as spec_is_slice_of, is_reached_at as spec_is_reached_at};
 
 use mdv_base::{DriveNo, Key, SliceName};
 use mdv_name::{DriveKind, Geometry, SliceLine};
-use mdv_plan::{overlap, slice_at};
+use mdv_plan::meets_db;
 use mdv_votes::Row;
 use std::alloc::{AllocError, Global};
 
@@ -35,7 +34,7 @@ pub struct Site {
 
 /// The site of a database: of a host's own one the host's drives, and the slices there that are set aside for replicas; of a set the
 /// shared drives and their slices 7. A slice that shares a block with another one set aside for replicas, or has fewer than 32 blocks, is
-/// passed over. The work is linear in the slices, each of which takes eight look-ups by name.
+/// passed over. The work is linear in the slices; one set aside for replicas takes some ten look-ups by name.
 pub fn site_of(alloc: Global, geometry: &Geometry, key: Key) -> Result<Site, AllocError>
     requires { IsSound geometry.now }
     ensures { IfOk result (λ site. site ≡ spec_site_of geometry.now key) }
@@ -134,31 +133,4 @@ pub fn takes_replicas(geometry: &Geometry, line: SliceLine) -> bool
     ensures { result ≡ spec_takes_replicas geometry.now line }
 {
     line.at.db && line.at.blocks >= LEAST_BLOCKS && !meets_db(geometry, line.name)
-}
-
-// Whether another slice that shares a block with this one is set aside for replicas. It is one of the eight of its drive.
-fn meets_db(geometry: &Geometry, name: SliceName) -> bool
-    requires { IsSound geometry.now }
-    ensures { result ≡ spec_meets_db geometry.now name }
-{
-    for number in 0..8u8 {
-        if is_db_beside(geometry, name, number) {
-            return true;
-        }
-    }
-    false
-}
-
-fn is_db_beside(geometry: &Geometry, name: SliceName, number: u8) -> bool
-    requires { IsSound geometry.now }
-    ensures { result ≡ spec_is_db_beside geometry.now name number }
-{
-    let other = SliceName {
-        drive: name.drive,
-        slice: number,
-    };
-    match slice_at(geometry, other) {
-        Some(at) => at.db && number != name.slice && overlap(geometry, other, name),
-        None => false,
-    }
 }

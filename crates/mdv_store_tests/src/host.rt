@@ -1,5 +1,5 @@
 //! A host with drives in memory, and the database that it has open there.
-ghost use Rattle.std.specs.Prelude.{◌≡◌, All, AllPairs, IfOk, IsTrue};
+ghost use Rattle.std.specs.Prelude.{◌≡◌, ◌≤◌, length, All, AllPairs, IfOk, IsTrue};
 ghost use Rattle.std.specs.Option.{ForSome};
 ghost use Rattle.mdv_name.specs.Sound.{IsSound};
 ghost use Rattle.mdv_shelf.specs.Calls.{InDrive};
@@ -14,7 +14,8 @@ ghost use Rattle.mdv_survey.specs.Replica.{IsOnShelf};
 ghost use Rattle.mdv_store_tests.specs.Lines.{EndsWithin, HasRoom};
 
 use mdv_base::{
-    Block, DriveName, DriveNo, DriveSet, Flags, Identity, Key, Place, SliceName, VolId, ZERO_BLOCK,
+    Block, DriveName, DriveNo, DriveSet, Flags, Identity, Key, Place, Places, SliceName, VolId,
+    ZERO_BLOCK,
 };
 use mdv_home::has_drives;
 use mdv_look::{PeekRefusal, peek};
@@ -23,7 +24,7 @@ use mdv_quorum_tests::Draws;
 use mdv_shelf::{MemShelf, Shelf};
 use mdv_shown::{Site, site_of, sites_are};
 use mdv_store::{BootEnd, CommitFault, CreateFault, Letters, Store, boot, create};
-use mdv_table::{Table, Volume, Volumes};
+use mdv_table::{Lists, Table, Volume, Volumes};
 use std::alloc::{AllocError, Global};
 use std::test::Fail;
 
@@ -283,9 +284,30 @@ fn lines_on(alloc: Global, site: &Site, on: &[usize]) -> Result<Vec<SliceLine>, 
 fn next_table(alloc: Global, last: &Table, number: u16) -> Result<Table, AllocError>
     ensures { IfOk result (λ next. next.plan.lists ≡ last.now.plan.lists) }
 {
-    let mut next = last.copy(alloc)?;
+    let Lists::One(places) = &last.plan.lists;
+    let mut next = Table::empty(alloc, same_places(places));
     next.plan.volumes = volumes_of(alloc, number)?;
     Ok(next)
+}
+
+// Places have no copy of their own.
+fn same_places(places: &Places) -> Places
+    ensures { result ≡ places.now }
+{
+    let mut same = Places::new();
+    for place in all_of(places) {
+        same.push(*place);
+    }
+    same
+}
+
+// The places, and that they are few.
+fn all_of(places: &Places) -> &[Place]
+    ensures value { result.now ≡ places.now }
+    ensures few { length result.now ≤ 50 }
+{
+    let _few = places.is_full();
+    places.as_slice()
 }
 
 fn volumes_of(alloc: Global, number: u16) -> Result<Volumes, AllocError> {

@@ -14,7 +14,7 @@ use Rattle.mdv_table.specs.Below.{SliceName, Place, Geometry, SliceAt, SliceLine
 use Rattle.mdv_table.specs.Slices.{IsSound, Overlap}
 use Rattle.mdv_table.specs.Table.{IsPlaceOf, IsPlacesOf}
 
-shares : (a b : SliceAt) → 0 < a.blocks → 0 < b.blocks → share_a_block a b ≡ true → Overlap a b
+pub shares : (a b : SliceAt) → 0 < a.blocks → 0 < b.blocks → share_a_block a b ≡ true → Overlap a b
 shares a b some also is =
     let drive : a.drive.0 ≡ b.drive.0 = grind (arith, nat_tests) in
     let first : a.start < b.start + b.blocks = grind (arith, nat_tests) in

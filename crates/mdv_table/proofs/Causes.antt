@@ -93,7 +93,7 @@ module _ (g : Geometry) (sound : IsSound g) (p : Plan) (volume : VolId) (slice :
   volumes_after at has = ap (λ (o : Option SliceAt). with_volume (stripe_on volume slice (blocks_at o)) p.volumes) (sym ((slice_at-some g slice at sound).1 has))
 
 -- an answer by the refusals is that of the one that holds
-pub answer_is : (g : Geometry) (p : Plan) (change : Change) (answer : Result (Unit {0}) ApplyFault) → OnOk answer (refusal_of g p change ≡ None) → IfErr answer (HasFault g p change) → (r : Refusal) → refusal_of g p change ≡ Some r → answer ≡ Err (Refused r)
+pub answer_is : {A : Type 0} (g : Geometry) (p : Plan) (change : Change) (answer : Result A ApplyFault) → OnOk answer (refusal_of g p change ≡ None) → IfErr answer (HasFault g p change) → (r : Refusal) → refusal_of g p change ≡ Some r → answer ≡ Err (Refused r)
 answer_is g p change (Ok done) none fault r refused = absurd (none-some r (sym none ∙ refused))
 answer_is g p change (Err (Refused q)) none fault r refused = ap (λ (s : Refusal). Err (Refused s)) (same_Some q r (sym fault ∙ refused))
 answer_is g p change (Err Memory) none fault r refused = absurd (none-some r (sym fault ∙ refused))

@@ -3,6 +3,7 @@ pub mod Apart
 pub mod Ascending
 pub mod Causes
 pub mod Deciding
+mod InUse
 pub mod Making
 pub mod Marks
 pub mod Pairs

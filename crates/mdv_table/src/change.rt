@@ -1,17 +1,16 @@
-ghost use Rattle.std.specs.Prelude.{◌≡◌, ◌<◌, None, Some, OnOk, OnErr, IfErr, MatchResult};
+ghost use Rattle.std.specs.Prelude.{◌≡◌, ◌<◌, None, Some, OnOk, IfOk, IfErr, MatchResult};
 ghost use Rattle.mdv_base.specs.declared.refusal.Refusal.{Refusal};
 ghost use Rattle.mdv_table.specs.declared.change.ApplyFault.TheVariants.{Refused, Memory};
-ghost use Rattle.mdv_table.specs.Change.{IsNumbered, IsAfter, HasFault, AllowsStripe, refusal_of, table_after};
+ghost use Rattle.mdv_table.specs.Change.{IsNumbered, HasFault, AllowsStripe, plan_after, refusal_of, table_after};
 ghost use Rattle.mdv_table.specs.Slices.{IsSound};
 ghost use Rattle.mdv_table.specs.Table.{IsOfGeometry, IsPlanOf};
 
 use crate::plan::Plan;
 use crate::table::Table;
-use crate::uses::Uses;
 use crate::volume::Volume;
 use mdv_base::{Refusal, SliceName, VolId};
 use mdv_name::{Geometry, SliceAt};
-use mdv_plan::meets_db;
+use mdv_plan::{meets_db_beside, neighbours_of};
 use std::alloc::{AllocError, Global};
 
 /// What a command asks of a plan.
@@ -29,76 +28,58 @@ pub enum ApplyFault {
 }
 
 impl Table {
-    /// Why the change is refused, if it is, before anything is copied for it: the first cause in the order no such
-    /// slice, name taken, wrong kind, slice in use. The work is linear in the number of volumes.
-    pub fn refusal(&self, geometry: &Geometry, change: &Change) -> Option<Refusal>
-        requires { IsSound geometry.now }
-        ensures { result ≡ refusal_of geometry.now self.now.plan change.now }
-    {
-        match *change {
-            Change::MakeStripe { volume, slice } => {
-                self.plan.stripe_refusal(geometry, volume, slice)
-            }
-        }
-    }
-
-    /// Makes the change, or tells why not. A refusal is the first cause in the order no such slice, name
-    /// taken, wrong kind, slice in use. The work is linear in the number of volumes. No change has a
-    /// list of its own yet, for which it would need the allocator.
-    pub fn apply(
-        &mut self,
-        _alloc: Global,
+    /// The table once the change is made, or why it isn't made. A refusal is the first cause in the order no such slice,
+    /// name taken, wrong kind, slice in use. The change is judged before anything is copied, so that a refusal takes no
+    /// memory. The work is linear in the number of volumes.
+    pub fn after(
+        &self,
+        alloc: Global,
         geometry: &Geometry,
         change: &Change,
-    ) -> Result<(), ApplyFault>
+    ) -> Result<Table, ApplyFault>
         requires sound { IsSound geometry.now }
         requires numbered { IsNumbered change.now }
-        ensures ok { OnOk result ((refusal_of geometry.now self.old.plan change.now ≡ None) × (self.new ≡ table_after geometry.now change.now self.old)) }
-        ensures of_geometry { IsOfGeometry geometry.now self.old → IsOfGeometry geometry.now self.new }
-        ensures fault { IfErr result (HasFault geometry.now self.old.plan change.now) }
-        ensures refused { (r : Refusal) → refusal_of geometry.now self.old.plan change.now ≡ Some r → result ≡ Err (ApplyFault.Refused r) }
-        ensures err { OnErr result (self.new ≡ self.old) }
+        ensures made { IfOk result (λ next. next ≡ table_after geometry.now change.now self.now) }
+        ensures allowed { OnOk result (refusal_of geometry.now self.now.plan change.now ≡ None) }
+        ensures of_geometry { IsOfGeometry geometry.now self.now → IfOk result (IsOfGeometry geometry.now) }
+        ensures fault { IfErr result (HasFault geometry.now self.now.plan change.now) }
+        ensures refused { (r : Refusal) → refusal_of geometry.now self.now.plan change.now ≡ Some r → result ≡ Err (ApplyFault.Refused r) }
     {
-        match *change {
-            Change::MakeStripe { volume, slice } => self.plan.make_stripe(geometry, volume, slice),
-        }
+        let plan = match *change {
+            Change::MakeStripe { volume, slice } => {
+                self.plan.with_stripe(alloc, geometry, volume, slice)?
+            }
+        };
+        Ok(Table {
+            plan,
+            status: self.status,
+        })
     }
 }
 
 impl Plan {
-    fn make_stripe(
-        &mut self,
+    // The plan with the stripe as well.
+    fn with_stripe(
+        &self,
+        alloc: Global,
         geometry: &Geometry,
         number: VolId,
         slice: SliceName,
-    ) -> Result<(), ApplyFault>
+    ) -> Result<Plan, ApplyFault>
         requires sound { IsSound geometry.now }
         requires number { number.0 < 8192 }
-        ensures ok { OnOk result (IsAfter geometry.now (Change.MakeStripe number slice) self.old self.new) }
-        ensures of_geometry { IsPlanOf geometry.now self.old → IsPlanOf geometry.now self.new }
-        ensures fault { IfErr result (HasFault geometry.now self.old (Change.MakeStripe number slice)) }
-        ensures refused { (r : Refusal) → refusal_of geometry.now self.old (Change.MakeStripe number slice) ≡ Some r → result ≡ Err (ApplyFault.Refused r) }
-        ensures err { OnErr result (self.new ≡ self.old) }
+        ensures made { IfOk result (λ next. next ≡ plan_after geometry.now (Change.MakeStripe number slice) self.now) }
+        ensures allowed { OnOk result (refusal_of geometry.now self.now (Change.MakeStripe number slice) ≡ None) }
+        ensures of_geometry { IsPlanOf geometry.now self.now → IfOk result (IsPlanOf geometry.now) }
+        ensures fault { IfErr result (HasFault geometry.now self.now (Change.MakeStripe number slice)) }
     {
         let at = self.check_stripe(geometry, number, slice)?;
-        self.volumes
-            .insert(Volume::stripe_on(number, slice, at.blocks))?;
-        Ok(())
-    }
-
-    fn stripe_refusal(
-        &self,
-        geometry: &Geometry,
-        number: VolId,
-        slice: SliceName,
-    ) -> Option<Refusal>
-        requires { IsSound geometry.now }
-        ensures { result ≡ refusal_of geometry.now self.now (Change.MakeStripe number slice) }
-    {
-        match self.check_stripe(geometry, number, slice) {
-            Ok(_) => None,
-            Err(refusal) => Some(refusal),
-        }
+        let volume = Volume::stripe_on(number, slice, at.blocks);
+        let volumes = self.volumes.with_volume(alloc, volume)?;
+        Ok(Plan {
+            lists: self.lists.copy(),
+            volumes,
+        })
     }
 
     // Where the slice lies, unless the stripe is refused.
@@ -118,7 +99,8 @@ impl Plan {
         if at.db {
             return Err(Refusal::WrongKind);
         }
-        if Uses::of_plan(geometry, self).has(geometry, slice) || meets_db(geometry, slice) {
+        let marks = neighbours_of(geometry, slice);
+        if self.uses(geometry, &marks, slice) || meets_db_beside(geometry, &marks, slice) {
             return Err(Refusal::SliceInUse);
         }
         Ok(at)

@@ -3,6 +3,7 @@
 #![tactic(auto)]
 
 mod change;
+mod in_use;
 mod of_geometry;
 mod plan;
 mod table;

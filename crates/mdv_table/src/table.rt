@@ -1,4 +1,4 @@
-ghost use Rattle.std.specs.Prelude.{◌≡◌, [], IfOk};
+ghost use Rattle.std.specs.Prelude.{◌≡◌, []};
 ghost use Rattle.mdv_name.specs.declared.geometry.Geometry.{Geometry};
 ghost use Rattle.mdv_table.specs.declared.plan.Lists.TheVariants.{One};
 ghost use Rattle.mdv_table.specs.Table.{IsListsOf, IsOfGeometry};
@@ -6,7 +6,7 @@ ghost use Rattle.mdv_table.specs.Table.{IsListsOf, IsOfGeometry};
 use crate::plan::{Lists, Plan};
 use crate::volumes::Volumes;
 use mdv_base::Places;
-use std::alloc::{AllocError, Global};
+use std::alloc::Global;
 
 /// The states of what a plan has. Nothing has a state yet.
 #[derive(Clone, Copy, Debug, PartialEq, Eq)]
@@ -34,18 +34,5 @@ impl Table {
             plan,
             status: Status,
         }
-    }
-
-    pub fn copy(&self, alloc: Global) -> Result<Table, AllocError>
-        ensures { IfOk result (λ t. t ≡ self.now) }
-    {
-        let plan = Plan {
-            lists: self.plan.lists.copy(),
-            volumes: self.plan.volumes.copy(alloc)?,
-        };
-        Ok(Table {
-            plan,
-            status: self.status,
-        })
     }
 }

@@ -4,11 +4,10 @@ ghost use Rattle.std.specs.Prelude.{◌≡◌, ◌<◌, ◌+◌, ◌*◌, ◌↔
 ghost use Rattle.mdv_base.specs.declared.drive.SliceName.{SliceName};
 ghost use Rattle.mdv_name.specs.SliceIndex.{HasSlice};
 ghost use Rattle.mdv_table.specs.Marks.{IsMarked, mark_place};
-ghost use Rattle.mdv_table.specs.Plan.{IsInUse, place_slices, used_slices};
+ghost use Rattle.mdv_table.specs.Plan.{IsInUse, place_slices};
 ghost use Rattle.mdv_table.specs.Slices.{IsSound, Overlap, OverlapsAt};
 ghost use Rattle.mdv_table.specs.Volume.{volume_slices};
 
-use crate::plan::Plan;
 use crate::volume::{Base, Volume, VolumeKind};
 use mdv_base::{Place, SliceName};
 use mdv_name::{Geometry, SliceAt};
@@ -40,19 +39,6 @@ impl Uses {
         Uses {
             marks: [false; MARKS],
         }
-    }
-
-    // All uses of a plan.
-    pub(crate) fn of_plan(geometry: &Geometry, plan: &Plan) -> Uses
-        requires { IsSound geometry.now }
-        ensures { IsMarked geometry.now.slices result (used_slices plan.now) }
-    {
-        let mut uses = Uses::new();
-        uses.mark_places(geometry, plan.lists.places());
-        for volume in plan.volumes.as_slice() {
-            uses.mark_volume(geometry, volume);
-        }
-        uses
     }
 
     pub(crate) fn mark_places(&mut self, geometry: &Geometry, places: &[Place])

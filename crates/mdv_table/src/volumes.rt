@@ -35,12 +35,24 @@ impl Volumes {
         }
     }
 
-    pub fn copy(&self, alloc: Global) -> Result<Volumes, AllocError>
+    /// The same volumes, and one more at its place.
+    pub fn with_volume(&self, alloc: Global, volume: Volume) -> Result<Volumes, AllocError>
+        requires number { volume.number.0 < 8192 }
+        requires fresh { HasNoVolume self.now volume.number }
+        ensures { IfOk result (λ v. v ≡ with_volume volume self.now) }
+    {
+        let mut next = self.copy(alloc)?;
+        next.insert(volume)?;
+        Ok(next)
+    }
+
+    // The same volumes once more, with memory for one volume more.
+    fn copy(&self, alloc: Global) -> Result<Volumes, AllocError>
         ensures { IfOk result (λ v. v ≡ self.now) }
     {
-        Ok(Volumes {
-            items: Vec::from_slice(alloc, self.items.as_slice())?,
-        })
+        let mut items = Vec::with_capacity(alloc, self.items.len() + 1)?;
+        items.extend_from_slice(self.items.as_slice())?;
+        Ok(Volumes { items })
     }
 
     pub fn as_slice(&self) -> &[Volume]

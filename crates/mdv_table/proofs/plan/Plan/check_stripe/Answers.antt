@@ -1,5 +1,6 @@
-use Rattle.std.proofs.Common.{◌≡◌, ◌∙◌, true, false, refl, sym, ap, rules, Option, None, Some, Err, IfSome, IfNone}
+use Rattle.std.proofs.Common.{◌≡◌, ◌∙◌, true, false, sym, ap, rules, Option, None, Some, Err, IfSome, IfNone}
 use Rattle.std.proofs.lemmas.Result.{err_from_is_err_and}
+use Rattle.std.proofs.lemmas.Bool.{false≢true}
 use Rattle.std.specs.Option.{is_some, ok_or}
 use Rattle.mdv_table.specs.Below.{SliceName, VolId, Refusal, NoSuchSlice, Geometry, SliceAt, HasSlice, HasNoSlice}
 use Rattle.mdv_table.specs.declared.change.Change.TheVariants.{MakeStripe}
@@ -9,8 +10,9 @@ use Rattle.mdv_table.specs.Plan.{used_slices}
 use Rattle.mdv_table.specs.Slices.{IsSound}
 use Rattle.mdv_table.specs.Volumes.{HasVolume, HasNoVolume}
 use Rattle.mdv_table.proofs.Causes.{no_slice, name_taken, wrong_kind, in_use, near_db}
+use Rattle.mdv_table.proofs.Deciding.{is_in_use-true}
 use Rattle.mdv_table.proofs.plan.Plan.check_stripe.Goals as goal
-use Rattle.mdv_table.proofs.plan.Plan.check_stripe.Goals.{then-has-via-then-has, then-has-via-else-has+then-meets_db}
+use Rattle.mdv_table.proofs.plan.Plan.check_stripe.Goals.{then-uses-via-then-uses, then-uses-via-else-uses+then-meets_db_beside}
 
 at_none : {A : Type 0} (o : Option A) (P : Type 0) → is_some o ≡ false → IfNone o P → P
 at_none None P none here = here
@@ -43,25 +45,25 @@ returns-then-at c =
     let free : HasNoVolume c.args.self.now.volumes c.args.number = at_none c.find-2.result _ (sym c.is_some.ensures ∙ c.if-is_some.false) c.find-2.ensures.none in
     wrong_kind c.args.geometry.now c.requires c.args.self.now c.args.number c.args.slice c.in_ok-at.at has free c.if-at.true
 
-pub returns-then-has : goal.returns-then-has
-returns-then-has c =
+pub returns-then-uses : goal.returns-then-uses
+returns-then-uses c =
     let has : HasSlice c.args.geometry.now.slices c.args.slice c.in_ok-at.at = search rules in
     let free : HasNoVolume c.args.self.now.volumes c.args.number = at_none c.find-2.result _ (sym c.is_some.ensures ∙ c.if-is_some.false) c.find-2.ensures.none in
-    elim c.then-has.branch [
-      | then-has-via-then-has w ↦
-          let used = (w.if-has.ensures (used_slices c.args.self.now) c.of_plan.ensures).0 refl in
+    elim c.then-uses.branch [
+      | then-uses-via-then-uses w ↦
+          let used = (is_in_use-true c.args.geometry.now c.requires (used_slices c.args.self.now) c.args.slice).0 (sym c.uses.ensures ∙ w.if-uses.true) in
           in_use c.args.geometry.now c.requires c.args.self.now c.args.number c.args.slice c.in_ok-at.at has free c.if-at.false used
-      | then-has-via-else-has+then-meets_db w ↦
-          near_db c.args.geometry.now c.requires c.args.self.now c.args.number c.args.slice c.in_ok-at.at has free c.if-at.false (sym w.meets_db.ensures ∙ w.if-meets_db.true)
+      | then-uses-via-else-uses+then-meets_db_beside w ↦
+          near_db c.args.geometry.now c.requires c.args.self.now c.args.number c.args.slice c.in_ok-at.at has free c.if-at.false (sym w.meets_db_beside.ensures ∙ w.if-meets_db_beside.true)
     ]
 
 pub returns : goal.returns
 returns c =
-    let unused = (c.if-has.ensures (used_slices c.args.self.now) c.of_plan.ensures).1 in
+    let unused = sym c.uses.ensures ∙ c.if-uses.false in
     record {
       has = search rules;
       free = at_none c.find-2.result _ (sym c.is_some.ensures ∙ c.if-is_some.false) c.find-2.ensures.none;
       plain = search rules;
-      unused = λ it. cc (unused it);
-      clear = sym c.meets_db.ensures ∙ c.if-meets_db.false;
+      unused = λ it. false≢true (sym unused ∙ (is_in_use-true c.args.geometry.now c.requires (used_slices c.args.self.now) c.args.slice).1 it);
+      clear = sym c.meets_db_beside.ensures ∙ c.if-meets_db_beside.false;
     }
