@@ -48,6 +48,7 @@ use Rattle.mdv_store.specs.Text.{blocks_for}
 use Rattle.mdv_replica.specs.Form.{text_of}
 use Rattle.mdv_replica.specs.Replica.{slot_blocks}
 use Rattle.mdv_survey.proofs.Identities.{find_some}
+use Rattle.mdv_survey.proofs.Newests.{below_more}
 use Rattle.mdv_survey.specs.Choice.{IsChoiceAmong, IsTheOne, failing, is_found_at, is_of, is_read, is_there, place_of, readable_of, same_identity, same_place}
 use Rattle.mdv_survey.specs.declared.choosing.Choice.TheVariants as chosen
 use Rattle.mdv_survey.specs.Newest.{HasTable, IsGreatest, IsMarked, IsTableIn}
@@ -68,9 +69,6 @@ use Rattle.mdv_databases.specs.Going.{IsCurrentOf}
 use Rattle.mdv_databases.proofs.Booting.{shown_current}
 use Rattle.mdv_databases.proofs.Lists.{current_in, current_key}
 use Rattle.mdv_databases.proofs.Meeting.{Meets, firm_found, firm_some, meets, opens}
-
-below_more : (a b c : Mark) → IsBelow a b → IsBelow b c → IsBelow a c
-below_more a b c one other = grind arith
 
 -- where one passes the test, one is found
 find_has : {X : Type 0} (p : X → Bool) (xs : List X) (x : X) → Contains xs x → p x ≡ true → (y : X) × (find p xs ≡ Some y)

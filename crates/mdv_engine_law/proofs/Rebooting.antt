@@ -16,7 +16,7 @@ use Rattle.mdv_store.specs.Boot.{IfAdopted, IsEndBy, IsOnce, is_memory}
 use Rattle.mdv_store.specs.Booted.{IsBooted, IsReadAt}
 use Rattle.mdv_store.specs.Letters.{AreLettersOf}
 use Rattle.mdv_store.specs.Booting.{BootEnds, BootMoment, IsBootedTo, boot_area, has_written}
-use Rattle.mdv_look.specs.Quiet.{IsUnwritten}
+use Rattle.mdv_look.specs.Quiet.{WritesNothing}
 use Rattle.mdv_store.specs.Taking.{RewriteMoment, Rewrites}
 use Rattle.mdv_store.specs.declared.booting.BootEnd.TheVariants as end
 use Rattle.mdv_store.specs.declared.booting.Booted.{Booted}
@@ -152,7 +152,7 @@ module _ {S : Type 0} (shelf : Ghosts S) (old new : S) (host : Host) (answer : B
     -- it wrote to the places in hand alone
     wrote_to : (survey : Survey) (at : IsReadAt shelf old new host.drives host.site answer survey) (hand : _) (table : Table) → Rewrites shelf at.looked new host.site.key hand table → WritesTo (contents t) (contents u) hand.seats
     wrote_to survey at hand table wrote drive block out =
-        let looks = moments_end IsUnwritten (shelf.tale old) (shelf.tale at.looked) at.unwritten t told_old in
+        let looks = moments_end WritesNothing (shelf.tale old) (shelf.tale at.looked) at.unwritten t told_old in
         let writes = moments_end (RewriteMoment host.site.key hand table) (shelf.tale at.looked) (shelf.tale new) wrote.moments looks.0 looks.1 in
         let same : writes.0 ≡ u = some_is (shelf.tale new) writes.0 u writes.1 told_new in
         ap (λ (x : Tale). last x drive block) (sym same) ∙ (writes.2.quiet.outside drive block out).last ∙ (looks.2.outside drive block refl).last

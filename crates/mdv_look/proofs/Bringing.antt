@@ -20,7 +20,7 @@ use Rattle.mdv_shelf.proofs.Blocks.{kept_unwritten}
 use Rattle.mdv_shelf.specs.Calls.{and_then}
 use Rattle.mdv_look.specs.Below.{Ghosts, IsSynced, Synced, Tale, Then}
 use Rattle.mdv_look.specs.Bringing.{AreSynced, AreUpBy, BringingEnds, IsBringingCounted, IsTryCounted, brought_up}
-use Rattle.mdv_look.specs.Quiet.{IsUnwritten}
+use Rattle.mdv_look.specs.Quiet.{WritesNothing}
 use Rattle.mdv_look.proofs.Few.{made_reads, reads_more}
 use Rattle.mdv_look.proofs.Quiet.{unwritten_more, unwritten_same, unwritten_synced}
 
@@ -34,7 +34,7 @@ one_number a b same = cc (same)
 pub is_drive : (a b : DriveNo) → (a ≡ b) ⊎ (a ≢ b)
 is_drive a b = elim (cases_eq a.0 b.0) [ inl same ↦ inl (same_drive a b same) | inr other ↦ inr (λ e. other (ap (λ (d : DriveNo). d.0) e)) ]
 
-unwritten_sync : (drive : ℕ) (t : Tale) → IsUnwritten t (Then t (Synced drive))
+unwritten_sync : (drive : ℕ) (t : Tale) → WritesNothing t (Then t (Synced drive))
 unwritten_sync drive t = record { outside = λ other block out. kept_unwritten t (Synced drive) other block refl; quiet = told_synced t drive }
 
 -- of drives that are named once none is in front of itself
@@ -66,7 +66,7 @@ count_same p q (x ∷ xs) same =
 -- what was done to one drive, and whether it came up
 pub record TriedEnds (drive : DriveNo) (up : Bool) (u v : Tale) : Type 0 where
   pub tale : v ≡ cond up (Then u (Synced drive.0)) u
-  pub unwritten : IsUnwritten u v
+  pub unwritten : WritesNothing u v
   pub synced : up ≡ true → IsSynced drive.0 v
 
 -- the last of the drives is brought up behind the others
@@ -85,7 +85,7 @@ brought_same up later (first ∷ drives) t same =
 module _ {S : Type 0} (shelf : Ghosts S) where
   pub record Tried (now next : S) (drive : DriveNo) (up : Bool) : Type 0 where
     pub cause : MatchBool up (shelf.faults next (OnDrive drive.0) ≡ shelf.faults now (OnDrive drive.0)) (RoseOnce (shelf.faults now (OnDrive drive.0)) (shelf.faults next (OnDrive drive.0)))
-    pub moments : AtEachTale shelf IsUnwritten now next
+    pub moments : AtEachTale shelf WritesNothing now next
     pub end : AtEnd shelf (TriedEnds drive up) now next
     pub calls : ℕ
     pub least : 1 + cond up 1 0 ≤ calls
@@ -113,7 +113,7 @@ module _ {S : Type 0} (shelf : Ghosts S) where
     pub tried_badly : {T E : Type 0} (fault : E) → HasCause {T = T} (shelf.faults now (OnDrive drive.0)) (shelf.faults next (OnDrive drive.0)) (Err fault) → shelf.tale next ≡ shelf.tale now → IsTryCounted {T = T} shelf now next (Err fault) → Tried now next drive false
     tried_badly fault cause tale counted = record {
       cause = cause.failed;
-      moments = moments_none IsUnwritten (shelf.tale now) (shelf.tale next) tale unwritten_same;
+      moments = moments_none WritesNothing (shelf.tale now) (shelf.tale next) tale unwritten_same;
       end = λ t is. (t, tale ∙ is, record { tale = refl; unwritten = unwritten_same t; synced = λ so. absurd (cc (so)) });
       calls = counted.calls;
       least = omega (arith, counted.least);
@@ -126,7 +126,7 @@ module _ {S : Type 0} (shelf : Ghosts S) where
     -- the drives in front were brought up
     pub record SoFar (now : S) (front : List DriveNo) (up : Drives) : Type 0 where
       pub ups : AreUpBy (DriveFailures shelf old now) front up
-      pub moments : AtEachTale shelf IsUnwritten old now
+      pub moments : AtEachTale shelf WritesNothing old now
       pub end : AtEnd shelf (BringingEnds up front) old now
       pub counted : IsBringingCounted shelf old now front up
       pub kept : KeptAmong shelf old now front
@@ -134,7 +134,7 @@ module _ {S : Type 0} (shelf : Ghosts S) where
     pub so_far_none : (up : Drives) → ((drive : DriveNo) → has_drive up drive ≡ false) → SoFar old [] up
     so_far_none up none = record {
       ups = record { each = λ drive one_of. absurd (omega (arith, one_of.1)); others = λ drive out. none drive };
-      moments = moments_none IsUnwritten (shelf.tale old) (shelf.tale old) refl unwritten_same;
+      moments = moments_none WritesNothing (shelf.tale old) (shelf.tale old) refl unwritten_same;
       end = λ t is. (t, is, record { tale = refl; synced = λ drive so. absurd (cc (so, none drive)) });
       counted = record { calls = 0; by = record { least = omega arith; most = omega arith }; made = refl };
       kept = among_none shelf old [];
@@ -207,7 +207,7 @@ module _ {S : Type 0} (shelf : Ghosts S) where
       pub so_far_more : SoFar next more later
       so_far_more = record {
         ups = ups_more;
-        moments = moments_more IsUnwritten IsUnwritten IsUnwritten (shelf.tale old) (shelf.tale now) (shelf.tale next) (λ t m is. is) unwritten_more so_far.moments tried.moments;
+        moments = moments_more WritesNothing WritesNothing WritesNothing (shelf.tale old) (shelf.tale now) (shelf.tale next) (λ t m is. is) unwritten_more so_far.moments tried.moments;
         end = ends_more (BringingEnds up front) (TriedEnds drive (has_drive later drive)) (BringingEnds later more) (shelf.tale old) (shelf.tale now) (shelf.tale next) ends_later so_far.end tried.end;
         counted = counted_more;
         kept = among_then shelf old now next more drive (Contains-push front drive) calm (among_wider shelf old now front more (λ other one_of. Contains-append_left front (drive ∷ []) other one_of) so_far.kept) tried.kept;

@@ -14,7 +14,7 @@ use Rattle.mdv_survey.specs.Replica.{Contents}
 use Rattle.mdv_survey.specs.Survey.{AreWithin, HaveFailed, IsSurvey, IsSurveyOf, answers_in}
 use Rattle.mdv_survey.specs.declared.replica.Survey.{Survey}
 use Rattle.mdv_look.specs.Below.{DriveNo, Drives, Geometry, Ghosts, Site, SliceLine, Tale, has_drive, last}
-use Rattle.mdv_look.specs.Looking.{AreCalmBy, AreLeftOf, HasFailedOn, HaveAnswered, IsLookCounted, IsLooked, IsLookedAt, reads_by}
+use Rattle.mdv_look.specs.Looking.{AreCalmBy, AreLeftOf, HasFailedOn, AreAllCalm, IsLookCounted, IsLooked, IsLookedAt, reads_by}
 use Rattle.mdv_look.specs.declared.looking.Looked.{Looked}
 use Rattle.mdv_look.proofs.Bringing.{count_cons, is_drive}
 use Rattle.mdv_look.proofs.Few.{few_more, few_wider}
@@ -284,7 +284,7 @@ module _ {S : Type 0} (shelf : Ghosts S) (g : Geometry) (site : Site) (old mid :
     pub looked_more : IsLooked shelf old new g site up result
     looked_more = record { same = inner.same ∙ same; found = IfOk-weaker result (IsLookedAt shelf mid new g site left) (IsLookedAt shelf old new g site up) more_at inner.found }
 
-    never : (looked : Looked) → IsLookedAt shelf mid new g site left looked → HaveAnswered site up looked.calm → ⊥
+    never : (looked : Looked) → IsLookedAt shelf mid new g site left looked → AreAllCalm site up looked.calm → ⊥
     never looked at answered =
         let left_in : has_drive left has.drive ≡ true = at.calm.is_up has.drive (answered has.drive has.one_of has.is_up) in
         cc (none_failed has.drive left_in, has.has)

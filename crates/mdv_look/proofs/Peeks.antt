@@ -8,13 +8,11 @@ use Rattle.mdv_survey.specs.Counts.{MadeFew}
 use Rattle.mdv_survey.specs.declared.choosing.Choice.TheVariants as chosen
 use Rattle.mdv_survey.specs.declared.replica.Newest.{Newest}
 use Rattle.mdv_survey.specs.declared.replica.Survey.{Survey}
-use Rattle.mdv_table.specs.declared.table.Table.{Table}
 use Rattle.mdv_look.specs.Below.{DriveNo, Drives, Geometry, Ghosts, Site, has_drive}
-use Rattle.mdv_look.specs.Looking.{IsLookCounted, IsLookedAt, most_reads}
-use Rattle.mdv_look.specs.Peeking.{AreAllOf, IsPeekBy, IsPeeked, WasChosen}
+use Rattle.mdv_look.specs.Looking.{AreAllCalm, IsLookCounted, IsLookedAt, most_reads, reads_by}
+use Rattle.mdv_look.specs.Peeking.{AreAllOf, IsPeekBy, IsPeeked, WasChosen, WasWanting}
 use Rattle.mdv_look.specs.declared.looking.Looked.{Looked}
-use Rattle.mdv_look.specs.declared.peeking.PeekRefusal.{PeekRefusal}
-use Rattle.mdv_look.specs.declared.peeking.PeekRefusal.TheVariants as refused
+use Rattle.mdv_look.specs.declared.peeking.Peeked.{Peeked}
 use Rattle.mdv_look.proofs.Bringing.{is_drive}
 use Rattle.mdv_look.proofs.Few.{few_wider}
 use Rattle.mdv_look.proofs.Looks.{count_length}
@@ -50,8 +48,19 @@ module _ {S : Type 0} (shelf : Ghosts S) (old new : S) (g : Geometry) (site : Si
       let product = mul-le-mul_left (765 * length site.lines) larger in
       few_wider shelf old new ((1 + count_by (has_drive all) site.drives) * (765 * length site.lines)) (most_reads site) (omega (arith, product)) counted.few
 
-  pub peeked : {E : Type 0} (looked : Looked) (result : Result Table PeekRefusal) → IsLookedAt shelf old new g site all looked → IsLookCounted {E = E} shelf old new g site all (Ok looked) → IsPeekBy looked.survey result → IsPeeked shelf old new g site result
-  peeked looked result at counted by = record { all = all; are = are; few = few_of (Ok looked) counted; ended = inr (record { looked = looked; at = at; by = by; some = counted.some; once = counted.once }) }
+  pub peeked : {E : Type 0} (looked : Looked) (peek : Peeked) → IsLookedAt shelf old new g site all looked → IsLookCounted {E = E} shelf old new g site all (Ok looked) → IsPeekBy looked.survey peek.answer → peek.calm ≡ looked.calm → IsPeeked shelf old new g site peek
+  peeked looked peek at counted by calm = record {
+    all = all;
+    are = are;
+    few = few_of (Ok looked) counted;
+    ended = inr (record {
+      survey = looked.survey;
+      at = subst (λ (d : Drives). IsLookedAt shelf old new g site all (record { survey = looked.survey; calm = d })) (sym calm) at;
+      by = by;
+      some = subst (λ (d : Drives). MadeFew shelf old new (reads_by site all d)) (sym calm) counted.some;
+      once = λ answered. counted.once (subst (AreAllCalm site all) calm answered);
+    });
+  }
 
-  pub unpeeked : {E : Type 0} (fault : E) → IsLookCounted shelf old new g site all (Err fault) → IsPeeked shelf old new g site (Err refused.Memory)
-  unpeeked fault counted = record { all = all; are = are; few = few_of (Err fault) counted; ended = inl refl }
+  pub unpeeked : {E : Type 0} (fault : E) (peek : Peeked) → IsLookCounted shelf old new g site all (Err fault) → WasWanting peek → IsPeeked shelf old new g site peek
+  unpeeked fault peek counted wanting = record { all = all; are = are; few = few_of (Err fault) counted; ended = inl wanting }

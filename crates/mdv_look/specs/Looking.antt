@@ -47,8 +47,8 @@ pub record IsLooked {S E : Type 0} (shelf : Ghosts S) (old new : S) (g : Geometr
   pub found : IfOk result (IsLookedAt shelf old new g site up)
 
 -- the drives that are up answered every read
-abbrev pub HaveAnswered : Site → (up calm : Drives) → Type 0
-HaveAnswered site up calm = (drive : DriveNo) → Contains site.drives drive → has_drive up drive ≡ true → has_drive calm drive ≡ true
+abbrev pub AreAllCalm : Site → (up calm : Drives) → Type 0
+AreAllCalm site up calm = (drive : DriveNo) → Contains site.drives drive → has_drive up drive ≡ true → has_drive calm drive ≡ true
 
 -- at most so many reads of each slice, for as many looks as there are drives, and one
 abbrev pub most_reads : Site → ℕ
@@ -63,4 +63,4 @@ reads_by site up calm = (1 + count_by (λ (drive : DriveNo). has_drive up drive 
 pub record IsLookCounted {S E : Type 0} (shelf : Ghosts S) (old new : S) (g : Geometry) (site : Site) (up : Drives) (result : Result Looked E) : Type 0 where
   pub few : MadeFew shelf old new ((1 + count_by (has_drive up) site.drives) * (765 * length site.lines))
   pub some : IfOk result (λ looked. MadeFew shelf old new (reads_by site up looked.calm))
-  pub once : IfOk result (λ looked. HaveAnswered site up looked.calm → (t : Tale) → shelf.tale old ≡ Some t → (n : ℕ) × MadeReads shelf old new n × AreLinesBy g site up no_drives (last t) site.lines n)
+  pub once : IfOk result (λ looked. AreAllCalm site up looked.calm → (t : Tale) → shelf.tale old ≡ Some t → (n : ℕ) × MadeReads shelf old new n × AreLinesBy g site up no_drives (last t) site.lines n)

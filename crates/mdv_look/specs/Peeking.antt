@@ -1,5 +1,5 @@
 -- What a boot would take, by what the drives of a site hold.
-use Rattle.std.specs.Prelude.{◌≡◌, ◌⊎◌, ℕ, true, List, Contains, Some, Result, Ok, Err}
+use Rattle.std.specs.Prelude.{◌≡◌, ◌⊎◌, ℕ, true, false, List, Contains, Some, Result, Ok, Err}
 use Rattle.mdv_base.specs.DriveSet.{no_drives}
 use Rattle.mdv_survey.specs.Choice.{IsChoice}
 use Rattle.mdv_survey.specs.Counts.{AreLinesBy, MadeFew, MadeReads}
@@ -8,10 +8,10 @@ use Rattle.mdv_survey.specs.declared.replica.Newest.{Newest}
 use Rattle.mdv_survey.specs.declared.replica.Survey.{Survey}
 use Rattle.mdv_table.specs.declared.table.Table.{Table}
 use Rattle.mdv_look.specs.Below.{DriveNo, Drives, Geometry, Ghosts, Site, Tale, has_drive, last}
-use Rattle.mdv_look.specs.Looking.{HaveAnswered, IsLookedAt, most_reads, reads_by}
-use Rattle.mdv_look.specs.declared.looking.Looked.{Looked}
+use Rattle.mdv_look.specs.Looking.{AreAllCalm, IsLookedAt, most_reads, reads_by}
 use Rattle.mdv_look.specs.declared.peeking.PeekRefusal.{PeekRefusal}
 use Rattle.mdv_look.specs.declared.peeking.PeekRefusal.TheVariants as refused
+use Rattle.mdv_look.specs.declared.peeking.Peeked.{Peeked}
 
 -- the set has these drives, and no other one
 pub record AreAllOf (drives : List DriveNo) (set : Drives) : Type 0 where
@@ -37,18 +37,23 @@ IsPeekBy survey (Err (refused.NoQuorum readable needed)) = IsChoice survey (chos
 IsPeekBy survey (Err (refused.TwoDatabases a b)) = IsChoice survey (chosen.TwoDatabases a b)
 IsPeekBy survey (Err refused.Memory) = Unit {0}
 
--- All drives of the site were looked at, as a boot looks at those that are up, and the answer is by what the ones that answered every read hold. Where all of them
--- did, each head and each body of an open slot was read once; else there are no more looks than drives of which a read failed, and one.
-pub record IsPeekOf {S : Type 0} (shelf : Ghosts S) (old new : S) (g : Geometry) (site : Site) (all : Drives) (result : Result Table PeekRefusal) : Type 0 where
-  pub looked : Looked
-  pub at : IsLookedAt shelf old new g site all looked
-  pub by : IsPeekBy looked.survey result
-  pub some : MadeFew shelf old new (reads_by site all looked.calm)
-  pub once : HaveAnswered site all looked.calm → (t : Tale) → shelf.tale old ≡ Some t → (n : ℕ) × MadeReads shelf old new n × AreLinesBy g site all no_drives (last t) site.lines n
+-- All drives of the site were looked at, as a boot looks at those that are up: the answer is by what the ones that answered every read hold, and just these are told.
+-- Where all did, each head and each body of an open slot was read once; else there are no more looks than drives of which a read failed, and one.
+pub record IsPeekOf {S : Type 0} (shelf : Ghosts S) (old new : S) (g : Geometry) (site : Site) (all : Drives) (peeked : Peeked) : Type 0 where
+  pub survey : Survey
+  pub at : IsLookedAt shelf old new g site all (record { survey = survey; calm = peeked.calm })
+  pub by : IsPeekBy survey peeked.answer
+  pub some : MadeFew shelf old new (reads_by site all peeked.calm)
+  pub once : AreAllCalm site all peeked.calm → (t : Tale) → shelf.tale old ≡ Some t → (n : ℕ) × MadeReads shelf old new n × AreLinesBy g site all no_drives (last t) site.lines n
+
+-- no drive is told of, since memory was wanting
+pub record WasWanting (peeked : Peeked) : Type 0 where
+  pub answer_is : peeked.answer ≡ Err refused.Memory
+  pub none : (drive : DriveNo) → has_drive peeked.calm drive ≡ false
 
 -- So it was, or memory was wanting. There are no more looks than drives, and one.
-pub record IsPeeked {S : Type 0} (shelf : Ghosts S) (old new : S) (g : Geometry) (site : Site) (result : Result Table PeekRefusal) : Type 0 where
+pub record IsPeeked {S : Type 0} (shelf : Ghosts S) (old new : S) (g : Geometry) (site : Site) (peeked : Peeked) : Type 0 where
   pub all : Drives
   pub are : AreAllOf site.drives all
   pub few : MadeFew shelf old new (most_reads site)
-  pub ended : (result ≡ Err refused.Memory) ⊎ IsPeekOf shelf old new g site all result
+  pub ended : WasWanting peeked ⊎ IsPeekOf shelf old new g site all peeked

@@ -8,5 +8,5 @@ pub record IsQuiet (area : Area) (t m : Tale) : Type 0 where
   pub quiet : told m ≡ told t
 
 -- nothing is told, and no block is written
-abbrev pub IsUnwritten : Tale → Tale → Type 0
-IsUnwritten = IsQuiet nowhere
+abbrev pub WritesNothing : Tale → Tale → Type 0
+WritesNothing = IsQuiet nowhere

@@ -4,7 +4,7 @@ ghost use Rattle.mdv_shelf.specs.Calls.{OnDrive, InDrive, Syncs};
 ghost use Rattle.mdv_shelf.specs.Drives.{AreDrives, KeptAmong};
 ghost use Rattle.mdv_shelf.specs.Shelves.{AtEachTale, AtEnd, DriveFailures, KeptOn};
 ghost use Rattle.mdv_look.specs.Bringing.{AreUpBy, BringingEnds, IsBringingCounted, IsTryCounted};
-ghost use Rattle.mdv_look.specs.Quiet.{IsUnwritten};
+ghost use Rattle.mdv_look.specs.Quiet.{WritesNothing};
 
 use mdv_base::{DriveNo, DriveSet, Failed, ZERO_BLOCK};
 use mdv_shelf::Shelf;
@@ -14,7 +14,7 @@ use mdv_shelf::Shelf;
 pub fn bring_up<S: Shelf>(shelf: &mut S, drives: &[DriveNo]) -> DriveSet
     requires { AreDrives (S.sizes shelf.old) drives.now }
     ensures up { AreUpBy (DriveFailures S.Shelf shelf.old shelf.new) drives.now result }
-    ensures moments { AtEachTale S.Shelf IsUnwritten shelf.old shelf.new }
+    ensures moments { AtEachTale S.Shelf WritesNothing shelf.old shelf.new }
     ensures end { AtEnd S.Shelf (BringingEnds result drives.now) shelf.old shelf.new }
     ensures counted { IsBringingCounted S.Shelf shelf.old shelf.new drives.now result }
     ensures kept { KeptAmong S.Shelf shelf.old shelf.new drives.now }

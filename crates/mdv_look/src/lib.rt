@@ -7,4 +7,4 @@ mod peeking;
 
 pub use drives::bring_up;
 pub use looking::{Looked, look};
-pub use peeking::{PeekRefusal, peek};
+pub use peeking::{PeekRefusal, Peeked, peek};

@@ -7,7 +7,7 @@ ghost use Rattle.mdv_survey.specs.Newest.{IsMarked};
 ghost use Rattle.mdv_survey.specs.Replica.{IsOnShelf};
 ghost use Rattle.mdv_look.specs.Peeking.{AreAllOf, IsPeekBy, IsPeeked, WasChosen};
 
-use crate::looking::look;
+use crate::looking::{Looked, look};
 use mdv_base::{DriveNo, DriveSet, Identity};
 use mdv_name::Geometry;
 use mdv_shelf::Shelf;
@@ -16,12 +16,12 @@ use mdv_survey::{Choice, Survey, choose};
 use mdv_table::Table;
 use std::alloc::{AllocError, Global};
 
-/// Why a boot would take no table.
+/// Why a boot would take no table of what the drives that answered hold.
 #[derive(Clone, Copy, Debug, PartialEq, Eq)]
 pub enum PeekRefusal {
-    /// No readable replica shows a table.
+    /// No readable replica of the drives that answered shows a table.
     Empty,
-    /// Not more than half of the places of the newest table's list were found: so many were, and so many are needed.
+    /// On the drives that answered not more than half of the places that the newest table there lists were found: so many were, and so many are needed.
     NoQuorum { readable: u32, needed: u32 },
     /// Replicas that show tables have different identities: that of the first one in the order of the slices, and the first other one.
     TwoDatabases { a: Identity, b: Identity },
@@ -29,16 +29,25 @@ pub enum PeekRefusal {
     Memory,
 }
 
+/// What a peek tells, and of which drives.
+#[derive(Drop)]
+pub struct Peeked {
+    /// The newest table that the drives which answered hold, where a boot's votes take it.
+    pub answer: Result<Table, PeekRefusal>,
+    /// The site's drives that answered every read: of what lies on the others nothing is told. None where memory was refused.
+    pub calm: DriveSet,
+}
+
 /// The newest table on the site's drives, where a boot's votes take it: all replicas that show tables are of one database, and more than half of the
 /// places that it lists were found. It looks at the slices of all drives of the site, brought up or not; where a read fails it looks anew without that
-/// drive. It writes nothing and syncs nothing, so a crash may take back what was read. Whether the places have room for a text, and numbers are left to
+/// drive, and tells which drives answered. It writes nothing and syncs nothing, so a crash may take back what was read. Whether the places have room for a text, and numbers are left to
 /// draw, a boot alone asks.
 pub fn peek<S: Shelf>(
     shelf: &mut S,
     alloc: Global,
     geometry: &Geometry,
     site: &Site,
-) -> Result<Table, PeekRefusal>
+) -> Peeked
     requires sound { IsSound geometry.now }
     requires on_shelf { IsOnShelf (S.sizes shelf.old) site.now }
     ensures answer { IsPeeked S.Shelf shelf.old shelf.new geometry.now site.now result }
@@ -47,8 +56,23 @@ pub fn peek<S: Shelf>(
 {
     let all = set_of(site.drives.as_slice());
     match look(shelf, alloc, geometry, site, &all) {
-        Ok(looked) => taken(looked.survey),
-        Err(AllocError) => Err(PeekRefusal::Memory),
+        Ok(looked) => told(looked),
+        Err(AllocError) => Peeked {
+            answer: Err(PeekRefusal::Memory),
+            calm: DriveSet::new(),
+        },
+    }
+}
+
+fn told(looked: Looked) -> Peeked
+    requires { IsMarked looked.survey.replicas looked.survey.newest }
+    ensures answer { IsPeekBy looked.survey result.answer }
+    ensures calm { result.calm ≡ looked.calm }
+{
+    let Looked { survey, calm } = looked;
+    Peeked {
+        answer: taken(survey),
+        calm,
     }
 }
 

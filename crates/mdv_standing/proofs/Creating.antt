@@ -24,7 +24,7 @@ use Rattle.mdv_standing.specs.Below.{Core, Creating, DriveNo, FamilyTable, First
 use Rattle.mdv_standing.specs.Laws.{HasNone}
 use Rattle.mdv_standing.specs.Matching.{IsVersionAt, Matches, is_set, spots_of, tables_of}
 use Rattle.mdv_standing.specs.Worlds.{IsNoneOr, IsTaking, IsWorld, Turned}
-use Rattle.mdv_standing.specs.Creating.{AreFormed, IsCreating, IsCreation, IsFormatting, MayBeFormatted, first_mark, issued_log}
+use Rattle.mdv_standing.specs.Creating.{AreAllPlaced, IsCreating, IsCreation, IsFormatting, MayBeFormatted, first_mark, issued_log}
 use Rattle.mdv_standing.proofs.Reaching.{reached_more, standing}
 use Rattle.mdv_standing.proofs.Following.{Follows, matches_follow, since_put}
 use Rattle.mdv_standing.proofs.Beginning.{LeadsBy, begun_taking, begun_world}
@@ -385,7 +385,7 @@ may_write_first g identity log table issued empty none = (
 -- The first table begins to be written.
 module _ (Spells : List ℕ → Table → Type 0) (site : Site) (identity : Identity) (log : Log) (w : Core) (image : Image) (p : Spot) (table : Table) (done : List Spot)
     (c : IsCreation Spells site identity log w image table.plan.lists done) (some : is_none (spots_of site table.plan.lists).first ≡ false) (has : is_in done p ≡ true) (named : is_named (spots_of site table.plan.lists) p ≡ true)
-    (formed : AreFormed Spells site identity table.plan.lists image) where
+    (formed : AreAllPlaced Spells site identity table.plan.lists image) where
   abbrev first : FamilyTable
   first = c.known.next
 

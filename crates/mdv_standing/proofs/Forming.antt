@@ -1,7 +1,7 @@
 -- A log and the worlds of all images go on together while a database is created.
 use Rattle.std.proofs.Common.{◌≡◌, ℕ, false, true, List, [], ◌∷◌, refl, Option, None}
 use Rattle.mdv_standing.specs.Below.{Core, Everywhere, FirstIs, Formats, Geometry, Identity, Image, IsImage, Leaves, Lists, Log, Master, MayFormat, Site, SliceLine, Spot, Table, Tale, after_all, is_in, is_named, is_none, master_on, place_on, spot_on}
-use Rattle.mdv_standing.specs.Creating.{AreFormed, IsCreating, IsFormatting, first_mark, issued_log}
+use Rattle.mdv_standing.specs.Creating.{AreAllPlaced, IsCreating, IsFormatting, first_mark, issued_log}
 use Rattle.mdv_standing.specs.Forming.{IsBehind, IsForming, IsToFormat}
 use Rattle.mdv_standing.specs.Laws.{HasNone}
 use Rattle.mdv_standing.specs.Matching.{spots_of}
@@ -62,7 +62,7 @@ module _ (Spells : List ℕ → Table → Type 0) (site : Site) (identity : Iden
           (after_all w.0 to.events, to.world, to.known))
 
   pub all_formed : (g : Geometry) (log : Log) (t : Tale) (p : Spot) (table : Table) (done : List Spot) → table.plan.volumes ≡ [] → is_none (spots_of site table.plan.lists).first ≡ false → is_in done p ≡ true → is_named (spots_of site table.plan.lists) p ≡ true
-      → Everywhere (AreFormed Spells site identity table.plan.lists) t → IsForming Spells site identity log t table.plan.lists done → Begins Spells g site identity false log t first_mark None table
+      → Everywhere (AreAllPlaced Spells site identity table.plan.lists) t → IsForming Spells site identity log t table.plan.lists done → Begins Spells g site identity false log t first_mark None table
   all_formed g log t p table done none some has named formed forming = record {
     before = [];
     may = may_write_first g identity log table forming.issued forming.empty none;

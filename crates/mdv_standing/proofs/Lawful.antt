@@ -18,7 +18,7 @@ use Rattle.mdv_store_law.specs.Laws.{restarted}
 use Rattle.mdv_store_law.specs.Log.{AreMade, IsLog, empty_log}
 use Rattle.mdv_store_law.proofs.Families.{extends_more, extends_written}
 use Rattle.mdv_standing.specs.Below.{Area, AreApart, Change, Core, First, Geometry, HaveRead, Head, Identity, Image, IsBelow, IsChosen, IsImage, IsSite, KeptOutside, Claimed, Lists, One, Log, Mark, Open, Place, Second, Seen, Site, Slot, Spot, SpotLists, FamilyTable, Table, Tale, Version, covers, gate_of, greatest_seen, is_in, is_majority, is_none, is_written, place_at, place_on, shows, site_area, slice_at, spot_on, spot_seen, spots_seen, start, table_at}
-use Rattle.mdv_standing.specs.Listed.{HasTable}
+use Rattle.mdv_standing.specs.Listed.{HoldsNewest}
 use Rattle.mdv_standing.specs.Matching.{Matches, is_set, lists_of, spot_in, spots_of, tables_of, version_at}
 use Rattle.mdv_standing.specs.Worlds.{IsWorld, HasClaimed}
 use Rattle.mdv_standing.specs.Standing.{Covers, Stands}
@@ -149,7 +149,7 @@ module _ (Spells : List ℕ → Table → Type 0) (site : Site) (identity : Iden
       subst (λ (x : Option ℕ). NewestIs Spells (tables_of log.family) w.family (place_on o.line o.first.blocks o.first.count o.number) (image o.line.at.drive.0) o.head x) here with.newest in
       false≢true (sym (none o.line o.number o.first o.head o.own) ∙ opens o.head n.slot (table_at w.family i).mark n.is.shows.bytes n.is.shows.gate)
 
-  pub nothing_shown : (p : Spot) (i : ℕ) → HasTable w p i → ⊥
+  pub nothing_shown : (p : Spot) (i : ℕ) → HoldsNewest w p i → ⊥
   nothing_shown p i has = elim (cases_Bool p.mediator) [
     | inl seat ↦ world.shows.seats p seat has.holds
     | inr place ↦ no_newest p i place has.holds has.newest

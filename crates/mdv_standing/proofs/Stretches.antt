@@ -6,7 +6,7 @@ use Rattle.mdv_store_law.specs.Log.{IsMade}
 use Rattle.mdv_standing.specs.Below.{Change, Claimed, Claims, Core, Everywhere, Filled, Fills, FirstIs, Formatted, Formats, Geometry, Head, Identity, Image, IsAbove, IsBodyOf, IsChosen, IsImage, IsSpareSlot, LeftClosed, Leaves, Lists, Log, Mark, Master, MayClaim, MayFill, MayFormat, MayHappen, Seen, Site, SliceLine, Slot, Slotted, Spot, Table, Tale, Told, Version, WritesLog, Written, after_all, covers, greatest_seen, is_claimed, is_in, is_majority, is_named, is_none, is_written, log_after, master_on, place_on, spot_on, spots_seen}
 use Rattle.mdv_standing.specs.Adopting.{IsBeginning, IsClaim, IsLook, IsSlotWrite, drawn}
 use Rattle.mdv_standing.specs.Committing.{IsCommit}
-use Rattle.mdv_standing.specs.Creating.{AreFormed, IsCreating, IsFormatting, MayBeFormatted, first_mark, issued_log}
+use Rattle.mdv_standing.specs.Creating.{AreAllPlaced, IsCreating, IsFormatting, MayBeFormatted, first_mark, issued_log}
 use Rattle.mdv_standing.specs.Forming.{IsBehind, IsToFormat}
 use Rattle.mdv_standing.specs.Laws.{HasNone}
 use Rattle.mdv_standing.specs.Matching.{by_majority_on, is_set, spots_of, voted_table}
@@ -241,7 +241,7 @@ module _ (Spells : List ℕ → Table → Type 0) (site : Site) (identity : Iden
           later_formatted Spells site identity log w old line k first lists done behind.later (formatting first.blocks first.count k place w old is world known) (behind.has old is) (behind.chain old is) new change)
 
   pub traced_first_write : (p : Spot) (table : Table) (done : List Spot) → log.family ≡ [] → is_none (spots_of site table.plan.lists).first ≡ false → is_in done p ≡ true → is_named (spots_of site table.plan.lists) p ≡ true
-      → Everywhere (AreFormed Spells site identity table.plan.lists) t → Traces Spells site identity log (log_after log (WritesLog first_mark None [] table)) (IsCreating (spots_of site table.plan.lists) done) (λ es. es ≡ Slotted p LeftClosed ∷ []) (IsTaking false first_mark []) t t
+      → Everywhere (AreAllPlaced Spells site identity table.plan.lists) t → Traces Spells site identity log (log_after log (WritesLog first_mark None [] table)) (IsCreating (spots_of site table.plan.lists) done) (λ es. es ≡ Slotted p LeftClosed ∷ []) (IsTaking false first_mark []) t t
   traced_first_write p table done empty some has named formed =
       trace_here Spells site identity log (log_after log (WritesLog first_mark None [] table)) (IsCreating (spots_of site table.plan.lists) done) (λ es. es ≡ Slotted p LeftClosed ∷ []) (IsTaking false first_mark []) t
       (λ w image is world known. writes_first Spells site identity log w image p table done (record { world = world; empty = empty; known = known }) some has named (formed image is))

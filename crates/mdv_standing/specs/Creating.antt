@@ -42,8 +42,8 @@ pub record IsFormatting (Spells : List ℕ → Table → Type 0) (site : Site) (
   pub before : (q : Spot) → IsTrue (is_in done q) → q.drive.0 ≡ line.at.drive.0 → line.at.start ≤ q.first → q.first < line.at.start + line.at.blocks → q.first < line.at.start + (16 + k * blocks)
 
 -- each place of the lists has a replica of the database
-abbrev pub AreFormed : (List ℕ → Table → Type 0) → Site → Identity → Lists → Image → Type 0
-AreFormed Spells site identity lists image = (place : Place) → Contains (places_of lists) place → HasPlace Spells site identity image place
+abbrev pub AreAllPlaced : (List ℕ → Table → Type 0) → Site → Identity → Lists → Image → Type 0
+AreAllPlaced Spells site identity lists image = (place : Place) → Contains (places_of lists) place → HasPlace Spells site identity image place
 
 -- as before, or with this place formatted
 abbrev pub MayBeFormatted : SpotLists → Spot → List Spot → Core → Type 0
@@ -75,5 +75,5 @@ pub record CreationsGo : Type 0 where
   -- and so it begins to be; from then on slots take it, and it is answered
   pub writes : (read : List ℕ → Option Table) (site : Site) (identity : Identity) (log : Log) (w : Core) (image : Image) (p : Spot) (table : Table) (done : List Spot)
       → IsCreation (Reads read) site identity log w image table.plan.lists done → is_none (spots_of site table.plan.lists).first ≡ false → IsTrue (is_in done p) → IsTrue (is_named (spots_of site table.plan.lists) p)
-      → AreFormed (Reads read) site identity table.plan.lists image
+      → AreAllPlaced (Reads read) site identity table.plan.lists image
       → Turned (Reads read) site identity (log_after log (WritesLog first_mark None [] table)) w image (λ es. es ≡ Slotted p LeftClosed ∷ []) (IsTaking false first_mark [])

@@ -17,7 +17,7 @@ abbrev pub HavePlaces : (List ℕ → Table → Type 0) → Site → Identity �
 HavePlaces Spells site identity log image = (v : Version) (place : Place) → Contains log.family v → Contains (places_of v.table.plan.lists) place → HasPlace Spells site identity image place
 
 -- the place holds a replica, whose newest table is that one
-pub record HasTable (w : Core) (p : Spot) (i : ℕ) : Type 0 where
+pub record HoldsNewest (w : Core) (p : Spot) (i : ℕ) : Type 0 where
   pub holds : (place_at w.places p).holds ≡ true
   pub newest : (place_at w.places p).newest ≡ Some i
 
@@ -25,4 +25,4 @@ pub record HasTable (w : Core) (p : Spot) (i : ℕ) : Type 0 where
 pub record IsUnshown (w : Core) : Type 0 where
   pub read : List Spot
   pub stage : w.stage ≡ Reading read
-  pub none : (p : Spot) (i : ℕ) → HasTable w p i → ⊥
+  pub none : (p : Spot) (i : ℕ) → HoldsNewest w p i → ⊥

@@ -4,7 +4,7 @@ use Rattle.mdv_store_law.specs.Log.{Adds, Event as LogEvent, IsCourse, IsMade, N
 use Rattle.mdv_store_law.specs.Part.{IsPart}
 use Rattle.mdv_standing.specs.Below.{Change, Claimed, Claims, Core, Event, Everywhere, Filled, Fills, FirstIs, Formatted, Formats, Geometry, Head, Identity, IsAbove, IsBodyOf, IsSpareSlot, LeftClosed, Leaves, Lists, Log, Mark, Master, MayClaim, MayFill, MayFormat, MayHappen, MayWipe, NextLists, PlaceAt, Reads, Seen, Site, SliceLine, Slot, Slotted, Spot, SpotLists, Table, Tale, Told, Version, WritesLog, Written, greatest_seen, is_claimed, is_in, is_named, is_none, is_written, log_after, master_on, place_on, spot_on, spots_seen, start}
 use Rattle.mdv_standing.specs.Adopting.{IsLook, IsMarked, drawn}
-use Rattle.mdv_standing.specs.Creating.{AreFormed, IsCreating, MayBeFormatted, first_mark, issued_log}
+use Rattle.mdv_standing.specs.Creating.{AreAllPlaced, IsCreating, MayBeFormatted, first_mark, issued_log}
 use Rattle.mdv_standing.specs.Forming.{IsBehind, IsToFormat}
 use Rattle.mdv_standing.specs.Laws.{HasNone}
 use Rattle.mdv_standing.specs.Matching.{by_majority_on, is_set, spots_of, voted_table}
@@ -157,5 +157,5 @@ pub record CreationsTrace : Type 0 where
   -- once each place of the first table was formatted that may be written, which has no volumes, and begins to be
   pub may : (g : Geometry) (identity : Identity) (log : Log) (table : Table) → log.issued ≡ Some identity → log.family ≡ [] → table.plan.volumes ≡ [] → MayHappen g log (WritesLog first_mark None [] table)
   pub writes : (read : List ℕ → Option Table) (site : Site) (identity : Identity) (log : Log) (t : Tale) (p : Spot) (table : Table) (done : List Spot) → log.family ≡ [] → is_none (spots_of site table.plan.lists).first ≡ false
-      → IsTrue (is_in done p) → IsTrue (is_named (spots_of site table.plan.lists) p) → Everywhere (AreFormed (Reads read) site identity table.plan.lists) t
+      → IsTrue (is_in done p) → IsTrue (is_named (spots_of site table.plan.lists) p) → Everywhere (AreAllPlaced (Reads read) site identity table.plan.lists) t
       → Traces (Reads read) site identity log (log_after log (WritesLog first_mark None [] table)) (IsCreating (spots_of site table.plan.lists) done) (λ es. es ≡ Slotted p LeftClosed ∷ []) (IsTaking false first_mark []) t t

@@ -1,7 +1,7 @@
 -- Which worlds an image shows, what is known of them, and how they go on.
 use Rattle.std.specs.Prelude.{◌≡◌, ◌⊎◌, ◌&&◌, ℕ, ◌+◌, ◌<◌, Bool, List, [], ◌∷◌, length, Option, None, Some, IsTrue}
 use Rattle.mdv_standing.specs.Below.{Identity, Mark, Site, Image, Core, Reading, Claiming, Writing, Ready, MayAll, after_all, last_table, last_number, Event, Log, Table, FamilyTable, Spot, Shows, IsWithin, is_in, is_none, is_read, greatest_of, knows_above, newest_of, table_at}
-use Rattle.mdv_standing.specs.Listed.{HasTable, HavePlaces, IsUnshown}
+use Rattle.mdv_standing.specs.Listed.{HoldsNewest, HavePlaces, IsUnshown}
 use Rattle.mdv_standing.specs.Matching.{Matches, Reached, tables_of}
 
 -- events led to the world, it is one of the log, the image shows it, and has each place that a table of the log lists, or no replica shows a table
@@ -31,7 +31,7 @@ pub record WillAdopt (mark : Mark) (number : ℕ) (w : Core) : Type 0 where
   pub known : table < length w.family
   pub voted : newest_of w.family w.places None read ≡ Some table
   pub place : Spot
-  pub shown : HasTable w place table
+  pub shown : HoldsNewest w place table
   pub marked : (table_at w.family table).mark ≡ mark
   pub quorum : IsTrue (is_read (table_at w.family table) (is_in read) (knows_above w.family w.places (table_at w.family table)))
   pub drawn : greatest_of w.family w.places 0 read + 1 ≡ number
@@ -56,7 +56,7 @@ pub data MayBeClaimed (mark : Mark) (number : ℕ) (ok : List Spot) (w : Core) :
 
 -- the place holds a replica, whose newest table is the last one
 abbrev pub HasLast : Core → Spot → Type 0
-HasLast w p = HasTable w p (last_number w)
+HasLast w p = HoldsNewest w p (last_number w)
 
 -- The last table is being written, under this mark. These places took it, and maybe more did.
 pub record IsTaking (by_majority : Bool) (mark : Mark) (took : List Spot) (w : Core) : Type 0 where

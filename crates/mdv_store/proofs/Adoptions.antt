@@ -32,7 +32,7 @@ use Rattle.mdv_store.specs.Booting.{BootGoes, BootMoment, HasShown, Writes, Writ
 use Rattle.mdv_store.specs.Commit.{AnyLog, AnyWorld, IsNewestWritten}
 use Rattle.mdv_store.specs.Opened.{Opened}
 use Rattle.mdv_store.specs.Seats.{AreLaid, IsLaid, active_of, drives_of, replica_area, replicas_of, seats_area, spots_of}
-use Rattle.mdv_store.specs.Taking.{IsCalmOn, IsHandOf, IsRewriteAnswer, IsRewriteEnd, IsTakingCounted, IsToAdopt, RewriteEnds, RewriteMoment, Rewrites, StaySynced, drives_read}
+use Rattle.mdv_store.specs.Taking.{IsCalmOver, IsHandOf, IsRewriteAnswer, IsRewriteEnd, IsTakingCounted, IsToAdopt, RewriteEnds, RewriteMoment, Rewrites, StaySynced, drives_read}
 use Rattle.mdv_store.specs.Text.{blocks_for}
 use Rattle.mdv_store.specs.declared.booting.BootEnd.{BootEnd}
 use Rattle.mdv_store.specs.declared.booting.BootEnd.TheVariants as end
@@ -79,8 +79,8 @@ module _ {S : Type 0} (shelf : Ghosts S) (now : S) (taken : Taken) (still : has_
   pub still_synced : AtEnd shelf (StaySynced shelf now now) now now
   still_synced t is = (t, is, λ drive was never. was)
 
-  pub still_calm : (replicas : List Replica) → taken.calm ≡ true → IsCalmOn shelf now now replicas taken.calm
-  still_calm replicas calm = subst (λ (b : Bool). IsCalmOn shelf now now replicas b) (sym calm) (λ drive. refl)
+  pub still_calm : (replicas : List Replica) → taken.calm ≡ true → IsCalmOver shelf now now replicas taken.calm
+  still_calm replicas calm = subst (λ (b : Bool). IsCalmOver shelf now now replicas b) (sym calm) (λ drive. refl)
 
   pub still_moments : (P : Tale → Geometry → Type 0) (site : Site) → AtEachTale shelf (λ t m. (g : Geometry) → P t g → BootMoment g site taken.end t m) now now
   still_moments P site = moments_none (λ t m. (g : Geometry) → P t g → BootMoment g site taken.end t m) (shelf.tale now) (shelf.tale now) refl (λ t g was. still_moment g site taken.end t still)
@@ -253,7 +253,7 @@ module _ (site : Site) (replicas : List Replica) (newest : Newest) (hand : Hand)
       pub adopted_ends : AtEnd shelf (λ t u. IfAdopted taken.end (λ o. RewriteEnds site.key hand newest.table o t u)) old new → AtEnd shelf (AdoptEnds site replicas newest taken.end) old new
       adopted_ends ends t told = (let e = ends t told in (e.0, e.1, adopt_end (DriveFailures shelf old new) taken.end answer.ended t e.0 e.2))
 
-      adopted_calm : (b : Bool) → IsCalmOn shelf old new (replicas_of hand.seats) b → IsCalmOn shelf old new replicas b
+      adopted_calm : (b : Bool) → IsCalmOver shelf old new (replicas_of hand.seats) b → IsCalmOver shelf old new replicas b
       adopted_calm true calm = calm
       adopted_calm false lost = (lost.0, of_hand lost.0 lost.1, lost.2)
 

@@ -6,7 +6,6 @@ use Rattle.std.specs.Option.{option_map}
 use Rattle.std.proofs.Math.Nat.{mul-le-mul_left}
 use Rattle.std.proofs.lemmas.List.Elements.{All-contains}
 use Rattle.mdv_base.specs.Causes.{RoseOnce}
-use Rattle.mdv_base.specs.declared.flags.Flags.{Flags}
 use Rattle.mdv_base.specs.DriveSet.{no_drives}
 use Rattle.mdv_replica.specs.Images.{IsSame}
 use Rattle.mdv_shelf.proofs.Among.{among_wider}
@@ -43,12 +42,12 @@ use Rattle.mdv_store.specs.Booting.{AreOfBoot, BootEnds, BootGoes, BootMoment, H
 use Rattle.mdv_look.specs.Bringing.{AreSynced, AreUpBy, BringingEnds, IsBringingCounted}
 use Rattle.mdv_store.specs.Commit.{AnyLog, AnyWorld}
 use Rattle.mdv_store.specs.Counts.{MadeCallsBetween}
-use Rattle.mdv_look.specs.Looking.{AreCalmBy, HaveAnswered, IsLookedAt, reads_by}
-use Rattle.mdv_look.specs.Quiet.{IsUnwritten}
-use Rattle.mdv_store.specs.Letters.{AreLettersOf}
+use Rattle.mdv_look.specs.Looking.{AreCalmBy, AreAllCalm, IsLookedAt, reads_by}
+use Rattle.mdv_look.specs.Quiet.{WritesNothing}
+use Rattle.mdv_store.specs.Letters.{AreLettersOf, places_seen}
 use Rattle.mdv_store.specs.Records.{Spells}
 use Rattle.mdv_store.specs.Seats.{AreLaid, active_of, drive_of, replicas_of, seats_area, spots_of}
-use Rattle.mdv_store.specs.Taking.{IsCalmOn, IsTaken, Rewrites, IsTakingCounted, StaySynced, TakingEnds, TakingMoment, WasRead, drives_read}
+use Rattle.mdv_store.specs.Taking.{IsCalmOver, IsTaken, Rewrites, IsTakingCounted, StaySynced, TakingEnds, TakingMoment, WasRead, drives_read}
 use Rattle.mdv_store.specs.Text.{blocks_for}
 use Rattle.mdv_store.specs.declared.booting.BootEnd.{BootEnd}
 use Rattle.mdv_store.specs.declared.booting.BootEnd.TheVariants as end
@@ -56,12 +55,14 @@ use Rattle.mdv_store.specs.declared.booting.Booted.{Booted}
 use Rattle.mdv_store.specs.declared.booting.Hand.{Hand}
 use Rattle.mdv_store.specs.declared.booting.Taken.{Taken}
 use Rattle.mdv_look.specs.declared.looking.Looked.{Looked}
+use Rattle.mdv_store.specs.declared.letters.Lettered.{Lettered}
 use Rattle.mdv_store.specs.declared.seats.Seat.{Seat}
 use Rattle.mdv_look.proofs.Among.{among_calm, among_silent}
 use Rattle.mdv_look.proofs.Bringing.{count_cons}
 use Rattle.mdv_look.proofs.Few.{few_more, reads_more}
 use Rattle.mdv_store.proofs.Few.{reads_between}
 use Rattle.mdv_look.proofs.Looks.{and_first, and_second, cases_bool, count_length, yes_not}
+use Rattle.mdv_store.proofs.Lettering.{of_ended}
 use Rattle.mdv_store.proofs.Passes.{left_as, unmapped}
 use Rattle.mdv_look.proofs.Quiet.{quiet_more, unwritten_quiet}
 use Rattle.mdv_store.proofs.Seating.{seated_at}
@@ -75,14 +76,14 @@ pub at_false : (A B : Type 0) (b : Bool) → b ≡ false → MatchBool b A B →
 at_false A B b is m = subst (λ (c : Bool). MatchBool c A B) is m
 
 -- Nothing is written.
-leaves_same : (t m : Tale) → IsUnwritten t m → Leaves IsSame t m
+leaves_same : (t m : Tale) → WritesNothing t m → Leaves IsSame t m
 leaves_same t m unwritten image is = (image, record { each = λ drive block. (unwritten.outside drive block refl).left (image drive block) (is.each drive block) }, λ drive block. refl)
 
-pub last_same : (t m : Tale) → IsUnwritten t m → last m ≡ last t
+pub last_same : (t m : Tale) → WritesNothing t m → last m ≡ last t
 last_same t m unwritten = λ i drive block. (unwritten.outside drive block refl).last i
 
 module _ (g : Geometry) (site : Site) (identity : Identity) where
-  nothing_goes : (t m : Tale) → IsUnwritten t m → BootGoes g site identity [] [] AnyWorld AnyLog t m
+  nothing_goes : (t m : Tale) → WritesNothing t m → BootGoes g site identity [] [] AnyWorld AnyLog t m
   nothing_goes t m unwritten log covers known = record {
     es = [];
     course = tt;
@@ -91,13 +92,13 @@ module _ (g : Geometry) (site : Site) (identity : Identity) where
     after = tt;
   }
 
-  rest_kept : (all : List Database) (t m : Tale) → IsUnwritten t m → RestStands (Spells g) g all identity t → RestStands (Spells g) g all identity m
+  rest_kept : (all : List Database) (t m : Tale) → WritesNothing t m → RestStands (Spells g) g all identity t → RestStands (Spells g) g all identity m
   rest_kept all t m unwritten = everywhere_kept (HoldsRest (Spells g) g all identity) t m unwritten.outside
 
-  blank_kept : (t m : Tale) → IsUnwritten t m → StayBlank g identity t m
+  blank_kept : (t m : Tale) → WritesNothing t m → StayBlank g identity t m
   blank_kept t m unwritten key other another = everywhere_kept (ShowsNoTable (Spells g) (site_of g key) other) t m unwritten.outside
 
-  pub nothing_written : (t m : Tale) → IsUnwritten t m → Writes g site identity t m
+  pub nothing_written : (t m : Tale) → WritesNothing t m → Writes g site identity t m
   nothing_written t m unwritten = record {
     read = [];
     seats = [];
@@ -110,7 +111,7 @@ module _ (g : Geometry) (site : Site) (identity : Identity) where
   }
 
   -- a boot goes on so behind calls that wrote nothing
-  pub goes_then : (read seated : List Spot) (Then : Core → Type 0) (After : Log → Type 0) (t u m : Tale) → IsUnwritten t u → BootGoes g site identity read seated Then After u m → BootGoes g site identity read seated Then After t m
+  pub goes_then : (read seated : List Spot) (Then : Core → Type 0) (After : Log → Type 0) (t u m : Tale) → WritesNothing t u → BootGoes g site identity read seated Then After u m → BootGoes g site identity read seated Then After t m
   goes_then read seated Then After t u m unwritten goes log covers known =
       let covers_u : CoversWith (Spells g) site identity (λ image w. Anything w) log u = everywhere_kept (λ image. (w : Core) × IsWorld (Spells g) site identity log w image × Anything w) t u unwritten.outside covers in
       let to = goes log covers_u known in
@@ -124,14 +125,14 @@ module _ (g : Geometry) (site : Site) (identity : Identity) where
         after = to.after;
       }
 
-  pub shown_before : (t u : Tale) → IsUnwritten t u → HasShown g site identity u → HasShown g site identity t
+  pub shown_before : (t u : Tale) → WritesNothing t u → HasShown g site identity u → HasShown g site identity t
   shown_before t u unwritten is = record { replica = is.replica; found = subst (λ (c : Contents). IsFoundIn g site c is.replica) (last_same t u unwritten) is.found; its = is.its; shown = is.shown }
 
-  shown_then : (t u : Tale) → IsUnwritten t u → (seats : List Seat) → (seats ≡ []) ⊎ HasShown g site identity u → (seats ≡ []) ⊎ HasShown g site identity t
+  shown_then : (t u : Tale) → WritesNothing t u → (seats : List Seat) → (seats ≡ []) ⊎ HasShown g site identity u → (seats ≡ []) ⊎ HasShown g site identity t
   shown_then t u unwritten seats (inl none) = inl none
   shown_then t u unwritten seats (inr is) = inr (shown_before t u unwritten is)
 
-  pub writes_then : (t u m : Tale) → IsUnwritten t u → Writes g site identity u m → Writes g site identity t m
+  pub writes_then : (t u m : Tale) → WritesNothing t u → Writes g site identity u m → Writes g site identity t m
   writes_then t u m unwritten w = record {
     read = w.read;
     seats = w.seats;
@@ -143,7 +144,7 @@ module _ (g : Geometry) (site : Site) (identity : Identity) where
     blank = λ key other another was. w.blank key other another (blank_kept t u unwritten key other another was);
   }
 
-pub boot_before : (g : Geometry) (site : Site) (answer : BootEnd) (t m : Tale) → IsUnwritten t m → BootMoment g site answer t m
+pub boot_before : (g : Geometry) (site : Site) (answer : BootEnd) (t m : Tale) → WritesNothing t m → BootMoment g site answer t m
 boot_before g site answer t m unwritten = record { quiet = unwritten_quiet (boot_area site (has_written answer)) t m unwritten; writes = by answer } where
   by : (a : BootEnd) → WritesFor g site a t m
   by (end.Adopted o) = nothing_written g site o.identity t m unwritten
@@ -154,7 +155,7 @@ boot_before g site answer t m unwritten = record { quiet = unwritten_quiet (boot
   by end.Spent = tt
   by end.Memory = tt
 
-pub boot_then : (g : Geometry) (site : Site) (answer : BootEnd) (t u m : Tale) → IsUnwritten t u → BootMoment g site answer u m → BootMoment g site answer t m
+pub boot_then : (g : Geometry) (site : Site) (answer : BootEnd) (t u m : Tale) → WritesNothing t u → BootMoment g site answer u m → BootMoment g site answer t m
 boot_then g site answer t u m unwritten moment =
     record { quiet = quiet_more (boot_area site (has_written answer)) t u m (unwritten_quiet (boot_area site (has_written answer)) t u unwritten) moment.quiet; writes = by answer moment.writes }
   where
@@ -167,7 +168,7 @@ boot_then g site answer t u m unwritten moment =
     by end.Spent w = tt
     by end.Memory w = tt
 
-booted_then : (g : Geometry) (site : Site) (answer : BootEnd) (t u w : Tale) → IsUnwritten t u → IfAdopted answer (λ o. IsBootedTo g site o u w) → IfAdopted answer (λ o. IsBootedTo g site o t w)
+booted_then : (g : Geometry) (site : Site) (answer : BootEnd) (t u w : Tale) → WritesNothing t u → IfAdopted answer (λ o. IsBootedTo g site o u w) → IfAdopted answer (λ o. IsBootedTo g site o t w)
 booted_then g site (end.Adopted o) t u w unwritten is = record { shown = shown_before g site o.identity t u unwritten is.shown; opened = is.opened; read = is.read; seated = is.seated; goes = goes_then g site o.identity is.read is.seated _ _ t u w unwritten is.goes }
 booted_then g site end.Empty t u w unwritten is = tt
 booted_then g site (end.TwoDatabases a b) t u w unwritten is = tt
@@ -223,20 +224,20 @@ count_all p (x ∷ xs) all =
     omega (arith, count_cons p x xs, rest, ap (λ (b : Bool). cond {A = ℕ} b 1 0) (all x (contains_first x xs)))
 
 -- Drives that were brought up.
-module _ {S : Type 0} (shelf : Ghosts S) (site : Site) (old m1 : S) (up : Drives) (ups : AreUpBy (DriveFailures shelf old m1) site.drives up) (b_moments : AtEachTale shelf IsUnwritten old m1) (b_end : AtEnd shelf (BringingEnds up site.drives) old m1)
+module _ {S : Type 0} (shelf : Ghosts S) (site : Site) (old m1 : S) (up : Drives) (ups : AreUpBy (DriveFailures shelf old m1) site.drives up) (b_moments : AtEachTale shelf WritesNothing old m1) (b_end : AtEnd shelf (BringingEnds up site.drives) old m1)
     (b_counted : IsBringingCounted shelf old m1 site.drives up) (b_kept : KeptAmong shelf old m1 site.drives) where
   -- what is known as they are up
   pub record IsUp (t u : Tale) : Type 0 where
-    pub unwritten : IsUnwritten t u
+    pub unwritten : WritesNothing t u
     pub synced : AreSynced up u
     pub is : shelf.tale m1 ≡ Some u
 
   pub brought : AtEnd shelf IsUp old m1
   brought t told =
       let e = b_end t told in
-      let m = moments_end IsUnwritten (shelf.tale old) (shelf.tale m1) b_moments t told in
+      let m = moments_end WritesNothing (shelf.tale old) (shelf.tale m1) b_moments t told in
       let same : m.0 ≡ e.0 = some_is (shelf.tale m1) m.0 e.0 m.1 e.1 in
-      (e.0, e.1, record { unwritten = subst (λ (u : Tale). IsUnwritten t u) same m.2; synced = e.2.synced; is = e.1 })
+      (e.0, e.1, record { unwritten = subst (λ (u : Tale). WritesNothing t u) same m.2; synced = e.2.synced; is = e.1 })
 
   up_calm : (drive : DriveNo) → Contains site.drives drive → has_drive up drive ≡ true → shelf.faults m1 (OnDrive drive.0) ≡ shelf.faults old (OnDrive drive.0)
   up_calm drive one_of so = at_true _ _ (has_drive up drive) so (ups.each drive one_of)
@@ -274,11 +275,12 @@ module _ {S : Type 0} (shelf : Ghosts S) (site : Site) (old m1 : S) (up : Drives
         clean = subst (λ (b : Bool). MatchBool b ((is_memory answer.end ≡ false) × ((drive : DriveNo) → Contains site.drives drive → (DriveFailures shelf old m2 drive.0).none)) ((is_memory answer.end ≡ true) ⊎ ((drive : DriveNo) × Contains site.drives drive × (DriveFailures shelf old m2 drive.0).some)))
             (sym clean_is) (inl (ap is_memory end_is));
         laid = subst (λ (e : BootEnd). IfAdopted e (λ o. AreLaid (shelf.sizes old) o.seats)) (sym end_is) tt;
+        lettered = subst (λ (e : BootEnd). IfAdopted e (λ o. places_seen answer.letters ≡ places_of o.table.plan.lists)) (sym end_is) tt;
       }
 
       pub wanting_moments : AtEachTale shelf (BootMoment g site answer.end) old m2
       wanting_moments =
-          subst (λ (o : Option Tale). Moments (BootMoment g site answer.end) (shelf.tale old) o) (sym l_same) (moments_weaker IsUnwritten (BootMoment g site answer.end) (shelf.tale old) (shelf.tale m1) (boot_before g site answer.end) b_moments)
+          subst (λ (o : Option Tale). Moments (BootMoment g site answer.end) (shelf.tale old) o) (sym l_same) (moments_weaker WritesNothing (BootMoment g site answer.end) (shelf.tale old) (shelf.tale m1) (boot_before g site answer.end) b_moments)
 
       pub wanting_ends : AtEnd shelf (BootEnds (λ drive. (DriveFailures shelf old m2 drive).some) g site answer) old m2
       wanting_ends t told =
@@ -302,7 +304,7 @@ module _ {S : Type 0} (shelf : Ghosts S) (site : Site) (old m1 : S) (up : Drives
 
     -- what was read was made something of
     module _ (sound : IsSound g) (on : IsOnShelf (shelf.sizes old) site) (of_site : site ≡ site_of g site.key) (looked : Looked) (at : IsLookedAt shelf m1 m2 g site up looked) (l_some : MadeFew shelf m1 m2 (reads_by site up looked.calm)) (new : S) (taken : Taken) (answer : IsTaken shelf m2 new site looked taken)
-        (t_kept : KeptAmong shelf m2 new (drives_read looked.survey.replicas)) (calm : Bool) (all : AreAllIn calm site.drives looked.calm) (clean : Bool) (clean_is : clean ≡ (calm && (taken.calm && not (is_memory taken.end)))) (letters : List Flags) (letters_are : AreLettersOf site looked.survey looked.calm letters) where
+        (t_kept : KeptAmong shelf m2 new (drives_read looked.survey.replicas)) (calm : Bool) (all : AreAllIn calm site.drives looked.calm) (clean : Bool) (clean_is : clean ≡ (calm && (taken.calm && not (is_memory taken.end)))) (letters : List Lettered) (letters_are : AreLettersOf site looked.survey looked.calm letters) where
       abbrev faults_at : S → DriveNo → ℕ
       faults_at s drive = shelf.faults s (OnDrive drive.0)
 
@@ -361,7 +363,7 @@ module _ {S : Type 0} (shelf : Ghosts S) (site : Site) (old m1 : S) (up : Drives
       all_calm : calm ≡ true → (drive : DriveNo) → Contains site.drives drive → has_drive looked.calm drive ≡ true
       all_calm so drive one_of = All-contains (λ (d : DriveNo). has_drive looked.calm d ≡ true) site.drives drive (at_true _ _ calm so all) one_of
 
-      clean_by : (a b c : Bool) → MatchBool a (All (λ drive. has_drive looked.calm drive ≡ true) site.drives) ((drive : DriveNo) × Contains site.drives drive × (has_drive looked.calm drive ≡ false)) → IsCalmOn shelf m2 new looked.survey.replicas b → is_memory taken.end ≡ c
+      clean_by : (a b c : Bool) → MatchBool a (All (λ drive. has_drive looked.calm drive ≡ true) site.drives) ((drive : DriveNo) × Contains site.drives drive × (has_drive looked.calm drive ≡ false)) → IsCalmOver shelf m2 new looked.survey.replicas b → is_memory taken.end ≡ c
           → MatchBool (a && (b && not c)) ((is_memory taken.end ≡ false) × ((drive : DriveNo) → Contains site.drives drive → (DriveFailures shelf old new drive.0).none))
           ((is_memory taken.end ≡ true) ⊎ ((drive : DriveNo) × Contains site.drives drive × (DriveFailures shelf old new drive.0).some))
       clean_by true true true fine none memory = inl memory
@@ -379,7 +381,7 @@ module _ {S : Type 0} (shelf : Ghosts S) (site : Site) (old m1 : S) (up : Drives
       read_at = record {
         begun = at.last_look.begun;
         looked = m2;
-        unwritten = subst (λ (o : Option Tale). Moments IsUnwritten (shelf.tale old) o) (sym l_same) b_moments;
+        unwritten = subst (λ (o : Option Tale). Moments WritesNothing (shelf.tale old) o) (sym l_same) b_moments;
         before = look_kept;
         reads = looks_some;
         behind = among_wider shelf m2 new (drives_read looked.survey.replicas) site.drives read_within t_kept;
@@ -428,6 +430,7 @@ module _ {S : Type 0} (shelf : Ghosts S) (site : Site) (old m1 : S) (up : Drives
         clean = subst (λ (b : Bool). MatchBool b ((is_memory taken.end ≡ false) × ((drive : DriveNo) → Contains site.drives drive → (DriveFailures shelf old new drive.0).none)) ((is_memory taken.end ≡ true) ⊎ ((drive : DriveNo) × Contains site.drives drive × (DriveFailures shelf old new drive.0).some)))
             (sym clean_is) (clean_by calm taken.calm (is_memory taken.end) all answer.calm refl);
         laid = subst (λ (sizes : List ℕ). IfAdopted taken.end (λ o. AreLaid sizes o.seats)) look_kept.keeps.same_sizes answer.laid;
+        lettered = of_ended (DriveFailures shelf m2 new) (Rewrites shelf m2 new site.key) site looked.survey looked.calm letters letters_are taken.end answer.ended;
       }
 
       -- what was read, as the looks ended
@@ -436,7 +439,7 @@ module _ {S : Type 0} (shelf : Ghosts S) (site : Site) (old m1 : S) (up : Drives
 
       pub all_moments : AtEachTale shelf (TakingMoment site looked taken.end) m2 new → AtEachTale shelf (BootMoment g site taken.end) old new
       all_moments taking =
-          moments_after IsUnwritten IsUp (TakingMoment site looked taken.end) (BootMoment g site taken.end) (shelf.tale old) (shelf.tale m1) (shelf.tale new) (boot_before g site taken.end)
+          moments_after WritesNothing IsUp (TakingMoment site looked taken.end) (BootMoment g site taken.end) (shelf.tale old) (shelf.tale m1) (shelf.tale new) (boot_before g site taken.end)
           (λ t u m is moment. boot_then g site taken.end t u m is.unwritten (moment g (was_read t u is))) b_moments brought (subst (λ (o : Option Tale). Moments (TakingMoment site looked taken.end) o (shelf.tale new)) l_same taking)
 
       -- nothing shows a table, where nothing was found and all answered
@@ -506,7 +509,7 @@ module _ {S : Type 0} (shelf : Ghosts S) (site : Site) (old m1 : S) (up : Drives
       counted_by end.Spent n read still took = subst (λ (s : S). MadeReads shelf old s n) (sym (still refl)) read
       counted_by end.Memory n read still took = tt
 
-      pub all_counted : IsTakingCounted shelf m2 new taken → (HaveAnswered site up looked.calm → (t : Tale) → shelf.tale m1 ≡ Some t → (n : ℕ) × MadeReads shelf m1 m2 n × AreLinesBy g site up no_drives (last t) site.lines n) → IsBootCounted shelf old new g site made
+      pub all_counted : IsTakingCounted shelf m2 new taken → (AreAllCalm site up looked.calm → (t : Tale) → shelf.tale m1 ≡ Some t → (n : ℕ) × MadeReads shelf m1 m2 n × AreLinesBy g site up no_drives (last t) site.lines n) → IsBootCounted shelf old new g site made
       all_counted counted once = record {
         most = between_then shelf.calls shelf.written old m2 new 0 (2 * length site.drives + most_reads site) 0 0 (8 * 50) most_blocks 0 (2 * length site.drives + most_reads site + 8 * 50) most_blocks (omega arith) (omega arith) (omega arith) looks_most counted.most;
         still = λ unwritten. subst (λ (s : S). MadeCallsBetween shelf old s 0 (2 * length site.drives + most_reads site) 0) (sym (answer.still unwritten)) looks_most;

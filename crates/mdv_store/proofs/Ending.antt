@@ -6,7 +6,7 @@ use Rattle.mdv_quorum.specs.declared.event.Event.TheVariants.{Formatted, Slotted
 use Rattle.mdv_quorum.specs.declared.event.SlotEnd.TheVariants.{Closed as LeftClosed}
 use Rattle.mdv_store_law.proofs.Parts.{part_front, part_mapped, part_of_part}
 use Rattle.mdv_store_law.specs.Log.{Writing as WritesLog, Written, log_after}
-use Rattle.mdv_standing.specs.Creating.{AreFormed, IsCreating, first_mark, issued_log}
+use Rattle.mdv_standing.specs.Creating.{AreAllPlaced, IsCreating, first_mark, issued_log}
 use Rattle.mdv_standing.specs.Tracing.{IsCreationBegin, IsRun, IsStart, Traces, formats_at, written_at}
 use Rattle.mdv_standing.proofs.Creating.{may_write_first}
 use Rattle.mdv_standing.proofs.Stretches.{traced_answer, traced_first_write}
@@ -142,7 +142,7 @@ module _ (g : Geometry) (all : List Database) (key : Key) (identity : Identity) 
     held = formed.held g key identity lines count blocks sizes t owner asked may.forms v is_done
 
     -- so each place of the table has its replica
-    placed : Everywhere (AreFormed (Spells g) site identity table.plan.lists) v
+    placed : Everywhere (AreAllPlaced (Spells g) site identity table.plan.lists) v
     placed image is place listed =
         let seat = unmapped (λ (s : Seat). s.place) seats place listed in
         let one = seat_is key identity count blocks lines seat.0 seat.1 in

@@ -22,7 +22,7 @@ use Rattle.mdv_store.specs.Opened.{IsOpen, Opened, least_room}
 use Rattle.mdv_store.specs.Passing.{IsPassing, WentBy, WentOver, claiming, slotting}
 use Rattle.mdv_store.specs.Seats.{AreLaid, AreLeft, HaveRoom, IsLaid, TakesClaim, TakesSlot, active_of, drive_of, drives_of, replicas_of, seats_area}
 use Rattle.mdv_store.specs.Slots.{SlottingEnds, SlottingMoment}
-use Rattle.mdv_store.specs.Taking.{IsCalmOn, IsReadied, IsRewriteAnswer, IsRewriteEnd, IsTakingCounted, MadeRewriteCalls, RewriteEnds, RewriteMoment, StaySynced, WereClaimed, WerePassed, WereSlotted}
+use Rattle.mdv_store.specs.Taking.{IsCalmOver, IsReadied, IsRewriteAnswer, IsRewriteEnd, IsTakingCounted, MadeRewriteCalls, RewriteEnds, RewriteMoment, StaySynced, WereClaimed, WerePassed, WereSlotted}
 use Rattle.mdv_store.specs.Text.{IsSpelled, blocks_for}
 use Rattle.mdv_store.specs.declared.booting.BootEnd.{BootEnd}
 use Rattle.mdv_store.specs.declared.booting.BootEnd.TheVariants as end
@@ -95,7 +95,7 @@ module _ {S : Type 0} (shelf : Ghosts S) (key : Key) (hand : Hand) (table : Tabl
             active_is = refl;
             listed_is = refl;
           });
-          calm = subst (λ (b : Bool). IsCalmOn shelf old mid (replicas_of hand.seats) b) (sym calm_is) lost;
+          calm = subst (λ (b : Bool). IsCalmOver shelf old mid (replicas_of hand.seats) b) (sym calm_is) lost;
           wrote = first_wrote;
           made =
               between_wider shelf.calls shelf.written old mid _ (2 * active_of hand.seats) (1 * active_of hand.seats) 1 (8 * active_of hand.seats) ((3 + blocks_for (length (record_text table))) * active_of hand.seats)
@@ -278,7 +278,7 @@ module _ {S : Type 0} (shelf : Ghosts S) (key : Key) (hand : Hand) (table : Tabl
           let lost = some_lost (DriveFailures shelf old new) One hand.seats last all (more_enough key hand.seats last (left_count (DriveFailures shelf old new) One hand.seats last all) ready.enough few) in
           record {
             ended = subst (λ (e : BootEnd). IsRewriteEnd (DriveFailures shelf old new) key hand table e) (sym end_is) (record { now = last; left = all; few = few; active_is = refl; listed_is = refl });
-            calm = subst (λ (b : Bool). IsCalmOn shelf old new (replicas_of hand.seats) b) (sym calm_is) lost;
+            calm = subst (λ (b : Bool). IsCalmOver shelf old new (replicas_of hand.seats) b) (sym calm_is) lost;
             wrote = both_wrote;
             made = both_made;
             passed = both_passed;
@@ -299,7 +299,7 @@ module _ {S : Type 0} (shelf : Ghosts S) (key : Key) (hand : Hand) (table : Tabl
       pub all_took : AreLeft (DriveFailures shelf old new) (TakesBoth hand.number bytes) hand.seats last
       all_took = both_left (TakesBoth hand.number bytes) (λ r m n. takes_both hand.number bytes r m n)
 
-      calm_by : (b : Bool) → b ≡ nat_eq (active_of last) (active_of hand.seats) → IsCalmOn shelf old new (replicas_of hand.seats) b
+      calm_by : (b : Bool) → b ≡ nat_eq (active_of last) (active_of hand.seats) → IsCalmOver shelf old new (replicas_of hand.seats) b
       calm_by true is = λ drive. elim (is_one_of (drives_of hand.seats) drive) [
         | inl one_of ↦ (
             let r = unmapped (λ (x : Replica). x.line.at.drive) (replicas_of hand.seats) drive one_of in

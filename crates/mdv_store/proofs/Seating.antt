@@ -8,6 +8,7 @@ use Rattle.std.specs.Ordering.{is_lt, nat_cmp, ord_max}
 use Rattle.std.specs.declared.cmp.Ordering.TheVariants.{Equal, Greater, Less}
 use Rattle.mdv_table.proofs.Pairs.{AllPairs-cons, AllPairs-first, AllPairs-rest}
 use Rattle.mdv_survey.specs.Choice.{is_of}
+use Rattle.mdv_survey.proofs.Identities.{find_some}
 use Rattle.mdv_store.specs.Below.{Identity, Place, Replica, Spot, greatest, same_spot}
 use Rattle.mdv_store.specs.Boot.{greatest_number, is_seated, seat_for, seats_of}
 use Rattle.mdv_store.specs.Seats.{replicas_of, spot_of, spots_of}
@@ -52,13 +53,6 @@ greatest_most identity (x ∷ xs) r has own = elim (first_or_behind x r xs has) 
   by : (b : Bool) → greatest r.head ≤ greatest_number identity xs → greatest r.head ≤ cond b (max (greatest x.head) (greatest_number identity xs)) (greatest_number identity xs)
   by true rest = omega (arith, rest)
   by false rest = rest
-
-find_some : {X : Type 0} (p : X → Bool) (xs : List X) (x : X) → find p xs ≡ Some x → Contains xs x × (p x ≡ true)
-find_some p [] x is = absurd (cc (is))
-find_some p (y ∷ ys) x is = by (p y) refl is (find_some p ys x) where
-  by : (b : Bool) → p y ≡ b → cond b (Some y) (find p ys) ≡ Some x → (find p ys ≡ Some x → Contains ys x × (p x ≡ true)) → Contains (y ∷ ys) x × (p x ≡ true)
-  by true here same later = (let e : y ≡ x = cc (same) in (subst (Contains (y ∷ ys)) e (contains_first y ys), ap p (sym e) ∙ here))
-  by false here there later = (let rest = later there in (contains_behind y x ys rest.0, rest.1))
 
 module _ (replicas : List Replica) (identity : Identity) (text : ℕ) where
   abbrev seats : List Place → List Seat

@@ -12,7 +12,7 @@ use Rattle.mdv_store.specs.Below.{DriveNo, Geometry, Ghosts, IsSound, IsSynced, 
 use Rattle.mdv_store.specs.Boot.{IfAdopted, IsEndBy, IsOnce, WasChosen, is_memory}
 use Rattle.mdv_store.specs.Booting.{BootMoment, IsBootedTo, has_written}
 use Rattle.mdv_store.specs.Seats.{AreLaid, drive_of}
-use Rattle.mdv_store.specs.Taking.{IsCalmOn, Rewrites}
+use Rattle.mdv_store.specs.Taking.{IsCalmOver, Rewrites}
 use Rattle.mdv_store.specs.declared.booting.BootEnd.{BootEnd}
 use Rattle.mdv_store.specs.declared.booting.Taken.{Taken}
 
@@ -35,7 +35,7 @@ pub record WasReadOf (g : Geometry) (site : Site) (replicas : List Replica) (new
 -- an end that follows from any survey with these replicas and this newest table of one database
 pub record IsAdoptAnswer {S : Type 0} (shelf : Ghosts S) (old new : S) (site : Site) (replicas : List Replica) (newest : Newest) (taken : Taken) : Type 0 where
   pub ended : (is_memory taken.end ≡ true) ⊎ ((survey : Survey) (replica : Replica) → survey.replicas ≡ replicas → survey.newest ≡ Some newest → IsTheOne replicas newest replica → WasChosen survey → IsEndBy (DriveFailures shelf old new) (Rewrites shelf old new site.key) site survey taken.end)
-  pub calm : IsCalmOn shelf old new replicas taken.calm
+  pub calm : IsCalmOver shelf old new replicas taken.calm
   pub once : (drive : DriveNo) → IsOnce (DriveFailures shelf old new drive.0)
   pub still : has_written taken.end ≡ false → new ≡ old
   pub laid : IfAdopted taken.end (λ o. AreLaid (shelf.sizes old) o.seats)

@@ -5,11 +5,11 @@ use Rattle.mdv_shelf.specs.Drives.{KeptAmong}
 use Rattle.mdv_shelf.specs.Shelves.{AtEachTale, AtEnd, DriveFailures}
 use Rattle.mdv_survey.specs.Survey.{IsSurvey, IsSurveyOf}
 use Rattle.mdv_survey.specs.declared.replica.Survey.{Survey}
-use Rattle.mdv_store.specs.Below.{DriveNo, Drives, Geometry, Ghosts, Site, Tale, has_drive, last}
+use Rattle.mdv_store.specs.Below.{DriveNo, Drives, Geometry, Ghosts, Site, Tale, has_drive, last, places_of}
 use Rattle.mdv_look.specs.Bringing.{AreUpBy, BringingEnds, IsBringingCounted}
 use Rattle.mdv_look.specs.Looking.{reads_by}
-use Rattle.mdv_look.specs.Quiet.{IsUnwritten}
-use Rattle.mdv_store.specs.Letters.{AreLettersOf}
+use Rattle.mdv_look.specs.Quiet.{WritesNothing}
+use Rattle.mdv_store.specs.Letters.{AreLettersOf, places_seen}
 use Rattle.mdv_store.specs.Seats.{AreLaid}
 use Rattle.mdv_store.specs.declared.booting.Booted.{Booted}
 use Rattle.mdv_base.specs.DriveSet.{no_drives}
@@ -33,7 +33,7 @@ pub record WasBroughtUp {S : Type 0} (shelf : Ghosts S) (old new : S) (site : Si
 pub record IsReadAt {S : Type 0} (shelf : Ghosts S) (old new : S) (g : Geometry) (site : Site) (answer : Booted) (survey : Survey) : Type 0 where
   pub begun : S
   pub looked : S
-  pub unwritten : AtEachTale shelf IsUnwritten old looked
+  pub unwritten : AtEachTale shelf WritesNothing old looked
   pub before : KeptAmong shelf old looked site.drives
   pub behind : KeptAmong shelf looked new site.drives
   pub calm : Drives
@@ -48,7 +48,7 @@ pub record IsReadAt {S : Type 0} (shelf : Ghosts S) (old new : S) (g : Geometry)
   pub none : (drive : DriveNo) → has_drive calm drive ≡ true → has_drive survey.failed drive ≡ false
 
 -- A boot's answer: which drives came up, and its end and the letters of the listed places by what was read; on each drive of the site no call failed, or just one did, if memory wasn't wanting; it is clean where
--- none failed on any of them, and else one did.
+-- none failed on any of them, and else one did. What is open then has letters of just its listed places.
 pub record IsBooted {S : Type 0} (shelf : Ghosts S) (old new : S) (g : Geometry) (site : Site) (answer : Booted) : Type 0 where
   pub brought : WasBroughtUp shelf old new site answer
   pub ended : (is_memory answer.end ≡ true) ⊎ ((survey : Survey) × (at : IsReadAt shelf old new g site answer survey) × IsEndBy (DriveFailures shelf old new) (Rewrites shelf at.looked new site.key) site survey answer.end × AreLettersOf site survey at.calm answer.letters)
@@ -57,3 +57,4 @@ pub record IsBooted {S : Type 0} (shelf : Ghosts S) (old new : S) (g : Geometry)
       ((is_memory answer.end ≡ false) × ((drive : DriveNo) → Contains site.drives drive → (DriveFailures shelf old new drive.0).none))
       ((is_memory answer.end ≡ true) ⊎ ((drive : DriveNo) × Contains site.drives drive × (DriveFailures shelf old new drive.0).some))
   pub laid : IfAdopted answer.end (λ o. AreLaid (shelf.sizes old) o.seats)
+  pub lettered : IfAdopted answer.end (λ o. places_seen answer.letters ≡ places_of o.table.plan.lists)

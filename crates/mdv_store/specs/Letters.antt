@@ -1,18 +1,19 @@
 -- The nine letters of a listed place: what a boot's look found there, or a creation made, and what came since.
-use Rattle.std.specs.Prelude.{◌≡◌, ◌&&◌, ◌||◌, ◌==◌, if◌then◌else◌, not, ℕ, Bool, true, false, is_some, List, [], ◌∷◌, length, slice_get, Option, None, Some, MatchOption}
-use Rattle.std.specs.List.{list_any}
+use Rattle.std.specs.Prelude.{◌≡◌, ◌&&◌, ◌||◌, ◌==◌, not, ℕ, Bool, true, false, is_some, List, [], ◌∷◌, length, map, slice_get, Option, None, Some, MatchOption}
+use Rattle.std.specs.List.{find, list_any}
 use Rattle.mdv_base.specs.DriveSet.{Drives}
 use Rattle.mdv_base.specs.declared.flags.Flags.{Flags}
 use Rattle.mdv_replica.specs.declared.forms.Gate.{Gate}
 use Rattle.mdv_replica.specs.declared.forms.Gate.TheVariants.{Closed, Open}
 use Rattle.mdv_survey.specs.Choice.{is_of, place_of}
-use Rattle.mdv_survey.specs.Letters.{letters_at, located_alone, no_letters}
+use Rattle.mdv_survey.specs.Letters.{letters_at, located_alone}
 use Rattle.mdv_survey.specs.declared.replica.Newest.{Newest}
 use Rattle.mdv_survey.specs.declared.replica.Survey.{Survey}
 use Rattle.mdv_table.specs.Tests.{same_place}
 use Rattle.mdv_store.specs.Below.{Identity, Mark, Place, Replica, Site, places_of, record_text}
 use Rattle.mdv_store.specs.Boot.{seat_for}
 use Rattle.mdv_store.specs.Text.{blocks_for}
+use Rattle.mdv_store.specs.declared.letters.Lettered.{Lettered}
 use Rattle.mdv_store.specs.declared.seats.Seat.{Seat}
 
 -- the gate is open under this mark
@@ -28,9 +29,13 @@ abbrev pub is_active : Seat → Bool
 is_active s = is_some s.replica
 
 -- Of each place what was seen, of which it matters whether one before it was the master.
-abbrev pub letters_from : (Bool → Place → Flags) → Bool → List Place → List Flags
+abbrev pub letters_from : (Bool → Place → Flags) → Bool → List Place → List Lettered
 letters_from seen was [] = []
-letters_from seen was (p ∷ ps) = seen was p ∷ letters_from seen (was || (seen was p).master) ps
+letters_from seen was (p ∷ ps) = record { place = p; flags = seen was p } ∷ letters_from seen (was || (seen was p).master) ps
+
+-- the places that the letters are of
+abbrev pub places_seen : List Lettered → List Place
+places_seen letters = map (λ (l : Lettered). l.place) letters
 
 -- What a look saw of a place of the database with this identity, whose newest table has this mark and a text of so many blocks: it is active where its seat has a
 -- replica, and the master where it showed that table and none before it did.
@@ -39,28 +44,38 @@ seen_at site survey answered identity mark text was place =
     record (letters_at site survey.replicas survey.others answered place) { active = is_active (seat_for survey.replicas identity text place); master = list_any (shows_at identity mark place) survey.replicas && not was }
 
 -- the letters of the places that the newest table lists, in their order
-pub record AreRead (site : Site) (survey : Survey) (answered : Drives) (newest : Newest) (letters : List Flags) : Type 0 where
+pub record AreRead (site : Site) (survey : Survey) (answered : Drives) (newest : Newest) (letters : List Lettered) : Type 0 where
   pub replica : Replica
   pub one_of : slice_get survey.replicas newest.replica ≡ Some replica
   pub letters_are : letters ≡ letters_from (seen_at site survey answered replica.head.master.identity newest.mark (blocks_for (length (record_text newest.table)))) false (places_of newest.table.plan.lists)
 
 -- there are none where the survey found no table
-abbrev pub AreLettersOf : Site → Survey → Drives → List Flags → Type 0
+abbrev pub AreLettersOf : Site → Survey → Drives → List Lettered → Type 0
 AreLettersOf site survey answered letters = MatchOption survey.newest (letters ≡ []) (λ newest. AreRead site survey answered newest letters)
 
 -- a creation's: each place was formatted and is active, and the first one is the master
 abbrev pub made_flags : Bool → Flags
 made_flags was = record located_alone { active = true; master = not was }
 
-abbrev pub letters_made : List Place → List Flags
+abbrev pub letters_made : List Place → List Lettered
 letters_made places = letters_from (λ was place. made_flags was) false places
 
 -- A seat's letters now: it is up to date where it is active, and a write failed where it was active and isn't.
 abbrev pub letters_now : Seat → Flags → Flags
 letters_now s was = record was { active = is_active s; updated = is_active s; write_error = was.active && not (is_active s) }
 
--- the letters of the first seat of the place, beside what was seen of it; where nothing was, beside none
-abbrev pub flags_at : List Seat → List Flags → Place → Option Flags
-flags_at [] seen place = None
-flags_at (s ∷ ss) [] place = if same_place s.place place then Some (letters_now s no_letters) else flags_at ss [] place
-flags_at (s ∷ ss) (l ∷ ls) place = if same_place s.place place then Some (letters_now s l) else flags_at ss ls place
+abbrev pub is_seat_at : Place → Seat → Bool
+is_seat_at place s = same_place s.place place
+
+abbrev pub is_lettered_at : Place → Lettered → Bool
+is_lettered_at place l = same_place l.place place
+
+-- the letters of a place that is listed, and of which something was seen
+abbrev pub flags_by : Option Seat → Option Lettered → Option Flags
+flags_by None seen = None
+flags_by (Some s) None = None
+flags_by (Some s) (Some l) = Some (letters_now s l.flags)
+
+-- those of the place's seat, beside what was seen of the place
+abbrev pub flags_at : List Seat → List Lettered → Place → Option Flags
+flags_at seats seen place = flags_by (find (is_seat_at place) seats) (find (is_lettered_at place) seen)

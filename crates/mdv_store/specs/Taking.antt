@@ -145,14 +145,14 @@ IsRewriteEnd failed key hand table end.Spent = ⊥
 IsRewriteEnd failed key hand table end.Memory = ⊥
 
 -- no call failed, or one did on a drive of these replicas
-abbrev pub IsCalmOn : {S : Type 0} → Ghosts S → S → S → List Replica → Bool → Type 0
-IsCalmOn shelf old new replicas calm = MatchBool calm
+abbrev pub IsCalmOver : {S : Type 0} → Ghosts S → S → S → List Replica → Bool → Type 0
+IsCalmOver shelf old new replicas calm = MatchBool calm
     ((drive : DriveNo) → (DriveFailures shelf old new drive.0).none)
     ((r : Replica) × Contains replicas r × (DriveFailures shelf old new (drive_of r)).some)
 
 pub record IsRewriteAnswer {S : Type 0} (shelf : Ghosts S) (old new : S) (key : Key) (hand : Hand) (table : Table) (taken : Taken) : Type 0 where
   pub ended : IsRewriteEnd (DriveFailures shelf old new) key hand table taken.end
-  pub calm : IsCalmOn shelf old new (replicas_of hand.seats) taken.calm
+  pub calm : IsCalmOver shelf old new (replicas_of hand.seats) taken.calm
   pub wrote : RoseByAtLeast 1 (shelf.written old) (shelf.written new)
   pub made : MadeRewriteCalls shelf old new hand table
   pub passed : WerePassed shelf old new key hand table
@@ -176,7 +176,7 @@ pub record WasRead (g : Geometry) (site : Site) (looked : Looked) (t : Tale) : T
 -- What a boot makes of what it read: an end that follows from it, or memory was wanting; and it wrote nothing, or what it adopted.
 pub record IsTaken {S : Type 0} (shelf : Ghosts S) (old new : S) (site : Site) (looked : Looked) (taken : Taken) : Type 0 where
   pub ended : (is_memory taken.end ≡ true) ⊎ IsEndBy (DriveFailures shelf old new) (Rewrites shelf old new site.key) site looked.survey taken.end
-  pub calm : IsCalmOn shelf old new looked.survey.replicas taken.calm
+  pub calm : IsCalmOver shelf old new looked.survey.replicas taken.calm
   pub once : (drive : DriveNo) → IsOnce (DriveFailures shelf old new drive.0)
   pub still : has_written taken.end ≡ false → new ≡ old
   pub laid : IfAdopted taken.end (λ o. AreLaid (shelf.sizes old) o.seats)

@@ -1,9 +1,8 @@
 // The nine letters of the listed places: what a boot's look found there, or a creation made, and what came since.
-ghost use Rattle.std.specs.Prelude.{◌≡◌, ◌<◌, [], length, slice_index_or, IfOk};
-ghost use Rattle.std.specs.List.{list_any};
-ghost use Rattle.mdv_survey.specs.Letters.{no_letters};
+ghost use Rattle.std.specs.Prelude.{◌≡◌, ◌<◌, ◌↔◌, [], length, IfOk, IsTrue};
+ghost use Rattle.std.specs.List.{find, list_any};
 ghost use Rattle.mdv_survey.specs.Survey.{IsSurvey};
-ghost use Rattle.mdv_store.specs.Letters.{AreLettersOf, AreRead, flags_at as spec_flags_at, is_under as spec_is_under, letters_made, letters_now as spec_letters_now, made_flags as spec_made_flags, seen_at as spec_seen_at, shows_at as spec_shows_at};
+ghost use Rattle.mdv_store.specs.Letters.{AreLettersOf, AreRead, flags_at as spec_flags_at, is_lettered_at, is_seat_at, is_under as spec_is_under, letters_made, letters_now as spec_letters_now, made_flags as spec_made_flags, places_seen, seen_at as spec_seen_at, shows_at as spec_shows_at};
 
 use crate::booting::{is_of, is_same, place_of, replica_at};
 use crate::seats::Seat;
@@ -18,18 +17,25 @@ use mdv_votes::Row;
 use std::alloc::{AllocError, Global};
 use std::marker::Model;
 
+/// What was seen of a place.
+#[derive(Clone, Copy)]
+pub struct Lettered {
+    pub place: Place,
+    pub flags: Flags,
+}
+
 /// What was seen of each listed place as its database was opened, in the order of the list: at a boot what its look found, with `active` where
 /// the place had a replica to write to, and at a creation that the place was formatted. `Store::flags` tells by it how a place is now.
 #[derive(Drop)]
 pub struct Letters {
-    seen: Row<Flags>,
+    seen: Row<Lettered>,
 }
 
 impl Model for Letters {
     ghost use Rattle.std.specs.Prelude.{List};
-    ghost use Rattle.mdv_base.specs.declared.flags.Flags.{Flags};
+    ghost use Rattle.mdv_store.specs.declared.letters.Lettered.{Lettered};
 
-    ghost Value = { List Flags };
+    ghost Value = { List Lettered };
 
     ghost view = { λ l. l.seen };
 }
@@ -44,23 +50,44 @@ impl Letters {
         }
     }
 
-    pub(crate) fn as_slice(&self) -> &[Flags]
+    pub(crate) fn as_slice(&self) -> &[Lettered]
         ensures { result.now ≡ self.now }
     {
         self.seen.as_slice()
     }
 
-    /// Those behind a creation that formatted these places. It may be refused memory: whoever wants them makes them before the creation.
+    /// Those behind a creation that formatted these places. They are to be made before `create`: where memory is refused behind it, the database is made
+    /// all the same.
     pub fn made(alloc: Global, places: &[Place]) -> Result<Letters, AllocError>
-        ensures { IfOk result (λ letters. letters ≡ letters_made places.now) }
+        ensures are { IfOk result (λ letters. letters ≡ letters_made places.now) }
+        ensures of { IfOk result (λ letters. places_seen letters ≡ places.now) }
     {
         let mut seen = Row::new(alloc);
         let mut was = false;
-        for _place in places {
-            seen.push(made_flags(was))?;
+        for place in places {
+            seen.push(Lettered {
+                place: *place,
+                flags: made_flags(was),
+            })?;
             was = true;
         }
         Ok(Letters { seen })
+    }
+
+    /// Whether these are letters of just the places of this list, in its order.
+    pub fn are_of(&self, places: &[Place]) -> bool
+        ensures { IsTrue result ↔ (places_seen self.now ≡ places.now) }
+    {
+        let seen = self.seen.as_slice();
+        if seen.len() != places.len() {
+            return false;
+        }
+        for index in 0..seen.len() {
+            if !is_same(seen[index].place, places[index]) {
+                return false;
+            }
+        }
+        true
     }
 }
 
@@ -114,7 +141,10 @@ fn letters_read(
     let mut was = false;
     for place in newest.table.plan.lists.places() {
         let flags = seen_at(site, looked, sought, *place, was);
-        seen.push(flags)?;
+        seen.push(Lettered {
+            place: *place,
+            flags,
+        })?;
         was = was || flags.master;
     }
     Ok(Letters { seen })
@@ -141,25 +171,26 @@ fn seen_at(site: &Site, looked: &Looked, sought: Sought, place: Place, was: bool
 }
 
 /// A listed place's letters now: those of its seat, beside what was seen of it; none where no seat has the place.
-pub(crate) fn flags_at(seats: &[Seat], seen: &[Flags], place: Place) -> Option<Flags>
+pub(crate) fn flags_at(seats: &[Seat], seen: &[Lettered], place: Place) -> Option<Flags>
     ensures { result ≡ spec_flags_at seats.now seen.now place }
 {
-    for (index, seat) in seats.iter().enumerate() {
-        if is_same(seat.place, place) {
-            return Some(letters_now(seat, flags_of(seen, index)));
-        }
-    }
-    None
+    let seat = seat_at(seats, place)?;
+    let lettered = lettered_at(seen, place)?;
+    Some(letters_now(&seat, lettered.flags))
 }
 
-// Where nothing was seen of the place there is no letter.
-fn flags_of(seen: &[Flags], index: usize) -> Flags
-    ensures { result ≡ slice_index_or seen.now index no_letters }
+fn seat_at(seats: &[Seat], place: Place) -> Option<Seat>
+    ensures { result ≡ find (is_seat_at place) seats.now }
 {
-    match seen.get(index) {
-        Some(flags) => *flags,
-        None => Flags::default(),
-    }
+    seats.iter().copied().find(|seat| is_same(seat.place, place))
+}
+
+fn lettered_at(seen: &[Lettered], place: Place) -> Option<Lettered>
+    ensures { result ≡ find (is_lettered_at place) seen.now }
+{
+    seen.iter()
+        .copied()
+        .find(|lettered| is_same(lettered.place, place))
 }
 
 fn letters_now(seat: &Seat, was: Flags) -> Flags

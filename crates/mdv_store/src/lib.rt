@@ -14,6 +14,6 @@ mod writing;
 pub use booting::{BootEnd, Booted, boot};
 pub use creating::{CreateFault, create};
 pub use law::seats_tell;
-pub use letters::Letters;
+pub use letters::{Lettered, Letters};
 pub use seats::Seat;
 pub use store::{CommitFault, Store};

@@ -6,7 +6,7 @@ ghost use Rattle.mdv_shelf.specs.Shelves.{AtEachTale, AtEnd};
 ghost use Rattle.mdv_table.specs.Plan.{places_of};
 ghost use Rattle.mdv_store.specs.Commit.{CommitAnswer, CommitDone, CommitMoment, room_in};
 ghost use Rattle.mdv_store.specs.Counts.{IsCommitCounted};
-ghost use Rattle.mdv_store.specs.Letters.{flags_at as spec_flags_at};
+ghost use Rattle.mdv_store.specs.Letters.{flags_at as spec_flags_at, places_seen};
 ghost use Rattle.mdv_store.specs.Seats.{AreLaid, active_of, drives_of};
 
 use crate::letters::{Letters, flags_at};
@@ -87,8 +87,10 @@ impl Store {
     }
 
     /// A place's nine letters, by what was seen of the listed places as the database was opened; none where the place isn't listed. It is active and
-    /// up to date as long as no call on its drive failed; one that was active then and isn't now has a write error.
+    /// up to date as long as no call on its drive failed; one that was active then and isn't now has a write error. `Letters::are_of` tells whether the
+    /// letters are of these places; that they are of this boot, and of no other one of the same list, is the caller's care.
     pub fn flags(&self, letters: &Letters, place: &Place) -> Option<Flags>
+        requires of { places_seen letters.now ≡ places_of self.now.table.plan.lists }
         ensures is { result ≡ spec_flags_at self.now.seats letters.now place.now }
         ensures listed { IsSome result ↔ Contains (places_of self.now.table.plan.lists) place.now }
     {

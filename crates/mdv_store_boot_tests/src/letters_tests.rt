@@ -1,9 +1,17 @@
 //! The nine letters of listed places: a m u l W R F M D, as they are told behind a creation, a boot and commits.
 use crate::step::{Step, first_wrong};
-use mdv_store_tests::{Committed, Layout, Made};
+use mdv_store_tests::{Committed, End, Found, Layout, Made};
 use std::test::Fail;
 
 const WELL: &[&str] = &["amul-----", "a-ul-----", "a-ul-----"];
+
+// The second boot's.
+const SECOND: Found = Found {
+    fresh: 7,
+    boot: 2,
+    table: 0,
+    places: 3,
+};
 
 // On three drives: what is done, and the letters then. The first replica on slice 7 begins at block 18: master, claim, two gates, and the first slot's body.
 const CASES: &[&[Step]] = &[
@@ -13,6 +21,12 @@ const CASES: &[&[Step]] = &[
         Step::Tells(WELL),
         Step::Commits(1, Committed::Done),
         Step::Tells(WELL),
+    ],
+    // a creation in which the write to the second place fails: the places are formatted by eighteen calls, and the table takes six at each
+    &[
+        Step::Fail(25),
+        Step::Make(7, &[0, 2, 4], 1, Made::Done),
+        Step::Tells(&["amul-----", "---lW----", "a-ul-----"]),
     ],
     // a boot
     &[
@@ -31,6 +45,13 @@ const CASES: &[&[Step]] = &[
         Step::Make(7, &[0, 2, 4], 1, Made::Done),
         Step::Lose(0b00001),
         Step::Adopts(2, 0, 3),
+        Step::Tells(&["-----R---", "amul-----", "a-ul-----"]),
+    ],
+    // a boot in which a read fails on a drive that is up: behind the creation's calls five watch the drives, ten bring them up, and the next one looks at drive 0
+    &[
+        Step::Make(7, &[0, 2, 4], 1, Made::Done),
+        Step::Fail(52),
+        Step::BootsWithout(0, End::Adopted(SECOND)),
         Step::Tells(&["-----R---", "amul-----", "a-ul-----"]),
     ],
     // a master, a claim, a gate and a body

@@ -78,7 +78,7 @@ const CASES: &[Case] = &[
         &[
             Step::Make(7, FRONT, 1, Made::Done),
             Step::Fail(42),
-            Step::Peeks(Peeked::Table(0, 3)),
+            Step::PeeksWithout(0b00001, Peeked::Table(0, 3)),
         ],
     ),
     (
@@ -86,8 +86,17 @@ const CASES: &[Case] = &[
         &[
             Step::Make(7, &[0, 2], 1, Made::Done),
             Step::Fail(30),
-            Step::Peeks(Peeked::NoQuorum(1, 2)),
+            Step::PeeksWithout(0b00001, Peeked::NoQuorum(1, 2)),
             Step::Peeks(Peeked::Table(0, 2)),
+        ],
+    ),
+    (
+        "the drive that holds the only replica doesn't answer",
+        &[
+            Step::Make(7, &[0], 1, Made::Done),
+            Step::Fail(18),
+            Step::PeeksWithout(0b00001, Peeked::Empty),
+            Step::Peeks(Peeked::Table(0, 1)),
         ],
     ),
 ];

@@ -21,8 +21,10 @@ pub(crate) enum Step {
     Adopts(u64, u16, usize),
     /// A call fails in it, and these drives aren't up.
     BootsWithout(Drives, End),
-    /// Each drive is read by one call, and then a peek tells this, and nothing is written.
+    /// Each drive is read by one call, and then a peek tells this, and nothing is written. The drives that answered are those that aren't lost.
     Peeks(Peeked),
+    /// So it is, and a read fails on these drives.
+    PeeksWithout(Drives, Peeked),
     Commits(u16, Committed),
     /// Nothing is written.
     CommitsNothing(u16, Committed),
@@ -130,10 +132,11 @@ impl Life {
         self.boots_to(alloc, Boot { end, up, clean })
     }
 
-    fn peeks(&mut self, alloc: Global, want: Peeked) -> Result<bool, Fail> {
+    fn peeks(&mut self, alloc: Global, failed: Drives, want: Peeked) -> Result<bool, Fail> {
         let before = self.host.blocks(alloc)?;
-        let peeked = self.host.peek(alloc)?;
-        Ok(peeked == want && self.host.holds(alloc, before.as_slice())?)
+        let (peeked, calm) = self.host.peek(alloc)?;
+        let answered = all_drives(&self.host) & !self.lost & !failed;
+        Ok(peeked == want && calm == answered && self.host.holds(alloc, before.as_slice())?)
     }
 
     fn commits_nothing(
@@ -200,7 +203,8 @@ impl Life {
                 self.boots(alloc, End::Adopted(found))
             }
             Step::BootsWithout(down, end) => self.boots_without(alloc, down, end),
-            Step::Peeks(want) => self.peeks(alloc, want),
+            Step::Peeks(want) => self.peeks(alloc, 0, want),
+            Step::PeeksWithout(failed, want) => self.peeks(alloc, failed, want),
             Step::Commits(number, want) => Ok(self.host.commit(alloc, number)? == want),
             Step::CommitsNothing(number, want) => self.commits_nothing(alloc, number, want),
             Step::CommitsMany(count, want) => self.commits_many(alloc, count, want),

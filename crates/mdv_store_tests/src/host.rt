@@ -466,12 +466,14 @@ impl Host {
         })
     }
 
-    /// What a boot would take. What is open stays open.
-    pub fn peek(&mut self, alloc: Global) -> Result<Peeked, Fail> {
+    /// What a boot would take, and which drives answered every read. What is open stays open.
+    pub fn peek(&mut self, alloc: Global) -> Result<(Peeked, Drives), Fail> {
         if !lies_on(&self.geometry, &self.site, &self.shelf) {
             return Err("drives of the table".into());
         }
-        Ok(told(peek(&mut self.shelf, alloc, &self.geometry, &self.site)))
+        let peeked = peek(&mut self.shelf, alloc, &self.geometry, &self.site);
+        let calm = mask_of(&peeked.calm);
+        Ok((told(peeked.answer), calm))
     }
 
     /// The places that the open database lists.
@@ -482,9 +484,13 @@ impl Host {
         }
     }
 
-    /// The nine letters of a listed place.
+    /// The nine letters of a listed place; of none where those that were kept are of other places.
     pub fn flags(&self, place: &Place) -> Option<Flags> {
-        self.store.as_ref()?.flags(&self.letters, place)
+        let store = self.store.as_ref()?;
+        if !self.letters.are_of(store.table().plan.lists.places()) {
+            return None;
+        }
+        store.flags(&self.letters, place)
     }
 
     pub fn commit(&mut self, alloc: Global, number: u16) -> Result<Committed, Fail> {

@@ -1,22 +1,31 @@
 -- Two surveys of the same blocks tell the same letters.
-use Rattle.std.proofs.Common.{◌≡◌, inl, inr, ℕ, ◌+◌, ◌*◌, Bool, true, false, ◌&&◌, not, cond, List, refl, sym, ◌∙◌, ap, subst, Option, None, Some, arith}
+use Rattle.std.proofs.Common.{◌≡◌, inl, inr, ℕ, ◌+◌, ◌*◌, Bool, true, false, ◌&&◌, not, cond, List, filter, refl, sym, ◌∙◌, ap, subst, Option, None, Some, arith}
 use Rattle.std.specs.Prelude.{◌==◌, Contains}
 use Rattle.std.specs.List.{find, list_any}
 use Rattle.std.proofs.lemmas.Bool.{and_from, and_parts, cases_lt}
 use Rattle.std.proofs.lemmas.Bool.Decides.{nat_tests}
+use Rattle.std.proofs.lemmas.List.Elements.{All-contains, All-contains_itself, All-filter}
 use Rattle.std.proofs.lemmas.List.Folds.{Any-from_list_any, list_any_at}
+use Rattle.mdv_base.specs.declared.drive.SliceName.{SliceName}
+use Rattle.mdv_base.specs.declared.name.Key.{Key}
 use Rattle.mdv_name.proofs.Finding.{same_slice-equal}
-use Rattle.mdv_name.specs.SliceIndex.{same_slice}
+use Rattle.mdv_name.specs.SliceIndex.{HasSlice, same_slice}
+use Rattle.mdv_name.specs.Sound.{IsSound}
 use Rattle.mdv_shown.proofs.Elsewhere.{one_master, places_step}
+use Rattle.mdv_shown.specs.Sites.{is_line_of, site_of}
 use Rattle.mdv_survey.specs.Below.{Drives, Flags, Geometry, Master, Place, PlaceAt, Site, SliceLine, has_drive, place_on, size_on}
-use Rattle.mdv_survey.specs.Laws.{AreNamedOnce, AreSameDrives, IsCalmSurvey, LettersAreOne}
+use Rattle.mdv_survey.specs.Laws.{AreSameDrives, IsCalmSurvey, LettersAreOne}
 use Rattle.mdv_survey.specs.Letters.{begins_at, is_other_at, is_unread_on, letters_at, letters_of_other, located_alone}
-use Rattle.mdv_survey.specs.Others.{AreLetters, AreSeen, ComesTo, IsOtherIn, IsReached, IsTold, seen_flags}
+use Rattle.mdv_survey.specs.Others.{AreLetters, AreSeen, ComesTo, IsOtherIn, IsReached, IsNumberTold, seen_flags}
 use Rattle.mdv_survey.specs.Replica.{Contents}
 use Rattle.mdv_survey.specs.declared.replica.Other.{Other}
 use Rattle.mdv_survey.specs.declared.replica.Replica.{Replica}
 use Rattle.mdv_survey.specs.declared.replica.Survey.{Survey}
 use Rattle.mdv_survey.proofs.Identities.{find_none, find_some}
+
+-- a name stands for one slice of the site
+abbrev AreNamedOnce : Site → Type 0
+AreNamedOnce site = (a b : SliceLine) → Contains site.lines a → Contains site.lines b → a.name ≡ b.name → a ≡ b
 
 one_bool : (a b : Bool) → (a ≡ true → b ≡ true) → (b ≡ true → a ≡ true) → a ≡ b
 one_bool true b forth back = sym (forth refl)
@@ -129,7 +138,7 @@ module _ (g : Geometry) (site : Site) (content : Contents) where
           let on = one.survey_is.others_on o has in
           by is (other.of.told o.line o.number is.at on.0 (answered o.line on.0 on.1) is.comes)
         where
-          by : IsOtherIn g site content o → IsTold b.replicas b.others o.line o.number → (p : Other) × Contains b.others p × (p.line ≡ o.line) × (p.start ≡ o.start)
+          by : IsOtherIn g site content o → IsNumberTold b.replicas b.others o.line o.number → (p : Other) × Contains b.others p × (p.line ≡ o.line) × (p.start ≡ o.start)
           by is (inl (r, there, line, number)) = absurd (is.never r line number (other.of.each r there))
           by is (inr (p, there, line, number)) = (p, there, line, numbered_one o p line number is (other.of.others p there))
 
@@ -174,5 +183,17 @@ module _ (g : Geometry) (site : Site) (content : Contents) where
           let others = others_one place (find (is_other_at place) a.others) (find (is_other_at place) b.others) refl refl (list_any (is_unread_on up place) site.lines) (list_any (is_unread_on also place) site.lines) unread in
           λ i. cond (found i) located_alone (others i)
 
+-- what passes a test was there
+was_in : {X : Type 0} (p : X → Bool) (xs : List X) (x : X) → Contains (filter p xs) x → Contains xs x
+was_in p xs x has = All-contains (Contains xs) (filter p xs) x (All-filter p (Contains xs) xs (All-contains_itself xs)) has
+
+-- so it is with the site of each database of a sound table of drives
+named_once : (g : Geometry) (key : Key) → IsSound g → AreNamedOnce (site_of g key)
+named_once g key sound a b in_a in_b same =
+    let first : HasSlice g.slices a.name a.at = was_in (is_line_of g key) g.slices a in_a in
+    let second : HasSlice g.slices b.name b.at = was_in (is_line_of g key) g.slices b in_b in
+    let lies : a.at ≡ b.at = sound.once a.name a.at b.at first (subst (λ (s : SliceName). HasSlice g.slices s b.at) (sym same) second) in
+    λ i. record { name = same i; at = lies i }
+
 pub letters_are_one : LettersAreOne
-letters_are_one g site content up also a b once same one other place = one_letters g site content once up also same a b one other place
+letters_are_one g key content up also a b sound same one other place = one_letters g (site_of g key) content (named_once g key sound) up also same a b one other place

@@ -24,7 +24,7 @@ pub closed_gates : (head : Head) (slot : Slot) (m : Mark) (bytes : ℕ) → show
 closed_gates head First m bytes dark is = one_open (is_open head.first) (is_open head.second) (ap is_open is) dark
 closed_gates head Second m bytes dark is = other_open (is_open head.first) (is_open head.second) (ap is_open is) dark
 
-below_more : (a b c : Mark) → IsBelow a b → IsBelow b c → IsBelow a c
+pub below_more : (a b c : Mark) → IsBelow a b → IsBelow b c → IsBelow a c
 below_more a b c one other = grind arith
 
 -- what isn't above the one mark isn't above another that isn't below it

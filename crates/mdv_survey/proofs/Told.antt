@@ -4,7 +4,7 @@ use Rattle.std.specs.Prelude.{Contains}
 use Rattle.std.proofs.lemmas.Bool.{cases_lt}
 use Rattle.std.proofs.lemmas.List.Elements.{Contains-append_left, Contains-push, Contains-push_cases}
 use Rattle.mdv_survey.specs.Below.{DriveNo, Geometry, PlaceAt, Site, SliceLine}
-use Rattle.mdv_survey.specs.Others.{ComesTo, IsOtherIn, IsTold}
+use Rattle.mdv_survey.specs.Others.{ComesTo, IsOtherIn, IsNumberTold}
 use Rattle.mdv_survey.specs.Replica.{Contents}
 use Rattle.mdv_survey.specs.Slice.{AreTold, IsPassed}
 use Rattle.mdv_survey.specs.declared.replica.Finds.{Finds}
@@ -26,7 +26,7 @@ module _ (g : Geometry) (site : Site) (content : Contents) (answers : DriveNo �
   pub told_unanswered : (finds : Finds) → (answers line.at.drive ≡ true → ⊥) → AreTold g site answers lines line 0 content finds → AreTold g site answers (lines ++ line ∷ []) line 0 content finds
   told_unanswered finds never told = record { each = told.each; all = all }
     where
-      all : (l : SliceLine) (k : ℕ) (at : PlaceAt) → Contains site.lines l → answers l.at.drive ≡ true → IsPassed (lines ++ line ∷ []) line 0 l k → Comes l k at → IsTold finds.replicas finds.others l k
+      all : (l : SliceLine) (k : ℕ) (at : PlaceAt) → Contains site.lines l → answers l.at.drive ≡ true → IsPassed (lines ++ line ∷ []) line 0 l k → Comes l k at → IsNumberTold finds.replicas finds.others l k
       all l k at one answered (inr (same, less)) comes = absurd (omega (arith, less))
       all l k at one answered (inl has) comes = elim (Contains-push_cases lines line l has) [
         | inl earlier ↦ told.all l k at one answered (inl earlier) comes
@@ -50,7 +50,7 @@ module _ (g : Geometry) (site : Site) (content : Contents) (answers : DriveNo �
     pub told_end : (finds : Finds) → ((k : ℕ) (at : PlaceAt) → number ≤ k → Comes line k at → ⊥) → AreTold g site answers lines line number content finds → AreTold g site answers (lines ++ line ∷ []) line 0 content finds
     told_end finds none told = record { each = told.each; all = all }
       where
-        all : (l : SliceLine) (k : ℕ) (at : PlaceAt) → Contains site.lines l → answers l.at.drive ≡ true → IsPassed (lines ++ line ∷ []) line 0 l k → Comes l k at → IsTold finds.replicas finds.others l k
+        all : (l : SliceLine) (k : ℕ) (at : PlaceAt) → Contains site.lines l → answers l.at.drive ≡ true → IsPassed (lines ++ line ∷ []) line 0 l k → Comes l k at → IsNumberTold finds.replicas finds.others l k
         all l k at one answered (inr (same, less)) comes = absurd (omega (arith, less))
         all l k at one answered (inl has) comes = elim (Contains-push_cases lines line l has) [
           | inl earlier ↦ told.all l k at one answered (inl earlier) comes
@@ -62,20 +62,20 @@ module _ (g : Geometry) (site : Site) (content : Contents) (answers : DriveNo �
 
     -- what was told of is so, and this number too
     told_next : (old new : Finds) → ((r : Replica) → Contains old.replicas r → Contains new.replicas r) → ((o : Other) → Contains old.others o → Contains new.others o) → ((o : Other) → Contains new.others o → IsOtherIn g site content o)
-        → IsTold new.replicas new.others line number → AreTold g site answers lines line number content old → AreTold g site answers lines line (number + 1) content new
+        → IsNumberTold new.replicas new.others line number → AreTold g site answers lines line number content old → AreTold g site answers lines line (number + 1) content new
     told_next old new replicas others each here told = record { each = each; all = all }
       where
-        kept : (l : SliceLine) (k : ℕ) → IsTold old.replicas old.others l k → IsTold new.replicas new.others l k
+        kept : (l : SliceLine) (k : ℕ) → IsNumberTold old.replicas old.others l k → IsNumberTold new.replicas new.others l k
         kept l k (inl (r, has, same, numbered)) = inl (r, replicas r has, same, numbered)
         kept l k (inr (o, has, same, numbered)) = inr (o, others o has, same, numbered)
 
-        all : (l : SliceLine) (k : ℕ) (at : PlaceAt) → Contains site.lines l → answers l.at.drive ≡ true → IsPassed lines line (number + 1) l k → Comes l k at → IsTold new.replicas new.others l k
+        all : (l : SliceLine) (k : ℕ) (at : PlaceAt) → Contains site.lines l → answers l.at.drive ≡ true → IsPassed lines line (number + 1) l k → Comes l k at → IsNumberTold new.replicas new.others l k
         all l k at one answered (inl earlier) comes = kept l k (told.all l k at one answered (inl earlier) comes)
         all l k at one answered (inr (same, less)) comes = elim (cases_lt k number) [
           | inl before ↦ kept l k (told.all l k at one answered (inr (same, before)) comes)
           | inr most ↦
               let equal : number ≡ k = omega (arith, less, most) in
-              subst (λ (x : SliceLine). IsTold new.replicas new.others x k) (sym same) (subst (IsTold new.replicas new.others line) equal here)
+              subst (λ (x : SliceLine). IsNumberTold new.replicas new.others x k) (sym same) (subst (IsNumberTold new.replicas new.others line) equal here)
         ]
 
     -- a replica more

@@ -1,5 +1,8 @@
 -- What holds of every two surveys.
 use Rattle.std.specs.Prelude.{◌≡◌, true, false, Contains}
+use Rattle.mdv_base.specs.declared.name.Key.{Key}
+use Rattle.mdv_name.specs.Sound.{IsSound}
+use Rattle.mdv_shown.specs.Sites.{site_of}
 use Rattle.mdv_survey.specs.Below.{DriveNo, Drives, Geometry, Place, Site, SliceLine, has_drive}
 use Rattle.mdv_survey.specs.Letters.{letters_at}
 use Rattle.mdv_survey.specs.Replica.{Contents}
@@ -12,16 +15,13 @@ pub record IsCalmSurvey (g : Geometry) (site : Site) (content : Contents) (up : 
   pub of : IsSurveyOf g site up content survey
   pub none : (drive : DriveNo) → has_drive up drive ≡ true → has_drive survey.failed drive ≡ false
 
--- a name stands for one slice of the site
-abbrev pub AreNamedOnce : Site → Type 0
-AreNamedOnce site = (a b : SliceLine) → Contains site.lines a → Contains site.lines b → a.name ≡ b.name → a ≡ b
-
 -- the same drives with slices of the site
 abbrev pub AreSameDrives : Site → Drives → Drives → Type 0
 AreSameDrives site up also = (line : SliceLine) → Contains site.lines line → has_drive up line.at.drive ≡ has_drive also line.at.drive
 
--- two surveys of the same blocks, whose drives answered, tell the same letters of each place
+-- of a sound table of drives: two surveys of the same blocks, whose drives answered, tell the same letters of each place
 abbrev pub LettersAreOne : Type 0
 LettersAreOne =
-    (g : Geometry) (site : Site) (content : Contents) (up also : Drives) (a b : Survey) → AreNamedOnce site → AreSameDrives site up also → IsCalmSurvey g site content up a → IsCalmSurvey g site content also b
-    → (place : Place) → letters_at site a.replicas a.others up place ≡ letters_at site b.replicas b.others also place
+    (g : Geometry) (key : Key) (content : Contents) (up also : Drives) (a b : Survey) → IsSound g → AreSameDrives (site_of g key) up also
+    → IsCalmSurvey g (site_of g key) content up a → IsCalmSurvey g (site_of g key) content also b
+    → (place : Place) → letters_at (site_of g key) a.replicas a.others up place ≡ letters_at (site_of g key) b.replicas b.others also place

@@ -83,6 +83,6 @@ pub record IsOtherIn (g : Geometry) (site : Site) (content : Contents) (other : 
   pub never : (r : Replica) → r.line ≡ other.line → r.number ≡ other.number → IsFoundIn g site content r → ⊥
 
 -- a replica or another place has that number on the slice
-abbrev pub IsTold : List Replica → List Other → SliceLine → ℕ → Type 0
-IsTold replicas others line number =
+abbrev pub IsNumberTold : List Replica → List Other → SliceLine → ℕ → Type 0
+IsNumberTold replicas others line number =
     ((r : Replica) × Contains replicas r × (r.line ≡ line) × (r.number ≡ number)) ⊎ ((o : Other) × Contains others o × (o.line ≡ line) × (o.number ≡ number))

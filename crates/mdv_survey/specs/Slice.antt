@@ -4,7 +4,7 @@ use Rattle.mdv_survey.specs.Below.{DriveNo, Drives, Failures, Geometry, Head, Is
 use Rattle.mdv_replica.specs.Seen.{IsLook}
 use Rattle.mdv_replica.specs.declared.looking.Seen.{Seen}
 use Rattle.mdv_survey.specs.Newest.{HasTable, IsMarked}
-use Rattle.mdv_survey.specs.Others.{ComesTo, IsAhead, IsOtherIn, IsTold}
+use Rattle.mdv_survey.specs.Others.{ComesTo, IsAhead, IsOtherIn, IsNumberTold}
 use Rattle.mdv_survey.specs.Replica.{AreOrdered, Contents, IsFoundIn, IsListed, at_of}
 use Rattle.mdv_survey.specs.Slots.{ReadAnswer}
 use Rattle.mdv_survey.specs.declared.body.ReadFault.{ReadFault}
@@ -40,7 +40,7 @@ pub record AreListed (site : Site) (up : Drives) (lines : List SliceLine) (line 
 -- where the drives have these blocks: each other place is one; and of what was looked at each place that a look comes to is told of, on the drives that passed a test
 pub record AreTold (g : Geometry) (site : Site) (answers : DriveNo → Bool) (lines : List SliceLine) (line : SliceLine) (number : ℕ) (content : Contents) (finds : Finds) : Type 0 where
   pub each : (o : Other) → Contains finds.others o → IsOtherIn g site content o
-  pub all : (l : SliceLine) (k : ℕ) (at : PlaceAt) → Contains site.lines l → answers l.at.drive ≡ true → IsPassed lines line number l k → ComesTo g site l k (content l.at.drive.0) at → IsTold finds.replicas finds.others l k
+  pub all : (l : SliceLine) (k : ℕ) (at : PlaceAt) → Contains site.lines l → answers l.at.drive ≡ true → IsPassed lines line number l k → ComesTo g site l k (content l.at.drive.0) at → IsNumberTold finds.replicas finds.others l k
 
 -- Where the drives have these blocks: each of them is found, and the newest table is there; and of what was looked at each one that is found is among
 -- them, on the drives that passed a test.

@@ -5,7 +5,7 @@ use Rattle.mdv_shelf.specs.Drives.{KeptAmong}
 use Rattle.mdv_shelf.specs.Shelves.{DriveFailures}
 use Rattle.mdv_survey.specs.Below.{DriveNo, Drives, Geometry, Ghosts, PlaceAt, Site, SliceLine, has_drive}
 use Rattle.mdv_survey.specs.Newest.{HasTable, IsMarked}
-use Rattle.mdv_survey.specs.Others.{ComesTo, IsOtherIn, IsTold}
+use Rattle.mdv_survey.specs.Others.{ComesTo, IsOtherIn, IsNumberTold}
 use Rattle.mdv_survey.specs.Replica.{AreOrdered, Contents, IsFoundIn, IsListed}
 use Rattle.mdv_survey.specs.Slice.{AreFound, AreListed}
 use Rattle.mdv_survey.specs.declared.replica.Finds.{Finds}
@@ -32,7 +32,7 @@ pub record IsSurveyOf (g : Geometry) (site : Site) (up : Drives) (content : Cont
   pub all : (r : Replica) → IsFoundIn g site content r → answers_in up survey.failed r.line.at.drive ≡ true → Contains survey.replicas r
   pub table : HasTable g content survey.replicas survey.newest
   pub others : (o : Other) → Contains survey.others o → IsOtherIn g site content o
-  pub told : (line : SliceLine) (number : ℕ) (at : PlaceAt) → Contains site.lines line → answers_in up survey.failed line.at.drive ≡ true → ComesTo g site line number (content line.at.drive.0) at → IsTold survey.replicas survey.others line number
+  pub told : (line : SliceLine) (number : ℕ) (at : PlaceAt) → Contains site.lines line → answers_in up survey.failed line.at.drive ≡ true → ComesTo g site line number (content line.at.drive.0) at → IsNumberTold survey.replicas survey.others line number
 
 -- a drive is told to have failed where just one call on it did, and else none did
 abbrev pub HaveFailed : {S : Type 0} → Ghosts S → S → S → Drives → Type 0

@@ -1,7 +1,7 @@
-//! What holds of every two surveys, as the contract of a function that does nothing.
+//! What holds of every two surveys of a site, as the contract of a function that does nothing.
 ghost use Rattle.mdv_survey.specs.Laws.{LettersAreOne};
 
-/// Two surveys of drives that have the same blocks and all answered tell the same letters of each place.
+/// On the site of a sound table of drives: two surveys that have the same blocks, and whose drives all answered, tell the same letters of each place.
 pub fn letters_are_one()
     ensures { LettersAreOne }
 {}
