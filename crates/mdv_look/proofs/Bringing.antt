@@ -12,16 +12,17 @@ use Rattle.mdv_base.specs.declared.drive.DriveNo.{DriveNo}
 use Rattle.mdv_base.specs.DriveSet.{Drives, has_drive}
 use Rattle.mdv_shelf.specs.Calls.{OnDrive}
 use Rattle.mdv_shelf.specs.Drives.{IsAmong, KeptAmong}
-use Rattle.mdv_shelf.specs.Shelves.{AtEachTale, AtEnd, DriveFailures, KeptOn, MadeCalls}
+use Rattle.mdv_survey.specs.Counts.{MadeReads}
+use Rattle.mdv_shelf.specs.Shelves.{AtEachTale, AtEnd, DriveFailures, KeptOn}
 use Rattle.mdv_shelf.proofs.Among.{among_none, among_then, among_wider}
 use Rattle.mdv_shelf.proofs.Moments.{ends_more, moments_more, moments_none}
 use Rattle.mdv_shelf.proofs.Settled.{synced_drive, synced_still, told_synced}
 use Rattle.mdv_shelf.proofs.Blocks.{kept_unwritten}
 use Rattle.mdv_shelf.specs.Calls.{and_then}
 use Rattle.mdv_look.specs.Below.{Ghosts, IsSynced, Synced, Tale, Then}
-use Rattle.mdv_look.specs.Bringing.{AreSynced, AreUpBy, BringingEnds, IsBringingCounted, IsTryCounted, brought_up}
+use Rattle.mdv_look.specs.Bringing.{AreSynced, AreTriedBy, AreUpBy, BringingEnds, FailedAtLast, IsBringingCounted, IsDriveTried, IsTryCounted, brought_up}
 use Rattle.mdv_look.specs.Quiet.{WritesNothing}
-use Rattle.mdv_look.proofs.Few.{made_reads, reads_more}
+use Rattle.mdv_look.proofs.Few.{reads_more}
 use Rattle.mdv_look.proofs.Quiet.{unwritten_more, unwritten_same, unwritten_synced}
 
 -- drives of one number are one
@@ -90,11 +91,11 @@ module _ {S : Type 0} (shelf : Ghosts S) where
     pub calls : ℕ
     pub least : 1 + cond up 1 0 ≤ calls
     pub most : calls ≤ 2
-    pub made : MadeCalls shelf now next calls 0
-    pub kept : KeptOn shelf now next (OnDrive drive.0)
+    pub made : MadeReads shelf now next calls
+    pub tried : IsDriveTried shelf now next drive up
 
   module _ (now next : S) (drive : DriveNo) (kept : KeptOn shelf now next (OnDrive drive.0)) where
-    pub tried_well : {T E : Type 0} (done : T) → HasCause {E = E} (shelf.faults now (OnDrive drive.0)) (shelf.faults next (OnDrive drive.0)) (Ok done) → shelf.tale next ≡ and_then (shelf.tale now) (Synced drive.0) → IsTryCounted {E = E} shelf now next (Ok done) → Tried now next drive true
+    pub tried_well : {T E : Type 0} (done : T) → HasCause {E = E} (shelf.faults now (OnDrive drive.0)) (shelf.faults next (OnDrive drive.0)) (Ok done) → shelf.tale next ≡ and_then (shelf.tale now) (Synced drive.0) → IsTryCounted {E = E} shelf now next drive.0 (Ok done) → Tried now next drive true
     tried_well done cause tale counted = record {
       cause = cause.calm;
       moments = unwritten_synced drive.0 (shelf.tale now) (shelf.tale next) tale;
@@ -103,24 +104,38 @@ module _ {S : Type 0} (shelf : Ghosts S) where
         tale ∙ ap (λ (o : Option Tale). and_then o (Synced drive.0)) is,
         record { tale = refl; unwritten = unwritten_sync drive.0 t; synced = λ so. synced_drive t drive.0 },
       );
-      calls = counted.calls;
-      least = omega (arith, counted.both);
-      most = counted.most;
-      made = counted.made;
-      kept = kept;
+      calls = 2;
+      least = omega arith;
+      most = omega arith;
+      made = counted;
+      tried = record { came = (cause.calm, counted); kept = kept };
     }
 
-    pub tried_badly : {T E : Type 0} (fault : E) → HasCause {T = T} (shelf.faults now (OnDrive drive.0)) (shelf.faults next (OnDrive drive.0)) (Err fault) → shelf.tale next ≡ shelf.tale now → IsTryCounted {T = T} shelf now next (Err fault) → Tried now next drive false
+    pub tried_badly : {T E : Type 0} (fault : E) → HasCause {T = T} (shelf.faults now (OnDrive drive.0)) (shelf.faults next (OnDrive drive.0)) (Err fault) → shelf.tale next ≡ shelf.tale now → IsTryCounted {T = T} shelf now next drive.0 (Err fault) → Tried now next drive false
     tried_badly fault cause tale counted = record {
       cause = cause.failed;
       moments = moments_none WritesNothing (shelf.tale now) (shelf.tale next) tale unwritten_same;
       end = λ t is. (t, tale ∙ is, record { tale = refl; unwritten = unwritten_same t; synced = λ so. absurd (cc (so)) });
-      calls = counted.calls;
-      least = omega (arith, counted.least);
-      most = counted.most;
-      made = counted.made;
-      kept = kept;
+      calls = counted.before.0 + 1;
+      least = omega arith;
+      most = omega (arith, counted.before.1);
+      made = reads_more shelf now counted.failing next counted.before.0 1 (counted.before.0 + 1) refl counted.before.2 counted.made;
+      tried = record { came = counted; kept = kept };
     }
+
+  -- by any set that agrees on them
+  tried_same : (up later : Drives) (drives : List DriveNo) (a b : S) → ((drive : DriveNo) → Contains drives drive → has_drive later drive ≡ has_drive up drive) → AreTriedBy shelf a b drives up → AreTriedBy shelf a b drives later
+  tried_same up later [] a b same none = none
+  tried_same up later (first ∷ drives) a b same (mid, here, rest) = (
+    mid,
+    subst (λ (is_up : Bool). IsDriveTried shelf a mid first is_up) (sym (same first (Contains-append_left (first ∷ []) drives first (Contains-push [] first)))) here,
+    tried_same up later drives mid b (λ drive one_of. same drive (Contains-append_right (first ∷ []) drives drive one_of)) rest,
+  )
+
+  -- the last of them is tried behind the others
+  tried_push : (up : Drives) (drives : List DriveNo) (drive : DriveNo) (a b c : S) → AreTriedBy shelf a b drives up → IsDriveTried shelf b c drive (has_drive up drive) → AreTriedBy shelf a c (drives ++ drive ∷ []) up
+  tried_push up [] drive a b c none here = (c, subst (λ (s : S). IsDriveTried shelf s c drive (has_drive up drive)) none here, refl)
+  tried_push up (first ∷ drives) drive a b c (mid, was, rest) here = (mid, was, tried_push up drives drive mid b c rest here)
 
   module _ (old : S) where
     -- the drives in front were brought up
@@ -136,7 +151,7 @@ module _ {S : Type 0} (shelf : Ghosts S) where
       ups = record { each = λ drive one_of. absurd (omega (arith, one_of.1)); others = λ drive out. none drive };
       moments = moments_none WritesNothing (shelf.tale old) (shelf.tale old) refl unwritten_same;
       end = λ t is. (t, is, record { tale = refl; synced = λ drive so. absurd (cc (so, none drive)) });
-      counted = record { calls = 0; by = record { least = omega arith; most = omega arith }; made = refl };
+      counted = record { calls = 0; by = record { least = omega arith; most = omega arith }; made = refl; steps = refl };
       kept = among_none shelf old [];
     }
 
@@ -162,7 +177,7 @@ module _ {S : Type 0} (shelf : Ghosts S) where
       ups_each : (other : DriveNo) → Contains front other ⊎ (drive ≡ other) → MatchBool (has_drive later other) (DriveFailures shelf old next other.0).none (DriveFailures shelf old next other.0).some
       ups_each other (inl one_of) =
           let apart = in_front other one_of in
-          let still = tried.kept.others (OnDrive other.0) (differs other apart) in
+          let still = tried.tried.kept.others (OnDrive other.0) (differs other apart) in
           let was = so_far.ups.each other one_of in
           let then_ = subst (λ (n : ℕ). MatchBool (has_drive up other) (n ≡ shelf.faults old (OnDrive other.0)) (RoseOnce (shelf.faults old (OnDrive other.0)) n)) (sym still) was in
           subst (λ (b : Bool). MatchBool b (shelf.faults next (OnDrive other.0) ≡ shelf.faults old (OnDrive other.0)) (RoseOnce (shelf.faults old (OnDrive other.0)) (shelf.faults next (OnDrive other.0)))) (sym (same other apart)) then_
@@ -201,7 +216,8 @@ module _ {S : Type 0} (shelf : Ghosts S) where
           least = omega (arith, count_more, length_push front drive, so_far.counted.by.least, tried.least);
           most = omega (arith, length_push front drive, so_far.counted.by.most, tried.most);
         };
-        made = reads_more shelf old now next so_far.counted.calls tried.calls (so_far.counted.calls + tried.calls) refl so_far.counted.made (made_reads shelf now next tried.calls (omega (arith, tried.least)) tried.made);
+        made = reads_more shelf old now next so_far.counted.calls tried.calls (so_far.counted.calls + tried.calls) refl so_far.counted.made tried.made;
+        steps = tried_push later front drive old now next (tried_same up later front old now (λ other one_of. same other (in_front other one_of)) so_far.counted.steps) tried.tried;
       }
 
       pub so_far_more : SoFar next more later
@@ -210,5 +226,5 @@ module _ {S : Type 0} (shelf : Ghosts S) where
         moments = moments_more WritesNothing WritesNothing WritesNothing (shelf.tale old) (shelf.tale now) (shelf.tale next) (λ t m is. is) unwritten_more so_far.moments tried.moments;
         end = ends_more (BringingEnds up front) (TriedEnds drive (has_drive later drive)) (BringingEnds later more) (shelf.tale old) (shelf.tale now) (shelf.tale next) ends_later so_far.end tried.end;
         counted = counted_more;
-        kept = among_then shelf old now next more drive (Contains-push front drive) calm (among_wider shelf old now front more (λ other one_of. Contains-append_left front (drive ∷ []) other one_of) so_far.kept) tried.kept;
+        kept = among_then shelf old now next more drive (Contains-push front drive) calm (among_wider shelf old now front more (λ other one_of. Contains-append_left front (drive ∷ []) other one_of) so_far.kept) tried.tried.kept;
       }

@@ -17,10 +17,6 @@ module _ {S : Type 0} (shelf : Ghosts S) where
   reads_behind a b c j zero m all first same = subst (λ (s : S). MadeCalls shelf a s m 0) (sym same) (subst (λ (n : ℕ). MadeCalls shelf a b n 0) (omega (arith, all)) first)
   reads_behind a b c j (suc k) m all first took = took_more shelf.calls shelf.written a b c j (suc k) 0 0 m 0 all (omega arith) first took
 
-  pub made_reads : (a b : S) (k : ℕ) → 1 ≤ k → MadeCalls shelf a b k 0 → MadeReads shelf a b k
-  made_reads a b zero some made = absurd (omega (arith, some))
-  made_reads a b (suc k) some made = made
-
   -- and behind other reads
   pub reads_more : (a b c : S) (j k m : ℕ) → j + k ≡ m → MadeReads shelf a b j → MadeReads shelf b c k → MadeReads shelf a c m
   reads_more a b c zero k m all same second =

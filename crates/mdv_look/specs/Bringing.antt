@@ -1,11 +1,12 @@
 -- What it says that drives were brought up.
-use Rattle.std.specs.Prelude.{◌≡◌, ◌≤◌, ℕ, true, false, List, [], ◌∷◌, Contains, Result, OnOk, if◌then◌else◌}
+use Rattle.std.specs.Prelude.{◌≡◌, ℕ, Bool, true, false, List, [], ◌∷◌, Contains, Result, Ok, Err, if◌then◌else◌}
 use Rattle.std.specs.Bool.{MatchBool}
 use Rattle.mdv_base.specs.declared.drive.DriveNo.{DriveNo}
 use Rattle.mdv_base.specs.DriveSet.{Drives, has_drive}
-use Rattle.mdv_shelf.specs.Shelves.{MadeCalls}
+use Rattle.mdv_shelf.specs.Calls.{OnDrive}
+use Rattle.mdv_shelf.specs.Shelves.{DriveFailures, KeptOn, MadeCalls}
 use Rattle.mdv_store_law.specs.Effort.{BroughtUpBy}
-use Rattle.mdv_survey.specs.Counts.{MadeReads}
+use Rattle.mdv_survey.specs.Counts.{MadeFew, MadeReads}
 use Rattle.mdv_look.specs.Below.{Failures, Ghosts, IsSynced, Synced, Tale, Then}
 
 -- those of the drives are up on which no call failed, and on each other one just one did; no other drive is up
@@ -27,16 +28,32 @@ pub record BringingEnds (up : Drives) (drives : List DriveNo) (t u : Tale) : Typ
   pub tale : u ≡ brought_up up drives t
   pub synced : AreSynced up u
 
--- a read and a sync; where one failed, one call at least
-pub record IsTryCounted {S T E : Type 0} (shelf : Ghosts S) (old new : S) (result : Result T E) : Type 0 where
-  pub calls : ℕ
-  pub least : 1 ≤ calls
-  pub most : calls ≤ 2
-  pub both : OnOk result (calls ≡ 2)
-  pub made : MadeCalls shelf old new calls 0
+-- the last of the calls failed, and none before it, of which there are at most so many
+pub record FailedAtLast {S : Type 0} (shelf : Ghosts S) (old new : S) (drive most : ℕ) : Type 0 where
+  pub failing : S
+  pub before : MadeFew shelf old failing most
+  pub calm : (DriveFailures shelf old failing drive).none
+  pub made : MadeCalls shelf failing new 1 0
+  pub failed : (DriveFailures shelf failing new drive).some
 
--- so many reads and syncs brought these drives up
+-- a read and a sync; where one failed, no call behind it
+abbrev pub IsTryCounted : {S T E : Type 0} → Ghosts S → S → S → ℕ → Result T E → Type 0
+IsTryCounted shelf old new drive (Ok done) = MadeCalls shelf old new 2 0
+IsTryCounted shelf old new drive (Err fault) = FailedAtLast shelf old new drive 1
+
+-- A drive that is up took two calls, of which none failed; another one one that failed, behind one at most that didn't. On no other drive was anything done.
+pub record IsDriveTried {S : Type 0} (shelf : Ghosts S) (old new : S) (drive : DriveNo) (is_up : Bool) : Type 0 where
+  pub came : MatchBool is_up ((DriveFailures shelf old new drive.0).none × MadeCalls shelf old new 2 0) (FailedAtLast shelf old new drive.0 1)
+  pub kept : KeptOn shelf old new (OnDrive drive.0)
+
+-- so were these drives, one after another, and nothing was done in between
+abbrev pub AreTriedBy : {S : Type 0} → Ghosts S → S → S → List DriveNo → Drives → Type 0
+AreTriedBy shelf old new [] up = new ≡ old
+AreTriedBy {S} shelf old new (drive ∷ drives) up = (mid : S) × IsDriveTried shelf old mid drive (has_drive up drive) × AreTriedBy shelf mid new drives up
+
+-- so many reads and syncs brought these drives up, drive by drive
 pub record IsBringingCounted {S : Type 0} (shelf : Ghosts S) (old new : S) (drives : List DriveNo) (up : Drives) : Type 0 where
   pub calls : ℕ
   pub by : BroughtUpBy drives up calls
   pub made : MadeReads shelf old new calls
+  pub steps : AreTriedBy shelf old new drives up

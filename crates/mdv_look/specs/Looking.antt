@@ -3,8 +3,8 @@ use Rattle.std.specs.Prelude.{◌≡◌, ◌*◌, ◌+◌, ◌&&◌, ℕ, true, 
 use Rattle.std.specs.Bool.{MatchBool}
 use Rattle.mdv_base.specs.DriveSet.{no_drives}
 use Rattle.mdv_shelf.specs.Shelves.{DriveFailures}
-use Rattle.mdv_survey.specs.Counts.{AreLinesBy, MadeFew, MadeReads}
-use Rattle.mdv_survey.specs.Survey.{IsSurvey, IsSurveyOf, answers_in}
+use Rattle.mdv_survey.specs.Counts.{AreLinesBy, IsCounted, MadeFew, MadeReads}
+use Rattle.mdv_survey.specs.Survey.{AreWithin, HaveFailed, IsSurvey, IsSurveyOf, answers_in}
 use Rattle.mdv_look.specs.Below.{DriveNo, Drives, Geometry, Ghosts, Site, Tale, has_drive, last}
 use Rattle.mdv_look.specs.declared.looking.Looked.{Looked}
 
@@ -27,11 +27,26 @@ pub record AreCalmBy {S : Type 0} (shelf : Ghosts S) (old new : S) (drives : Lis
   pub is_up : (drive : DriveNo) → has_drive calm drive ≡ true → has_drive up drive ≡ true
   pub only : (drive : DriveNo) → has_drive calm drive ≡ true → Contains drives drive
 
--- The last of the looks: by its beginning a call had failed on each drive that is up and didn't answer every read; then each head and each body of an open slot
--- was read once.
+-- One look at all slices on the drives that are up, by reads alone: on each drive that is told just one failed, and on each other one none. Each head and each body of an open slot was read once; of a slice
+-- on a drive that is told 765 at most were.
+pub record WasOneLook {S : Type 0} (shelf : Ghosts S) (old new : S) (g : Geometry) (site : Site) (up failed : Drives) : Type 0 where
+  pub same : shelf.tale new ≡ shelf.tale old
+  pub have : HaveFailed shelf old new failed
+  pub within : AreWithin failed up
+  pub counted : IsCounted shelf old new (765 * length site.lines) (λ t n. AreLinesBy g site up failed (last t) site.lines n)
+
+-- The looks before the last one, of which each began as the one before it ended: in each a read failed, and the next one was at the drives that were left. The last one is at these, and begins at the end of them.
+pub data LooksBy {S : Type 0} (shelf : Ghosts S) (g : Geometry) (site : Site) : Drives → S → Drives → S → Type 0 where
+  at_last : (up these : Drives) (old : S) → ((drive : DriveNo) → Contains site.drives drive → has_drive these drive ≡ has_drive up drive) → LooksBy shelf g site up old these old
+  again : (up failed left these : Drives) (old mid begun : S) → WasOneLook shelf old mid g site up failed → HasFailedOn site.drives up failed → AreLeftOf site.drives up failed left
+      → LooksBy shelf g site left mid these begun → LooksBy shelf g site up old these begun
+
+-- The last of the looks: by its beginning a call had failed on each drive that is up and didn't answer every read, and till then nothing was done but looks in which one did; then each head
+-- and each body of an open slot was read once.
 pub record WasLastLook {S : Type 0} (shelf : Ghosts S) (old new : S) (g : Geometry) (site : Site) (up calm : Drives) : Type 0 where
   pub begun : S
   pub before : AreCalmBy shelf old begun site.drives up calm
+  pub looks : LooksBy shelf g site up old calm begun
   pub once : (t : Tale) → shelf.tale old ≡ Some t → (n : ℕ) × MadeReads shelf begun new n × AreLinesBy g site calm no_drives (last t) site.lines n
 
 -- What was read is told of the drives that answered alone: each replica there, and the newest of their tables. Nothing was written.
@@ -59,7 +74,7 @@ abbrev pub reads_by : Site → (up calm : Drives) → ℕ
 reads_by site up calm = (1 + count_by (λ (drive : DriveNo). has_drive up drive && not (has_drive calm drive)) site.drives) * (765 * length site.lines)
 
 -- Where no read failed each head and each body of an open slot was read once. A look at all slices takes 765 reads at most of each, and there are no more
--- looks than drives of which a read failed, and one; where memory was wanting, than drives that are up, and one.
+-- reads than so many looks could take as there are drives of which a read failed, and one; where memory was wanting, as there are drives that are up, and one.
 pub record IsLookCounted {S E : Type 0} (shelf : Ghosts S) (old new : S) (g : Geometry) (site : Site) (up : Drives) (result : Result Looked E) : Type 0 where
   pub few : MadeFew shelf old new ((1 + count_by (has_drive up) site.drives) * (765 * length site.lines))
   pub some : IfOk result (λ looked. MadeFew shelf old new (reads_by site up looked.calm))

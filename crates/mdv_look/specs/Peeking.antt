@@ -38,7 +38,7 @@ IsPeekBy survey (Err (refused.TwoDatabases a b)) = IsChoice survey (chosen.TwoDa
 IsPeekBy survey (Err refused.Memory) = Unit {0}
 
 -- All drives of the site were looked at, as a boot looks at those that are up: the answer is by what the ones that answered every read hold, and just these are told.
--- Where all did, each head and each body of an open slot was read once; else there are no more looks than drives of which a read failed, and one.
+-- Where all did, each head and each body of an open slot was read once; else there are no more reads than so many looks could take as there are drives of which a read failed, and one.
 pub record IsPeekOf {S : Type 0} (shelf : Ghosts S) (old new : S) (g : Geometry) (site : Site) (all : Drives) (peeked : Peeked) : Type 0 where
   pub survey : Survey
   pub at : IsLookedAt shelf old new g site all (record { survey = survey; calm = peeked.calm })
@@ -51,7 +51,7 @@ pub record WasWanting (peeked : Peeked) : Type 0 where
   pub answer_is : peeked.answer ≡ Err refused.Memory
   pub none : (drive : DriveNo) → has_drive peeked.calm drive ≡ false
 
--- So it was, or memory was wanting. There are no more looks than drives, and one.
+-- So it was, or memory was wanting. There are no more reads than so many looks could take as there are drives, and one.
 pub record IsPeeked {S : Type 0} (shelf : Ghosts S) (old new : S) (g : Geometry) (site : Site) (peeked : Peeked) : Type 0 where
   pub all : Drives
   pub are : AreAllOf site.drives all

@@ -34,7 +34,7 @@ fn try_drive<S: Shelf>(shelf: &mut S, drive: DriveNo) -> Result<(), Failed>
     requires { InDrive (S.sizes shelf.old) drive.0 0 1 }
     ensures cause { HasCause (S.faults shelf.old (OnDrive drive.0)) (S.faults shelf.new (OnDrive drive.0)) result }
     ensures tale { Syncs (S.tale shelf.old) drive.0 result (S.tale shelf.new) }
-    ensures counted { IsTryCounted S.Shelf shelf.old shelf.new result }
+    ensures counted { IsTryCounted S.Shelf shelf.old shelf.new drive.0 result }
     ensures kept { KeptOn S.Shelf shelf.old shelf.new (OnDrive drive.0) }
 {
     let mut first = [ZERO_BLOCK];

@@ -42,12 +42,7 @@ pub struct Peeked {
 /// places that it lists were found. It looks at the slices of all drives of the site, brought up or not; where a read fails it looks anew without that
 /// drive, and tells which drives answered. It writes nothing and syncs nothing, so a crash may take back what was read. Whether the places have room for a text, and numbers are left to
 /// draw, a boot alone asks.
-pub fn peek<S: Shelf>(
-    shelf: &mut S,
-    alloc: Global,
-    geometry: &Geometry,
-    site: &Site,
-) -> Peeked
+pub fn peek<S: Shelf>(shelf: &mut S, alloc: Global, geometry: &Geometry, site: &Site) -> Peeked
     requires sound { IsSound geometry.now }
     requires on_shelf { IsOnShelf (S.sizes shelf.old) site.now }
     ensures answer { IsPeeked S.Shelf shelf.old shelf.new geometry.now site.now result }

@@ -36,7 +36,7 @@ use Rattle.mdv_store.specs.Below.{Core, CoversWith, Database, DriveNo, Drives, E
 use Rattle.mdv_shown.specs.Found.{IsFound}
 use Rattle.mdv_store.specs.Blank.{StayBlank}
 use Rattle.mdv_store.specs.Boot.{IfAdopted, IsEndBy, IsOnce, TakesBoth, TakesClaimOrBoth, is_memory}
-use Rattle.mdv_store.specs.Booted.{IsBooted, IsReadAt}
+use Rattle.mdv_store.specs.Booted.{IsBooted, IsReadAt, WasBroughtUp}
 use Rattle.mdv_store.specs.BootCounts.{IsBootCounted, IsEndCounted, most_blocks, most_reads}
 use Rattle.mdv_store.specs.Booting.{AreOfBoot, BootEnds, BootGoes, BootMoment, HasShown, IsBootedTo, Writes, WritesFor, boot_area, has_written}
 use Rattle.mdv_look.specs.Bringing.{AreSynced, AreUpBy, BringingEnds, IsBringingCounted}
@@ -377,12 +377,24 @@ module _ {S : Type 0} (shelf : Ghosts S) (site : Site) (old m1 : S) (up : Drives
       abbrev made : Booted
       made = record { end = taken.end; up = up; clean = clean; letters = letters }
 
+      abbrev brought_so : WasBroughtUp shelf old new site made
+      brought_so = record {
+        ready = m1;
+        up = ups;
+        ends = b_end;
+        counted = b_counted;
+        before = b_kept;
+        behind = among_calm shelf m1 m2 new site.drives (drives_read looked.survey.replicas) read_within looked_faults l_kept t_kept;
+      }
+
       abbrev read_at : IsReadAt shelf old new g site made looked.survey
       read_at = record {
         begun = at.last_look.begun;
         looked = m2;
         unwritten = subst (λ (o : Option Tale). Moments WritesNothing (shelf.tale old) o) (sym l_same) b_moments;
         before = look_kept;
+        brought = brought_so;
+        looks = at.last_look.looks;
         reads = looks_some;
         behind = among_wider shelf m2 new (drives_read looked.survey.replicas) site.drives read_within t_kept;
         answered = calm_faults;
@@ -417,14 +429,7 @@ module _ {S : Type 0} (shelf : Ghosts S) (site : Site) (old m1 : S) (up : Drives
 
       pub booted : IsBooted shelf old new g site made
       booted = record {
-        brought = record {
-          ready = m1;
-          up = ups;
-          ends = b_end;
-          counted = b_counted;
-          before = b_kept;
-          behind = among_calm shelf m1 m2 new site.drives (drives_read looked.survey.replicas) read_within looked_faults l_kept t_kept;
-        };
+        brought = brought_so;
         ended = ended_by answer.ended;
         once = inr each_once;
         clean = subst (λ (b : Bool). MatchBool b ((is_memory taken.end ≡ false) × ((drive : DriveNo) → Contains site.drives drive → (DriveFailures shelf old new drive.0).none)) ((is_memory taken.end ≡ true) ⊎ ((drive : DriveNo) × Contains site.drives drive × (DriveFailures shelf old new drive.0).some)))

@@ -7,7 +7,7 @@ use Rattle.mdv_survey.specs.Survey.{IsSurvey, IsSurveyOf}
 use Rattle.mdv_survey.specs.declared.replica.Survey.{Survey}
 use Rattle.mdv_store.specs.Below.{DriveNo, Drives, Geometry, Ghosts, Site, Tale, has_drive, last, places_of}
 use Rattle.mdv_look.specs.Bringing.{AreUpBy, BringingEnds, IsBringingCounted}
-use Rattle.mdv_look.specs.Looking.{reads_by}
+use Rattle.mdv_look.specs.Looking.{LooksBy, reads_by}
 use Rattle.mdv_look.specs.Quiet.{WritesNothing}
 use Rattle.mdv_store.specs.Letters.{AreLettersOf, places_seen}
 use Rattle.mdv_store.specs.Seats.{AreLaid}
@@ -18,7 +18,7 @@ use Rattle.mdv_store.specs.Boot.{IfAdopted, IsEndBy, IsOnce, is_memory}
 use Rattle.mdv_store.specs.Booting.{has_written}
 use Rattle.mdv_store.specs.Taking.{Rewrites}
 
--- How far a boot had come as its drives were up: each was read and synced, and the syncs of those that are up were all that was done.
+-- How far a boot had come as its drives were up: each was read and synced, drive by drive, and the syncs of those that are up were all that was done.
 pub record WasBroughtUp {S : Type 0} (shelf : Ghosts S) (old new : S) (site : Site) (answer : Booted) : Type 0 where
   pub ready : S
   pub up : AreUpBy (DriveFailures shelf old ready) site.drives answer.up
@@ -28,8 +28,8 @@ pub record WasBroughtUp {S : Type 0} (shelf : Ghosts S) (old new : S) (site : Si
   pub behind : KeptAmong shelf ready new site.drives
 
 -- What was read in the last look, of the drives that were up and on which no call had failed, and of no other one: what the blocks held as the boot began. On each
--- other drive a call had failed before that look; in it each head and each body of an open slot was read once. Till its end reads and syncs were all that was done: no more looks
--- than drives that are up and of which a read failed, and one; nothing was written, nor was a write begun that took nothing. Where nothing is adopted nothing was done behind it.
+-- other drive a call had failed before that look; in it each head and each body of an open slot was read once. The looks began as the drives were up, one behind another, and in each but the last a read had failed
+-- (`LooksBy`). Till their end reads and syncs were all that was done; nothing was written, nor was a write begun that took nothing. Where nothing is adopted nothing was done behind it.
 pub record IsReadAt {S : Type 0} (shelf : Ghosts S) (old new : S) (g : Geometry) (site : Site) (answer : Booted) (survey : Survey) : Type 0 where
   pub begun : S
   pub looked : S
@@ -37,6 +37,8 @@ pub record IsReadAt {S : Type 0} (shelf : Ghosts S) (old new : S) (g : Geometry)
   pub before : KeptAmong shelf old looked site.drives
   pub behind : KeptAmong shelf looked new site.drives
   pub calm : Drives
+  pub brought : WasBroughtUp shelf old new site answer
+  pub looks : LooksBy shelf g site answer.up brought.ready calm begun
   pub reads : MadeFew shelf old looked (2 * length site.drives + reads_by site answer.up calm)
   pub up : (drive : DriveNo) → has_drive calm drive ≡ true → has_drive answer.up drive ≡ true
   pub failed : (drive : DriveNo) → Contains site.drives drive → has_drive calm drive ≡ false → (DriveFailures shelf old begun drive.0).some × (DriveFailures shelf old new drive.0).some

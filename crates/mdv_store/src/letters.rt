@@ -182,7 +182,10 @@ pub(crate) fn flags_at(seats: &[Seat], seen: &[Lettered], place: Place) -> Optio
 fn seat_at(seats: &[Seat], place: Place) -> Option<Seat>
     ensures { result ≡ find (is_seat_at place) seats.now }
 {
-    seats.iter().copied().find(|seat| is_same(seat.place, place))
+    seats
+        .iter()
+        .copied()
+        .find(|seat| is_same(seat.place, place))
 }
 
 fn lettered_at(seen: &[Lettered], place: Place) -> Option<Lettered>

@@ -11,6 +11,17 @@ use Rattle.mdv_look.proofs.drives.try_drive.Goals.{After-sync}
 pub returns-in_err-read-clause-kept : goal.returns-in_err-read-clause-kept
 returns-in_err-read-clause-kept g c = kept_on_call g.S.Shelf (OnDrive c.args.drive.0) _ _ c.read.ensures.noted c.read.ensures.keeps c.read.ensures.cause.others
 
+pub returns-in_err-read-clause-counted : goal.returns-in_err-read-clause-counted
+returns-in_err-read-clause-counted g c =
+    rw (err_is c.from_residual.result c.in_err-read.field-0.0 c.from_residual.ensures.1)
+    (record {
+      failing = c.args.shelf.now;
+      before = (0, omega arith, refl);
+      calm = refl;
+      made = took_one g.S.Shelf.calls g.S.Shelf.written _ _ 0 c.read.ensures.counted;
+      failed = c.in_err-read.ensures.cause.own.failed;
+    })
+
 -- the read and the sync
 two : (g : _) (c : After-sync g) → MadeCalls g.S.Shelf c.args.shelf.now c.sync.new.self 2 0
 two g c =
@@ -25,7 +36,13 @@ both_kept g c =
 pub returns-in_err-sync-clause-counted : goal.returns-in_err-sync-clause-counted
 returns-in_err-sync-clause-counted g c =
     rw (err_is c.from_residual-in_err-sync.result c.in_err-sync.field-0.0 c.from_residual-in_err-sync.ensures.1)
-    (record { calls = 2; least = omega arith; most = omega arith; both = tt; made = two g (goal.at.returns-in_err-sync-clause-counted g c).After-sync })
+    (record {
+      failing = c.read.new.self;
+      before = (1, omega arith, took_one g.S.Shelf.calls g.S.Shelf.written _ _ 0 c.read.ensures.counted);
+      calm = c.in_ok-read.ensures.cause.own.calm;
+      made = took_one g.S.Shelf.calls g.S.Shelf.written _ _ 0 c.sync.ensures.counted;
+      failed = c.in_err-sync.ensures.cause.own.failed;
+    })
 
 pub returns-in_err-sync-clause-kept : goal.returns-in_err-sync-clause-kept
 returns-in_err-sync-clause-kept g c = both_kept g (goal.at.returns-in_err-sync-clause-kept g c).After-sync
@@ -34,7 +51,7 @@ pub returns-clause-tale : goal.returns-clause-tale
 returns-clause-tale g c = c.in_ok-sync.ensures.syncs ∙ ap (λ (o : Option Tale). and_then o (Synced c.args.drive.0)) c.read.ensures.reads.same
 
 pub returns-clause-counted : goal.returns-clause-counted
-returns-clause-counted g c = record { calls = 2; least = omega arith; most = omega arith; both = refl; made = two g (goal.at.returns-clause-counted g c).After-sync }
+returns-clause-counted g c = two g (goal.at.returns-clause-counted g c).After-sync
 
 pub returns-clause-kept : goal.returns-clause-kept
 returns-clause-kept g c = both_kept g (goal.at.returns-clause-kept g c).After-sync

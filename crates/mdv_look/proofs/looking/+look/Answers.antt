@@ -42,16 +42,15 @@ returns-clause-looked g t c =
     let has = rw c.as_slice-drives.ensures at (c.has_failed.ensures.yes c.if-not-has_failed.false) in
     let are = rw c.as_slice-drives.ensures at c.left_of-left.ensures in
     looked_more g.S.Shelf c.args.geometry.now c.args.site.now c.args.shelf.now c.survey.new.shelf c.args.up.now found c.requires.on_shelf.brought c.in_ok-found.ensures.failed.0 c.in_ok-found.ensures.failed.1 c.left_of-left.result are c.survey.ensures.reads.same
-    c.look.new.shelf c.look.result has c.look.ensures.looked
+    c.look.new.shelf c.look.result has c.look.ensures.looked c.in_ok-found.ensures.counted
 
 pub returns-clause-counted : goal.returns-clause-counted
 returns-clause-counted g t c =
     let found : Survey = c.in_ok-found.found in
     let has = rw c.as_slice-drives.ensures at (c.has_failed.ensures.yes c.if-not-has_failed.false) in
     let are = rw c.as_slice-drives.ensures at c.left_of-left.ensures in
-    let counted = c.in_ok-found.ensures.counted in
     counted_more g.S.Shelf c.args.geometry.now c.args.site.now c.args.shelf.now c.survey.new.shelf c.args.up.now found c.requires.on_shelf.brought c.in_ok-found.ensures.failed.0 c.in_ok-found.ensures.failed.1 c.left_of-left.result are c.survey.ensures.reads.same
-    c.look.new.shelf c.look.result has c.look.ensures.looked (counted.calls, counted.few, counted.made) c.look.ensures.counted
+    c.look.new.shelf c.look.result has c.look.ensures.looked c.in_ok-found.ensures.counted c.look.ensures.counted
 
 pub returns-clause-kept : goal.returns-clause-kept
 returns-clause-kept g t c =
