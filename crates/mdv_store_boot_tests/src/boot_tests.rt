@@ -1,6 +1,5 @@
 //! Boots of a database that a creation made, with drives lost.
-use crate::step::{Step, first_wrong};
-use mdv_store_tests::{Committed, Drives, End, Layout, Made};
+use mdv_store_tests::{Committed, Drives, End, Layout, Made, Step, first_wrong};
 use std::alloc::Global;
 use std::test::Fail;
 

@@ -1,6 +1,5 @@
 //! The nine letters of listed places: a m u l W R F M D, as they are told behind a creation, a boot and commits.
-use crate::step::{Step, first_wrong};
-use mdv_store_tests::{Committed, End, Found, Layout, Made};
+use mdv_store_tests::{Committed, End, Found, Layout, Made, Step, first_wrong};
 use std::test::Fail;
 
 const WELL: &[&str] = &["amul-----", "a-ul-----", "a-ul-----"];

@@ -11,7 +11,3 @@ mod lost_tests;
 mod mixed_tests;
 #[cfg(test)]
 mod peek_tests;
-#[cfg(test)]
-mod spoiled_tests;
-#[cfg(test)]
-mod step;

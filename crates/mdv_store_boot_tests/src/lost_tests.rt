@@ -1,6 +1,5 @@
 //! What makes a creation, a commit or a boot end for want of places or of numbers.
-use crate::step::{Case, Step, first_of, name_of};
-use mdv_store_tests::{Committed, End, Found, Image, Layout, Made};
+use mdv_store_tests::{Case, Committed, End, Found, Image, Layout, Made, Step, first_of, name_of};
 use std::test::Fail;
 
 // A creation takes twelve calls for each place, six of them for its format, and two more for each place of a slice that gets several. A commit takes six

@@ -1,6 +1,5 @@
 //! Boots where replicas of several databases lie on the drives.
-use crate::step::{Case, Step, first_of, name_of};
-use mdv_store_tests::{Committed, End, Found, Layout, Made};
+use mdv_store_tests::{Case, Committed, End, Found, Layout, Made, Step, first_of, name_of};
 use std::test::Fail;
 
 // The first places of the drives 0 to 2, and of those behind them.

@@ -1,6 +1,5 @@
 //! What a peek tells of the drives, beside the boots there.
-use crate::step::{Case, Step, first_of, name_of};
-use mdv_store_tests::{Committed, End, Image, Layout, Made, Peeked};
+use mdv_store_tests::{Case, Committed, End, Image, Layout, Made, Peeked, Step, first_of, name_of};
 use std::test::Fail;
 
 // The first places of the drives 0 to 2, and of those behind them.

@@ -1,14 +1,10 @@
-//! A host with drives in memory and its database on many slices there; and creations, commits and boots of it that are stopped, and drawn lives.
+//! A host with drives in memory and its database on many slices there, and lists of steps that it takes.
 #![tactic(auto)]
 
 mod host;
-#[cfg(test)]
-mod life_tests;
-#[cfg(test)]
-mod stop_tests;
+mod step;
 mod tables;
-#[cfg(test)]
-mod world;
 
 pub use host::{Boot, Committed, Drives, End, Found, Host, Image, Made, Peeked, bit, has};
+pub use step::{Case, Step, first_of, first_wrong, name_of};
 pub use tables::{Ground, Layout, local_on, shared_on};

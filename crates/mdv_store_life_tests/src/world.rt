@@ -1,7 +1,7 @@
 //! A plain world beside the store: which table each place was written last, and what a boot or a commit comes to by counting. It knows of no block.
 ghost use Rattle.std.specs.Prelude.{◌≤◌};
 
-use crate::host::{Committed, Drives, End, Found, bit, has};
+use mdv_store_tests::{Committed, Drives, End, Found, bit, has};
 use std::alloc::{AllocError, Global};
 
 /// A table, by its number, and the mark under which it was written.

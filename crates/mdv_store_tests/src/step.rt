@@ -1,16 +1,14 @@
 //! Steps of a database's life, each with what has to come of it, and the walk over a list of them.
+use crate::host::{Boot, Committed, Drives, End, Found, Host, Image, Made, Peeked, bit};
+use crate::tables::{Ground, Layout, local_on, shared_on};
 use mdv_base::{Flags, Place};
 use mdv_replica::claim_block;
-use mdv_store_tests::{
-    Boot, Committed, Drives, End, Found, Ground, Host, Image, Layout, Made, Peeked, bit, local_on,
-    shared_on,
-};
 use std::alloc::Global;
 use std::test::Fail;
 
 /// What is done, and what comes of it. The first replica on slice 7 begins at block 18 of its drive.
 #[derive(Clone, Copy)]
-pub(crate) enum Step {
+pub enum Step {
     /// A creation of a database with this fresh word: on which lines of the site, how many places on each, and what comes of it.
     Make(u64, &'static [usize], u8, Made),
     /// One with the key of another host, or of another set.
@@ -226,20 +224,16 @@ fn ground_on(layout: Layout) -> Result<Ground, Fail> {
 }
 
 /// The first step, counted from 0, of which something else comes.
-pub(crate) fn first_wrong(
-    alloc: Global,
-    layout: Layout,
-    steps: &[Step],
-) -> Result<Option<usize>, Fail> {
+pub fn first_wrong(alloc: Global, layout: Layout, steps: &[Step]) -> Result<Option<usize>, Fail> {
     let mut life = Life::new(alloc, ground_on(layout)?)?;
     walk(alloc, &mut life, steps)
 }
 
 /// What it shows, and its steps.
-pub(crate) type Case = (&'static str, &'static [Step]);
+pub type Case = (&'static str, &'static [Step]);
 
 /// The number of the first case of which something else comes, and of its step.
-pub(crate) fn first_of(
+pub fn first_of(
     alloc: Global,
     layout: Layout,
     cases: &[Case],
@@ -254,7 +248,7 @@ pub(crate) fn first_of(
 }
 
 /// The name of the case.
-pub(crate) fn name_of(cases: &[Case], wrong: Option<(usize, usize)>) -> &'static str {
+pub fn name_of(cases: &[Case], wrong: Option<(usize, usize)>) -> &'static str {
     match wrong {
         Some((number, _)) if number < cases.len() => cases[number].0,
         _ => "",

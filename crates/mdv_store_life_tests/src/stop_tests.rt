@@ -1,6 +1,7 @@
 //! Creations, commits and boots that are stopped at each of their calls, crashes behind them, and the boots that follow.
-use crate::host::{Boot, Committed, Drives, End, Found, Host, Image, Made, has};
-use crate::tables::{Ground, Layout, local_on};
+use mdv_store_tests::{
+    Boot, Committed, Drives, End, Found, Ground, Host, Image, Layout, Made, has, local_on,
+};
 use std::alloc::Global;
 use std::test::Fail;
 

@@ -1,8 +1,7 @@
 //! Drawn lives of a database on five drives, which are lost and come back, beside a plain world.
-use crate::host::{Committed, Drives, End, Host, Image, Made, bit};
-use crate::tables::{Ground, Layout, local_on};
 use crate::world::World;
 use mdv_quorum_tests::Draws;
+use mdv_store_tests::{Committed, Drives, End, Ground, Host, Image, Layout, Made, bit, local_on};
 use std::alloc::Global;
 use std::test::Fail;
 

@@ -1,6 +1,5 @@
 //! Boots where a byte of one replica is spoiled: its vote counts only where each part of it is of its form.
-use crate::step::{Step, first_wrong};
-use mdv_store_tests::{Committed, End, Layout, Made};
+use mdv_store_tests::{Committed, End, Layout, Made, Step, first_wrong};
 use std::alloc::Global;
 use std::test::Fail;
 
