@@ -364,9 +364,11 @@ module _ {S : Type 0} (shelf : Ghosts S) (old new : S) (host : Host) (ready : Is
     listed_told : (o : Opened) → answer.end ≡ end.Adopted o → (t : Tale) → shelf.tale old ≡ Some t → IsOfGeometry host.drives o.table
     listed_told o so t told = (let e = ends t told in (subst (λ (x : BootEnd). IfAdopted x (λ y. IsBootedTo host.drives host.site y t e.0)) so e.2.adopted).opened.of_geometry)
 
-    counted_as : (said : Answer) (next : Memory)
+    counted_as : (said : Answer) (next : Memory) → said ≡ answered_by answer.end
+        → (said ≡ accepted → (t : Tale) → shelf.tale old ≡ Some t → (next.opened ≡ opened_by answer.end) × (next.up ≡ answer.up) × (next.clean ≡ answer.clean))
         → (said ≡ accepted → next.clean ≡ true → (t : Tale) → shelf.tale old ≡ Some t → (next.up ≡ answer.up) × (next.clean ≡ answer.clean) × ((n : ℕ) → IsEndCounted shelf old new n answer.end → IsOpenedCounted (made_of shelf old new) n next.opened)) → IsBootedCounted shelf old new host said next
-    counted_as said next of = record {
+    counted_as said next said_is tied of = record {
+      booted = record { booted = answer; is = is; answer_is = said_is; tied = tied };
       most = counted.most;
       clean = λ ok clean t told.
           let is_so = of ok clean t told in
@@ -384,10 +386,10 @@ module _ {S : Type 0} (shelf : Ghosts S) (old new : S) (host : Host) (ready : Is
     opened_counts end.Memory n ok calls_made = absurd (cc (ok))
 
     answered_counted : (e : BootEnd) → answer.end ≡ e → answered_by e ≡ accepted → IsBootedCounted shelf old new host accepted (memory (opened_by e))
-    answered_counted e so ok = counted_as accepted (memory (opened_by e)) (λ on clean t told. (refl, refl, λ n of. opened_counts e n ok (subst (IsEndCounted shelf old new n) so of)))
+    answered_counted e so ok = counted_as accepted (memory (opened_by e)) (sym (ap answered_by so ∙ ok)) (λ on t told. (ap opened_by (sym so), refl, refl)) (λ on clean t told. (refl, refl, λ n of. opened_counts e n ok (subst (IsEndCounted shelf old new n) so of)))
 
-    pub over_counted : (over : Ended) (next : Memory) → IsBootedCounted shelf old new host (Over over) next
-    over_counted over next = counted_as (Over over) next (λ ok. absurd (cc (ok)))
+    pub over_counted : (over : Ended) (next : Memory) → answered_by answer.end ≡ Over over → IsBootedCounted shelf old new host (Over over) next
+    over_counted over next so = counted_as (Over over) next (sym so) (λ ok. absurd (cc (ok))) (λ ok. absurd (cc (ok)))
 
     pub empty_counted : answer.end ≡ end.Empty → IsBootedCounted shelf old new host accepted (memory None)
     empty_counted so = answered_counted end.Empty so refl
@@ -407,7 +409,7 @@ module _ {S : Type 0} (shelf : Ghosts S) (old new : S) (host : Host) (ready : Is
       fitting_counted = by database fits where
         by : (d : Option Opened) → IsFitting host.drives o d → IsBootedCounted shelf old new host accepted (memory d)
         by (Some kept_one) is_it = subst (λ (x : Opened). IsBootedCounted shelf old new host accepted (memory (Some x))) (sym is_it.0) (answered_counted (end.Adopted o) so refl)
-        by None off = counted_as accepted (memory None) (λ ok clean t told. absurd (never off t told))
+        by None off = counted_as accepted (memory None) (sym (ap answered_by so)) (λ ok t told. absurd (never off t told)) (λ ok clean t told. absurd (never off t told))
 
       pub fitting_cause : IsAnsweredBy calls host (memory database)
       fitting_cause = by database fits where

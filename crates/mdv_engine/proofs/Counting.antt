@@ -9,7 +9,7 @@ use Rattle.mdv_shelf.proofs.Made.{with_more}
 use Rattle.mdv_store.specs.Create.{blanked_asked}
 use Rattle.mdv_words.specs.declared.command.Command.TheVariants.{MakeStripe, Print}
 use Rattle.mdv_engine.specs.Below.{Answer, Command, Create, Ended, Host, IoFault, Memory, Opened, OutOfMemory, Outcomes, Read, Refusal, VolId, Write, lines_asked}
-use Rattle.mdv_engine_law.specs.Answers.{IsQuiet, refusing}
+use Rattle.mdv_engine_law.specs.Answers.{IsMereRefusal, IsSaid, refusing}
 use Rattle.mdv_engine_law.specs.Efforts.{CommandCalls, FaultCalls, LossCalls, MadeCallsOf, places_on, replied_to, wanting_calls}
 use Rattle.mdv_engine_law.specs.Refusals.{blocks_refusal}
 use Rattle.mdv_engine_law.specs.Replies.{IsAccepted, IsLost, IsReplied, IsTellingCounted, IsTold, reply_at, reply_to}
@@ -20,7 +20,6 @@ use Rattle.mdv_engine_law.specs.declared.answer.Outcome.TheVariants as outcome
 use Rattle.mdv_engine_law.specs.declared.answer.Reply.{Reply}
 use Rattle.mdv_engine_law.specs.declared.answer.Reply.TheVariants as reply
 use Rattle.mdv_engine_law.proofs.Efforts.{command_too, done_too, fault_too}
-use Rattle.mdv_engine.specs.Ends.{IsSaid}
 use Rattle.mdv_engine.specs.Counts.{DoneCalls, HasTriedAll, IsCommandCounted, IsQuietRefusal, IsUnlooked, blocks_of, calls_of}
 use Rattle.mdv_engine.specs.Engine.{HasBlocksCause}
 
@@ -292,7 +291,7 @@ module _ {S : Type 0} (shelf : Ghosts S) where
     quiet other is counted = ap shelf.tale counted
 
     -- by the answer, told whole or not
-    pub quiet_answer : (answer : Answer) → IsQuiet answer → Counted answer → shelf.tale new ≡ shelf.tale old
+    pub quiet_answer : (answer : Answer) → IsMereRefusal answer → Counted answer → shelf.tale new ≡ shelf.tale old
     quiet_answer (Said outcome.Ok) is counted = absurd is
     quiet_answer (Said (outcome.Values text)) is counted = absurd is
     quiet_answer (Said (outcome.Refused IoFault)) is counted = absurd is

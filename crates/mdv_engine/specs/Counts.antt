@@ -11,6 +11,8 @@ use Rattle.mdv_shelf.specs.declared.shelf.Shelf.{Ghosts}
 use Rattle.mdv_words.specs.declared.command.Command.{Command}
 use Rattle.mdv_words.specs.declared.command.Command.TheVariants as command
 use Rattle.mdv_store.specs.BootCounts.{most_blocks, most_reads}
+use Rattle.mdv_store.specs.Booted.{IsBooted}
+use Rattle.mdv_store.specs.declared.booting.Booted.{Booted}
 use Rattle.mdv_store.specs.Acts.{HaveGone, acts_asked}
 use Rattle.mdv_store.specs.Commit.{next_mark}
 use Rattle.mdv_store.specs.Create.{blanked_asked, drives_asked, seats_asked, table_of}
@@ -20,6 +22,7 @@ use Rattle.mdv_store.specs.Writing.{AreWrittenBy}
 use Rattle.mdv_standing.specs.Creating.{first_mark}
 use Rattle.mdv_survey.specs.Counts.{AreLinesBy}
 use Rattle.mdv_table.specs.Change.{table_after}
+use Rattle.mdv_engine_law.specs.Line.{answered_by, opened_by}
 use Rattle.mdv_engine_law.specs.Efforts.{FaultCalls, LossCalls, MadeCallsOf, places_on, wanting_calls}
 use Rattle.mdv_engine_law.specs.declared.answer.Answer.{Answer}
 use Rattle.mdv_engine_law.specs.declared.answer.Answer.TheVariants.{Said, Over}
@@ -127,8 +130,17 @@ abbrev pub IsOpenedCounted : Made → ℕ → Option Opened → Type 0
 IsOpenedCounted made before (Some o) = made.exactly (before + 8 * active_of o.seats) ((3 + blocks_for (length (record_text o.table))) * active_of o.seats)
 IsOpenedCounted made before None = made.within before before 0
 
--- The calls of a boot: no more than those of as many looks as there are drives, and one, and of fifty places; and where it is answered and none failed, as many as it read, and those by which it opened what it did.
+-- A boot of the store came to this answer, and, where the tale is told, left this in memory. So whatever failed its end follows from its last look, by whose end no call on a drive that it tells of had failed, and nothing was
+-- written; and what was done behind that look was written in turn to the places that it had in hand.
+pub record WasBooted {S : Type 0} (shelf : Ghosts S) (old new : S) (host : Host) (answer : Answer) (memory : Memory) : Type 0 where
+  pub booted : Booted
+  pub is : IsBooted shelf old new host.drives host.site booted
+  pub answer_is : answer ≡ answered_by booted.end
+  pub tied : answer ≡ accepted → (t : Tale) → shelf.tale old ≡ Some t → (memory.opened ≡ opened_by booted.end) × (memory.up ≡ booted.up) × (memory.clean ≡ booted.clean)
+
+-- The calls of a boot: no more than those of as many looks as there are drives, and one, and of fifty places; and where it is answered and none failed, as many as it read, and those by which it opened what it did; and it made them as one of the store does.
 pub record IsBootedCounted {S : Type 0} (shelf : Ghosts S) (old new : S) (host : Host) (answer : Answer) (memory : Memory) : Type 0 where
   pub most : (made_of shelf old new).within 0 (2 * length host.site.drives + most_reads host.site + 8 * 50) most_blocks
   pub clean : answer ≡ accepted → memory.clean ≡ true → (t : Tale) → shelf.tale old ≡ Some t
       → (reads : ℕ) × AreLinesBy host.drives host.site memory.up no_drives (last t) host.site.lines reads × IsOpenedCounted (made_of shelf old new) (2 * length host.site.drives + reads) memory.opened
+  pub booted : WasBooted shelf old new host answer memory

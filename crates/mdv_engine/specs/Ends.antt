@@ -12,10 +12,10 @@ use Rattle.mdv_words.specs.declared.command.Command.TheVariants as command
 use Rattle.mdv_words.specs.Line as words
 use Rattle.mdv_engine.specs.Below.{Answer, AreBlocksAt, AreCalm, BootedTo, CameTo, CarryEnd, CarryMoment, Change, Changed, Create, Created, DriveBlock, DriveNo, Ended, Executed, FailedOn, Host, IoFault, IsAllowed, IsOpenedAt, IsPlainAnswer, IsRebooted, IsSettled, IsSynced, Kept, KeptOutside, Knows, MakeStripe, MayLeave, Memory, OnDrive, Opened, OutOfMemory, Outcomes, Read, Refusal, Seat, Settling, SliceLine, SliceName, Table, Tale, TellMoment, TellsFront, TurnMoment, Turned, VolId, Write, asked_by, blocks_of, has_drive, identity_of, kept_at, key_of, last, lines_asked, nowhere, text_of, unbooted}
 use Rattle.mdv_shelf.specs.Made.{Made, and_more, made_of}
-use Rattle.mdv_engine_law.specs.declared.answer.Answer.TheVariants.{Said, Over}
+use Rattle.mdv_engine_law.specs.declared.answer.Answer.TheVariants.{Over}
 use Rattle.mdv_engine_law.specs.declared.answer.Ended.TheVariants as ended
 use Rattle.mdv_engine_law.specs.Line.{Ask, ToDo, ToMake, contents, deeds}
-use Rattle.mdv_engine_law.specs.Answers.{accepted, refusing}
+use Rattle.mdv_engine_law.specs.Answers.{IsSaid, accepted, refusing}
 use Rattle.mdv_engine_law.specs.Commands.{MaySpend, blame_of}
 use Rattle.mdv_engine_law.specs.Efforts.{BootCalls, FaultCalls, LossCalls, MadeCallsOf, wanting_calls}
 use Rattle.mdv_engine_law.specs.Refusals.{blocks_refusal, read_refusal}
@@ -48,14 +48,14 @@ made_at host begun lines count blocks seats = record {
 }
 
 -- Too few of the places took the table of a creation, as the calls say that failed; whatever a crash leaves, each of the places has its replica, and each that is left shows the table.
-pub record LeavesTable (calls : Outcomes) (host : Host) (begun : ℕ) (lines : List SliceLine) (count blocks active listed : ℕ) (u : Tale) : Type 0 where
+pub record LeavesReplicas (calls : Outcomes) (host : Host) (begun : ℕ) (lines : List SliceLine) (count blocks active listed : ℕ) (u : Tale) : Type 0 where
   pub lost : create.IsLost calls (key_of host) (identity_of host begun) lines count blocks active listed
   pub formed : AreTheirs host.drives (key_of host) (identity_of host begun) (create.seats_asked (key_of host) (identity_of host begun) lines count blocks) u
   pub left : IsOpenedAt host.drives (made_at host begun lines count blocks lost.now) u
 
 -- what a command leaves that the run is over with, for too few places are left
 abbrev pub LeavesMade : Outcomes → Host → Memory → Command → ℕ → ℕ → Tale → Type 0
-LeavesMade calls host old (Create slices force count blocks) active listed u = LeavesTable calls host old.begun (lines_asked host slices) count blocks active listed u
+LeavesMade calls host old (Create slices force count blocks) active listed u = LeavesReplicas calls host old.begun (lines_asked host slices) count blocks active listed u
 LeavesMade calls host old other active listed u = Unit {0}
 
 -- a command that was carried out: what it came to and led to, what it left where it was done, and where the run is over, for too few places are left
@@ -87,11 +87,6 @@ CreationEnds shelf from to old slices force count blocks answer new = AtEnd shel
 -- of one that nothing refuses, with whichever force
 abbrev pub FreeEnds : {S : Type 0} → Ghosts S → S → S → Engine → List SliceName → ℕ → ℕ → Answer → Engine → Type 0
 FreeEnds shelf from to old slices count blocks answer new = (force : Bool) → IsAllowed (case_at old) (Create slices force count blocks) → CreationEnds shelf from to old slices force count blocks answer new
-
--- the run goes on with it
-abbrev pub IsSaid : Answer → Type 0
-IsSaid (Said this) = Unit {0}
-IsSaid (Over end) = ⊥
 
 -- What an answer says, whatever the shelf tells: its text is a reply's, it has its cause, and where places are lost that lies on the slices where the host's replicas may; a creation is
 -- accepted only where no database is open and no call failed in the last boot; and what the engine keeps, by which it may go on where the run does.
@@ -132,12 +127,13 @@ abbrev pub CarriesOut : Host → Command → Outcomes → Kept → Answer → Ke
 CarriesOut host command calls kept answer next = CameTo calls host kept command answer next
 
 -- The end of a command and its reply: what it came to and with how many calls, what it led to, what is known where the run isn't lost; a refusal behind which
--- nothing was written; and what a command left that was told `ok`, and one with which the run is over, for too few places are left.
+-- nothing was written, nor by a change whose number is spent; and what a command left that was told `ok`, and one with which the run is over, for too few places are left.
 pub record TurnEnd (calls : Outcomes) (replies : Type 0) (made : Made) (old : Engine) (command : Command) (given : Reply) (new : Engine) (t u : Tale) : Type 0 where
   pub answered : Knows old.host old.state t → Executed calls replies made old.host (words.Exec command) old.state new.state given t u
   pub turned : IsReplied given → Turned old.host (asked_by old.host command) old.state new.state t u
   pub knows : (IsLost given → ⊥) → Knows old.host old.state t → Knows old.host new.state u
   pub quiet : IsQuietRefusal given → KeptOutside nowhere t u
+  pub spent : given ≡ reply.Spent → KeptOutside nowhere t u
   pub done : given ≡ reply.Ok → LeavesDone old.host old.state command u
   pub lost : (active listed : ℕ) → given ≡ reply.Panic active listed → LeavesMade calls old.host old.state command active listed u
 

@@ -17,7 +17,7 @@ use Rattle.mdv_volumes.specs.HistoryLaws.{IsBooted, Waking, wakings}
 use Rattle.mdv_volumes.proofs.Tables.{tables_lie}
 use Rattle.mdv_volumes.proofs.Waking.{boots_go}
 use Rattle.mdv_volumes.proofs.Standing.{frames_stand}
-use Rattle.mdv_engine_law.specs.Awake.{HasBooted, is_in}
+use Rattle.mdv_engine_law.specs.Awake.{BootBegins, is_in}
 use Rattle.mdv_engine_law.specs.declared.host.Host.{Host}
 use Rattle.mdv_engine_law.specs.Hosts.{IsReady, key_of}
 use Rattle.mdv_engine_law.specs.Line.{booted_with}
@@ -44,10 +44,10 @@ pub all_own : (host : Host) (sizes : List ℕ) → IsReady host sizes → (up : 
 all_own host sizes ready = (all_below 256, λ drive one_of. (let own = own_drives_lie host sizes ready in is_below 256 drive.0 (omega (arith, own.few, (own.each drive one_of).known))))
 
 -- a boot's beginning is among events one behind another
-pub booted_first : (key : Key) (up : Drives) (es fs : List Event) → HasBooted key up es → HasBooted key up (es ++ fs)
+pub booted_first : (key : Key) (up : Drives) (es fs : List Event) → BootBegins key up es → BootBegins key up (es ++ fs)
 booted_first key up es fs has = Contains-append_left es fs (Boots key up) has
 
-pub booted_second : (key : Key) (up : Drives) (es fs : List Event) → HasBooted key up fs → HasBooted key up (es ++ fs)
+pub booted_second : (key : Key) (up : Drives) (es fs : List Event) → BootBegins key up fs → BootBegins key up (es ++ fs)
 booted_second key up es fs has = Contains-append_right es fs (Boots key up) has
 
 -- wakings read and write no volume, and create nothing
@@ -61,7 +61,7 @@ wakings_issue host key (w ∷ ws) = (tt, wakings_issue host key ws)
 
 -- a boot of the host began that brings these drives up, and none since; and the databases are the host's own that were
 abbrev pub HasBegun : Host → Drives → History → List Event → History → Type 0
-HasBegun host up before es h = HasBooted (key_of host) up es × (h.up (key_of host) ≡ up) × ((begun : ℕ) → AreOwn host begun before → AreOwn host begun h)
+HasBegun host up before es h = BootBegins (key_of host) up es × (h.up (key_of host) ≡ up) × ((begun : ℕ) → AreOwn host begun before → AreOwn host begun h)
 
 -- how all databases go on while one boots: they stand as they did, or the key's current one goes on with nothing asked
 abbrev pub BootsOn : Host → Tale → Tale → Type 0
@@ -175,7 +175,7 @@ module _ (host : Host) (sizes : List ℕ) (ready : IsReady host sizes) (t : Tale
           quiet = quiet;
           knows = knows;
           goes = λ h stands own.
-              goes_more host [] [] [] [] [] (λ es g. HasBegun host up h es g × IsOpenIn host.drives o g.databases u) (λ es g. IsKnown host memory g u × HasBooted (key_of host) up es) u u h tt
+              goes_more host [] [] [] [] [] (λ es g. HasBegun host up h es g × IsOpenIn host.drives o g.databases u) (λ es g. IsKnown host memory g u × BootBegins (key_of host) up es) u u h tt
               (adopting o u kept goes h stands (λ es g. HasBegun host up h es g × IsOpenIn host.drives o g.databases u) (λ es g there has is. (has, is)))
               (λ es g there before. (
               let went = woken rests o its opened.of_geometry g there before.1 before.0.1 in
@@ -209,7 +209,7 @@ module _ (host : Host) (sizes : List ℕ) (ready : IsReady host sizes) (t : Tale
           kept = kept;
           quiet = quiet;
           knows = knows;
-          goes = λ h stands own. booting u kept goes h stands (λ es g. IsKnown host memory g u × HasBooted (key_of host) up es)
+          goes = λ h stands own. booting u kept goes h stands (λ es g. IsKnown host memory g u × BootBegins (key_of host) up es)
               (λ es g there has. (record { stands = there; its = has.2 number own; is_open = tt; up = has.1; woken = tt; knows = knows }, has.0));
         }
 
@@ -220,5 +220,5 @@ boot_moment host sizes ready t m kept quiet goes =
     record {
       kept = kept;
       quiet = quiet;
-      goes = λ h stands. booting host sizes ready t all.0 m kept goes h stands (λ es g. (up : Drives) × HasBooted (key_of host) up es × ((drive : DriveNo) → Contains host.site.drives drive → has_drive up drive ≡ true)) (λ es g there has. (all.0, has.0, all.1));
+      goes = λ h stands. booting host sizes ready t all.0 m kept goes h stands (λ es g. (up : Drives) × BootBegins (key_of host) up es × ((drive : DriveNo) → Contains host.site.drives drive → has_drive up drive ≡ true)) (λ es g there has. (all.0, has.0, all.1));
     }

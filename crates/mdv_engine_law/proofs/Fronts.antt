@@ -9,7 +9,7 @@ use Rattle.mdv_shelf.specs.declared.shelf.Shelf.{Ghosts}
 use Rattle.mdv_shelf.proofs.Noted.{moments_of_tales}
 use Rattle.mdv_shelf.proofs.Moments.{moments_weaker, some_is}
 use Rattle.mdv_shelf.proofs.Telling.{each_joined, each_within, rests_alone}
-use Rattle.mdv_engine_law.specs.Answers.{IsQuiet}
+use Rattle.mdv_engine_law.specs.Answers.{IsMereRefusal}
 use Rattle.mdv_engine_law.specs.Below.{Image, Tale, last, told}
 use Rattle.mdv_engine_law.specs.Line.{IsSame, Kept, Memory, contents, kept_at}
 use Rattle.mdv_engine_law.specs.Replies.{text_of}
@@ -29,7 +29,7 @@ module _ {S : Type 0} (shelf : Ghosts S) (telling : (s : S) → shelf.tale s ≡
   pub fronts_then : (a b c : S) (Comes : Outcomes → Kept → Answer → Kept → Type 0) (host : Host) (old : Memory) (answer : Answer) (new : Memory)
       → ((failed more : Outcomes) → AreWithin failed more → (kept next : Kept) → Comes failed kept answer next → Comes more kept answer next)
       → GoesOn shelf a b → AtEachTale shelf (λ t m. told m ≡ told t) a b → AtEnd shelf (λ t u. Knows host old t → Comes (DriveFailures shelf a b) (kept_at old t) answer (kept_at new u)) a b
-      → (IsQuiet answer → shelf.tale b ≡ shelf.tale a)
+      → (IsMereRefusal answer → shelf.tale b ≡ shelf.tale a)
       → GoesOn shelf b c → ((drive : ℕ) → shelf.faults c (OnDrive drive) ≡ shelf.faults b (OnDrive drive)) → AtEachTale shelf (TellMoment (text_of answer)) b c → AtEachMoment shelf (λ t m. Knows host old t.tale → TellsFront Comes old t m) a c
   fronts_then a b c Comes host old answer new widen on quiet ends same more still tells =
       each_joined (OfTales (λ t m. told m ≡ told t)) (OfTales (TellMoment (text_of answer))) (λ t m. Knows host old t.tale → TellsFront Comes old t m) _ _ _ _ _ _

@@ -18,20 +18,19 @@ telling text = Said (outcome.Values text)
 abbrev pub refusing : Refusal → Answer
 refusing refusal = Said (outcome.Refused refusal)
 
--- a refusal for another cause than a failed call
-abbrev pub IsQuiet : Answer → Type 0
-IsQuiet (Said (outcome.Refused IoFault)) = ⊥
-IsQuiet (Said (outcome.Refused refusal)) = Unit {0}
-IsQuiet other = ⊥
+-- it is told, and the run goes on with it
+abbrev pub IsSaid : Answer → Type 0
+IsSaid (Said this) = Unit {0}
+IsSaid (Over end) = ⊥
 
--- a boot with which the run is over writes nothing, but for one that is lost
+-- a refusal for another cause than a failed call
+abbrev pub IsMereRefusal : Answer → Type 0
+IsMereRefusal (Said (outcome.Refused IoFault)) = ⊥
+IsMereRefusal (Said (outcome.Refused refusal)) = Unit {0}
+IsMereRefusal other = ⊥
+
+-- the run is over with it, and nothing was written: a boot or a change that isn't lost
 abbrev pub EndsUnwritten : Answer → Type 0
 EndsUnwritten (Over (ended.Lost active listed)) = ⊥
 EndsUnwritten (Over other) = Unit {0}
 EndsUnwritten other = ⊥
-
--- a boot ended the run by what it read: too few places, or two databases
-abbrev pub EndsByReads : Answer → Type 0
-EndsByReads (Over (ended.NoQuorum readable needed)) = Unit {0}
-EndsByReads (Over (ended.TwoDatabases a b)) = Unit {0}
-EndsByReads other = ⊥

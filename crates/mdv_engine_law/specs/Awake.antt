@@ -36,5 +36,5 @@ abbrev pub Happening : Host → History → Event → Type 0
 Happening host h e = MayHappen host.drives h e × IsAwakeAt host.drives h e
 
 -- a boot of the key that brings these drives up begins among these events
-abbrev pub HasBooted : Key → Drives → List Event → Type 0
-HasBooted key up es = Contains es (Boots key up)
+abbrev pub BootBegins : Key → Drives → List Event → Type 0
+BootBegins key up es = Contains es (Boots key up)

@@ -11,8 +11,8 @@ use Rattle.mdv_engine_law.specs.declared.answer.Answer.TheVariants.{Said, Over}
 use Rattle.mdv_engine_law.specs.declared.answer.Outcome.TheVariants as outcome
 use Rattle.mdv_engine_law.specs.declared.answer.Reply.{Reply}
 use Rattle.mdv_engine_law.specs.declared.host.Host.{Host}
-use Rattle.mdv_engine_law.specs.Answers.{IsQuiet}
-use Rattle.mdv_engine_law.specs.Awake.{Happening, HasBooted, is_in}
+use Rattle.mdv_engine_law.specs.Answers.{IsMereRefusal}
+use Rattle.mdv_engine_law.specs.Awake.{Happening, BootBegins, is_in}
 use Rattle.mdv_shelf.specs.Failing.{Outcomes}
 use Rattle.mdv_engine_law.specs.Hosts.{StaysHome, identity_of, key_of, lines_asked, opened_area, places_area, plain_area}
 use Rattle.mdv_store.specs.Create.{seats_asked}
@@ -97,14 +97,14 @@ pub record IsKnown (host : Host) (memory : Memory) (h : History) (t : Tale) : Ty
 pub record BootMoment (host : Host) (t m : Tale) : Type 0 where
   pub kept : KeptOutside (site_area host.site) t m
   pub quiet : told m ≡ told t
-  pub goes : (h : History) → StandsAt host h t → Goes host [] [] (λ es after. (up : Drives) × HasBooted (key_of host) up es × ((drive : DriveNo) → Contains host.site.drives drive → has_drive up drive ≡ true)) m h
+  pub goes : (h : History) → StandsAt host h t → Goes host [] [] (λ es after. (up : Drives) × BootBegins (key_of host) up es × ((drive : DriveNo) → Contains host.site.drives drive → has_drive up drive ≡ true)) m h
 
 -- a boot that is answered, and leaves this in memory
 pub record BootedTo (host : Host) (memory : Memory) (t u : Tale) : Type 0 where
   pub kept : KeptOutside (site_area host.site) t u
   pub quiet : told u ≡ told t
   pub knows : Knows host memory u
-  pub goes : (h : History) → StandsAt host h t → AreOwn host memory.begun h → Goes host [] [] (λ es after. IsKnown host memory after u × HasBooted (key_of host) memory.up es) u h
+  pub goes : (h : History) → StandsAt host h t → AreOwn host memory.begun h → Goes host [] [] (λ es after. IsKnown host memory after u × BootBegins (key_of host) memory.up es) u h
 
 -- blocks are written there: each is as it was, or as it was to be, also behind a crash, and all others are kept
 pub record ArePutBy (place : DriveBlock) (blocks : List (List ℕ)) (t m : Tale) : Type 0 where
@@ -185,7 +185,7 @@ pub record FrontTold (Comes : Outcomes → Kept → Answer → Kept → Type 0) 
   pub count : ℕ
   pub is_told : told m.tale ≡ told t.tale ++ take count (text_of answer)
   pub shows : IsSame next.content (contents m.tale)
-  pub unwritten : IsQuiet answer → KeptOutside nowhere t.tale m.tale
+  pub unwritten : IsMereRefusal answer → KeptOutside nowhere t.tale m.tale
 
 -- nothing of a reply, or a front of the one to what the line came to
 abbrev pub TellsFront : (Outcomes → Kept → Answer → Kept → Type 0) → Memory → Moment → Moment → Type 0

@@ -13,7 +13,7 @@ use Rattle.mdv_run.specs.Promise.{IsUncut, IsWorkOf, LineStays, LineStaysAs, Lin
 use Rattle.mdv_run.specs.Turns.{LineAnswered}
 use Rattle.mdv_words.specs.Line as words
 use Rattle.mdv_words.proofs.Lines.{one_line}
-use Rattle.mdv_engine_law.specs.Answers.{EndsByReads, accepted, refusing}
+use Rattle.mdv_engine_law.specs.Answers.{EndsUnwritten, accepted, refusing}
 use Rattle.mdv_engine_law.proofs.Turning.{accepted_none, never_among, refused_none, turned}
 use Rattle.mdv_engine_law.proofs.Knowing.{knows_kept}
 use Rattle.mdv_engine_law.specs.Replies.{IsPlain}
@@ -27,7 +27,7 @@ use Rattle.mdv_engine_law.proofs.Efforts.{line_too, none_too, replied_too}
 use Rattle.mdv_engine_law.proofs.Opening.{only_boot}
 use Rattle.mdv_engine_law.proofs.Staying.{stays_still}
 use Rattle.mdv_engine_law.proofs.Widening.{AreWithin}
-use Rattle.mdv_run_law.specs.Run.{AreSynced, IsQuiet, IsUnwritten, TextCalls}
+use Rattle.mdv_run_law.specs.Run.{AreSynced, IsMereRefusal, IsUnwritten, TextCalls}
 use Rattle.mdv_engine.specs.Counts.{IsQuietRefusal}
 use Rattle.mdv_engine_law.specs.Standing.{LeavesDone, LineWrites, TurnMoment, WritesOnly}
 use Rattle.mdv_engine_law.specs.declared.answer.Answer.TheVariants.{Said, Over as Ends}
@@ -52,11 +52,11 @@ pub no_boot : (text : List ℕ) (spelled : Spelled) → IsLine text spelled → 
 no_boot text spelled is other boot = other (one_line text Boot spelled boot is)
 
 -- a refusal for another cause than a failed call, and an `ok`, that was told whole
-pub quiet_reply : (failed : Type 0) (answer : Answer) (given : Reply) (piece : List ℕ) → IsTold failed answer given piece → IsReplied given → IsQuiet answer → IsQuietRefusal given
+pub quiet_reply : (failed : Type 0) (answer : Answer) (given : Reply) (piece : List ℕ) → IsTold failed answer given piece → IsReplied given → IsMereRefusal answer → IsQuietRefusal given
 quiet_reply failed (Said outcome.Ok) given piece told on quiet = absurd quiet
 quiet_reply failed (Said (outcome.Values text)) given piece told on quiet = absurd quiet
 quiet_reply failed (Said (outcome.Refused refusal)) given piece (inl whole) on quiet = subst IsQuietRefusal (sym whole.0) (by refusal quiet) where
-  by : (r : Refusal) → IsQuiet (refusing r) → IsQuietRefusal (reply.Refused r)
+  by : (r : Refusal) → IsMereRefusal (refusing r) → IsQuietRefusal (reply.Refused r)
   by IoFault quiet = quiet
   by other quiet = quiet
 quiet_reply failed (Said (outcome.Refused refusal)) given piece (inr cut) on quiet = absurd (subst IsReplied cut.given_is on)
@@ -73,54 +73,54 @@ pub loud_ok : (failed : Type 0) (given : Reply) → IsReplyTo failed outcome.Ok 
 loud_ok failed given (inl whole) quiet = subst IsQuietRefusal whole quiet
 loud_ok failed given (inr cut) quiet = subst IsQuietRefusal cut.0 quiet
 
--- a boot ended the run by what it read
-abbrev pub IsReadAlone : Reply → Type 0
-IsReadAlone reply.Ok = ⊥
-IsReadAlone (reply.Refused refusal) = ⊥
-IsReadAlone (reply.Panic active listed) = ⊥
-IsReadAlone reply.Spent = ⊥
-IsReadAlone reply.NoMemory = ⊥
-IsReadAlone reply.Told = ⊥
-IsReadAlone (reply.NoQuorum readable needed) = Unit {0}
-IsReadAlone (reply.TwoDatabases a b) = Unit {0}
+-- the run is over with it, and no places were lost
+abbrev pub IsStillEnd : Reply → Type 0
+IsStillEnd reply.Ok = ⊥
+IsStillEnd (reply.Refused refusal) = ⊥
+IsStillEnd (reply.Panic active listed) = ⊥
+IsStillEnd reply.Spent = Unit {0}
+IsStillEnd reply.NoMemory = Unit {0}
+IsStillEnd reply.Told = ⊥
+IsStillEnd (reply.NoQuorum readable needed) = Unit {0}
+IsStillEnd (reply.TwoDatabases a b) = Unit {0}
 
-read_reply : (failed : Type 0) (answer : Answer) (given : Reply) (piece : List ℕ) → IsTold failed answer given piece → EndsByReads answer → IsReadAlone given
-read_reply failed (Said this) given piece told reads = absurd reads
-read_reply failed (Ends (ended.NoQuorum readable needed)) given piece told reads = subst IsReadAlone (sym told.0) tt
-read_reply failed (Ends (ended.TwoDatabases a b)) given piece told reads = subst IsReadAlone (sym told.0) tt
-read_reply failed (Ends (ended.Lost active listed)) given piece told reads = absurd reads
-read_reply failed (Ends ended.Spent) given piece told reads = absurd reads
-read_reply failed (Ends ended.Memory) given piece told reads = absurd reads
+still_reply : (failed : Type 0) (answer : Answer) (given : Reply) (piece : List ℕ) → IsTold failed answer given piece → EndsUnwritten answer → IsStillEnd given
+still_reply failed (Said this) given piece told still = absurd still
+still_reply failed (Ends (ended.NoQuorum readable needed)) given piece told still = subst IsStillEnd (sym told.0) tt
+still_reply failed (Ends (ended.TwoDatabases a b)) given piece told still = subst IsStillEnd (sym told.0) tt
+still_reply failed (Ends (ended.Lost active listed)) given piece told still = absurd still
+still_reply failed (Ends ended.Spent) given piece told still = subst IsStillEnd (sym told.0) tt
+still_reply failed (Ends ended.Memory) given piece told still = subst IsStillEnd (sym told.0) tt
 
--- which no command does, nor what is only told
-pub command_reads : (blame : Blame) (spends replies : Type 0) (given : Reply) → HasCommandCause blame spends replies given → IsReadAlone given → ⊥
-command_reads blame spends replies reply.Ok cause reads = reads
-command_reads blame spends replies (reply.Refused refusal) cause reads = reads
-command_reads blame spends replies (reply.Panic active listed) cause reads = reads
-command_reads blame spends replies reply.Spent cause reads = reads
-command_reads blame spends replies reply.NoMemory cause reads = reads
-command_reads blame spends replies reply.Told cause reads = reads
-command_reads blame spends replies (reply.NoQuorum readable needed) cause reads = cause
-command_reads blame spends replies (reply.TwoDatabases a b) cause reads = cause
+-- so of commands a change alone whose number is spent, and nothing that is only told
+pub command_still : (blame : Blame) (spends replies : Type 0) (given : Reply) → HasCommandCause blame spends replies given → IsStillEnd given → given ≡ reply.Spent
+command_still blame spends replies reply.Ok cause still = absurd still
+command_still blame spends replies (reply.Refused refusal) cause still = absurd still
+command_still blame spends replies (reply.Panic active listed) cause still = absurd still
+command_still blame spends replies reply.Spent cause still = refl
+command_still blame spends replies reply.NoMemory cause still = absurd cause
+command_still blame spends replies reply.Told cause still = absurd still
+command_still blame spends replies (reply.NoQuorum readable needed) cause still = absurd cause
+command_still blame spends replies (reply.TwoDatabases a b) cause still = absurd cause
 
-pub said_reads : (failed : Type 0) (said : Outcome) (given : Reply) → IsReplyTo failed said given → IsReadAlone given → ⊥
-said_reads failed said given (inl whole) reads = by said (subst IsReadAlone whole reads) where
-  by : (said : Outcome) → IsReadAlone (reply_to said) → ⊥
-  by outcome.Ok reads = reads
-  by (outcome.Values text) reads = reads
-  by (outcome.Refused refusal) reads = reads
-said_reads failed said given (inr cut) reads = subst IsReadAlone cut.0 reads
+pub said_still : (failed : Type 0) (said : Outcome) (given : Reply) → IsReplyTo failed said given → IsStillEnd given → ⊥
+said_still failed said given (inl whole) still = by said (subst IsStillEnd whole still) where
+  by : (said : Outcome) → IsStillEnd (reply_to said) → ⊥
+  by outcome.Ok still = still
+  by (outcome.Values text) still = still
+  by (outcome.Refused refusal) still = still
+said_still failed said given (inr cut) still = subst IsStillEnd cut.0 still
 
 -- a line that was carried out is answered
 pub line_executed : (text : List ℕ) (spelled : Spelled) → IsLine text spelled → (outcomes : Outcomes) (replies : Type 0) (made : Made) (host : Host) (old new : Memory) (given : Reply) (t u : Tale) → Executed outcomes replies made host spelled old new given t u → LineWrites host spelled old t u
-    → (IsQuietRefusal given → KeptOutside nowhere t u) → (IsReadAlone given → KeptOutside nowhere t u) → (spelled ≡ Boot → new.opened ≡ None → KeptOutside nowhere t u) → (given ≡ reply.Ok → (command : Command) → spelled ≡ words.Exec command → LeavesDone host old command u) → (given ≡ reply.Ok → spelled ≡ Boot → AreSynced host outcomes u) → LineAnswered outcomes replies made host text old new given t u
-line_executed text spelled is outcomes replies made host old new given t u done writes unwritten unread empty leaves synced = record {
+    → (IsQuietRefusal given → KeptOutside nowhere t u) → (IsStillEnd given → KeptOutside nowhere t u) → (spelled ≡ Boot → new.opened ≡ None → KeptOutside nowhere t u) → (given ≡ reply.Ok → (command : Command) → spelled ≡ words.Exec command → LeavesDone host old command u) → (given ≡ reply.Ok → spelled ≡ Boot → AreSynced host outcomes u) → LineAnswered outcomes replies made host text old new given t u
+line_executed text spelled is outcomes replies made host old new given t u done writes unwritten still empty leaves synced = record {
   answer = done.answer;
   done = inr (inl (spelled, is, done.carried));
   calls = inr (inl (spelled, is, done.effort));
   writes = inr (spelled, is, writes);
   unwritten = none;
-  unread = λ reads. unread (read_reply replies done.answer given done.replied.piece done.replied.as_told reads);
+  still = λ ends. still (still_reply replies done.answer given done.replied.piece done.replied.as_told ends);
   leaves = λ on ok.
       let told = accepted_reply replies done.answer given done.replied.piece done.replied.as_told on ok in
       record { done = λ command here. leaves told command (one_line text spelled (words.Exec command) is here); synced = λ here. synced told (one_line text spelled Boot is here) };
@@ -147,7 +147,7 @@ answered_too {outcomes} {replies} {one} {host} {text} {old} {new} {reply} {t} {u
   calls = text_too outcomes _ _ (replied_too one other too done.answer) host (kept_at old t) (kept_at new u) text done.answer done.calls;
   writes = done.writes;
   unwritten = done.unwritten;
-  unread = done.unread;
+  still = done.still;
   leaves = done.leaves;
   replied = done.replied;
 }

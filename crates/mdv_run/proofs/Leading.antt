@@ -16,7 +16,7 @@ use Rattle.mdv_volumes.specs.History.{Event}
 use Rattle.std.proofs.Common.{◌≡◌, ◌≤◌, inl, inr, ℕ, Bool, true, List, [], ◌∷◌, ◌++◌, Option, Some, refl, sym, ◌∙◌, ap, subst}
 use Rattle.mdv_run.specs.Below.{LineTooLong, Items, Script, at_end, spent, too_long, line, asked_before, IsItem, IsItemTurn, Item, TooLong, End, Spent, Tale, told, Answer, Reply, Host, IsLostOnSite, Memory, IsTold, IsReplied, Kept, IsTurnedDown, kept_at, Replied, RunStatus, NoQuorum, Panic, ReadFault, TwoDatabases, WriteFault, NoMemory, NumbersSpent, At, Counts, NextLine, OnDrive, OnReplies, RanTo, Stretch, IsAnswered, IsSame, contents}
 use Rattle.mdv_run_law.specs.Run.{AreInTime, EndsAt, FromTo, IsPassage, IsUnwritten, Leads as LeadsOn, NextCalls, NextLeaves, NextWrites, giving_failed, OnlyReplying, OnlyUngiven, OnlyUnread, RoseCalmly, drive_failures, Over as IsOver, broken, ended as script_ended, unread, EndsAs, EndsWith, IsSaid, refused_by}
-use Rattle.mdv_engine_law.specs.Answers.{EndsByReads, accepted, refusing}
+use Rattle.mdv_engine_law.specs.Answers.{EndsUnwritten, accepted, refusing}
 use Rattle.mdv_engine_law.specs.Standing.{IsOfRun}
 use Rattle.mdv_engine_law.specs.Replies.{HasReplyCause, IsLost, outcome_text, reply_at, reply_to, text_of}
 use Rattle.mdv_engine_law.specs.declared.answer.Answer.TheVariants.{Said, Over as Ends}
@@ -155,7 +155,7 @@ record Tells (host : Host) (from : At) (then : Point) (answer : Answer) (next : 
 
 -- how one turn leads on: its answer is the next line's, by whatever counts each drive failed as often
 module _ (host : Host) (from : At) (then : Point) (r : Reply) (rose : RoseInTurn from.counts then.counts r) (next : Kept) (more : Script) (before : Option Script) (before_is : before ≡ Some more) (answer : Answer)
-    (comes : (c : Counts) → RoseCalmly from.counts c → c.drives ≡ then.counts.drives → NextLine host from.counts from.kept from.script answer c next more) (calls : NextCalls (drive_failures from.counts then.counts) (replied_to answer (made_between from.effort then.effort)) host from.kept from.script answer next) (writes : FromTo (NextWrites host from.kept.memory from.script) from.story then.story) (unread_by : EndsByReads answer → FromTo (KeptOutside nowhere) from.story then.story) (piece : List ℕ)
+    (comes : (c : Counts) → RoseCalmly from.counts c → c.drives ≡ then.counts.drives → NextLine host from.counts from.kept from.script answer c next more) (calls : NextCalls (drive_failures from.counts then.counts) (replied_to answer (made_between from.effort then.effort)) host from.kept from.script answer next) (writes : FromTo (NextWrites host from.kept.memory from.script) from.story then.story) (still_by : EndsUnwritten answer → FromTo (KeptOutside nowhere) from.story then.story) (piece : List ℕ)
     (passage : IsPassage from piece (at then next from.refused more))
   where
     line_on : IsReplied r → Tells host from then answer next → (any : Bool) → IsSaid answer → piece ≡ text_of answer → any ≡ refused_by answer from.refused → Leads host from piece then next before (On any)
@@ -184,35 +184,35 @@ module _ (host : Host) (from : At) (then : Point) (r : Reply) (rose : RoseInTurn
           in_time = subst (λ (o : Option Story). AreInTime from.counts from.story o) (sym ends.quiet) passage.in_time;
           calls = subst (λ (e : Effort). NextCalls (drive_failures from.counts then.counts) (replied_to answer (made_between from.effort e)) host from.kept from.script answer next) (sym ends.uncalled) calls;
           writes = λ s u is_s is_u. writes s u is_s (sym ends.quiet ∙ is_u);
-          unwritten = λ reads s u is_s is_u. unread_by reads s u is_s (sym ends.quiet ∙ is_u);
+          unwritten = λ still s u is_s is_u. still_by still s u is_s (sym ends.quiet ∙ is_u);
         }) with
 
 -- what a reply leads to, by its answer
 leads : (host : Host) (from : At) (then : Point) (r : Reply) → RoseInTurn from.counts then.counts r → (next : Kept) (more : Script) (before : Option Script) → before ≡ Some more → (answer : Answer) (piece : List ℕ)
-    → ((c : Counts) → RoseCalmly from.counts c → c.drives ≡ then.counts.drives → NextLine host from.counts from.kept from.script answer c next more) → NextCalls (drive_failures from.counts then.counts) (replied_to answer (made_between from.effort then.effort)) host from.kept from.script answer next → FromTo (NextWrites host from.kept.memory from.script) from.story then.story → (EndsByReads answer → FromTo (KeptOutside nowhere) from.story then.story)
+    → ((c : Counts) → RoseCalmly from.counts c → c.drives ≡ then.counts.drives → NextLine host from.counts from.kept from.script answer c next more) → NextCalls (drive_failures from.counts then.counts) (replied_to answer (made_between from.effort then.effort)) host from.kept from.script answer next → FromTo (NextWrites host from.kept.memory from.script) from.story then.story → (EndsUnwritten answer → FromTo (KeptOutside nowhere) from.story then.story)
     → IsPassage from piece (at then next from.refused more) → (IsReplied r → Tells host from then answer next)
     → IsTold (giving_failed from.counts then.counts) answer r piece → Leads host from piece then next before (turn_of r from.refused)
-leads host from then r rose next more before is (Said this) piece comes calls writes unread_by passage tells (inl whole) = subst (λ (x : Reply). Leads host from piece then next before (turn_of x from.refused)) (sym whole.0) (by this comes calls (tells on) whole.1) where
+leads host from then r rose next more before is (Said this) piece comes calls writes still_by passage tells (inl whole) = subst (λ (x : Reply). Leads host from piece then next before (turn_of x from.refused)) (sym whole.0) (by this comes calls (tells on) whole.1) where
   on : IsReplied r
   on = replied_whole this r whole.0
 
   by : (this : Outcome) → ((c : Counts) → RoseCalmly from.counts c → c.drives ≡ then.counts.drives → NextLine host from.counts from.kept from.script (Said this) c next more) → NextCalls (drive_failures from.counts then.counts) (replied_to (Said this) (made_between from.effort then.effort)) host from.kept from.script (Said this) next → Tells host from then (Said this) next → piece ≡ outcome_text this → Leads host from piece then next before (turn_of (reply_to this) from.refused)
-  by outcome.Ok comes calls tells is_text = line_on host from then r rose next more before is (Said outcome.Ok) comes calls writes unread_by piece passage on tells from.refused tt is_text refl
-  by (outcome.Values text) comes calls tells is_text = line_on host from then r rose next more before is (Said (outcome.Values text)) comes calls writes unread_by piece passage on tells from.refused tt is_text refl
-  by (outcome.Refused refusal) comes calls tells is_text = line_on host from then r rose next more before is (Said (outcome.Refused refusal)) comes calls writes unread_by piece passage on tells true tt is_text refl
-leads host from then r rose next more before is (Said this) piece comes calls writes unread_by passage tells (inr cut) =
+  by outcome.Ok comes calls tells is_text = line_on host from then r rose next more before is (Said outcome.Ok) comes calls writes still_by piece passage on tells from.refused tt is_text refl
+  by (outcome.Values text) comes calls tells is_text = line_on host from then r rose next more before is (Said (outcome.Values text)) comes calls writes still_by piece passage on tells from.refused tt is_text refl
+  by (outcome.Refused refusal) comes calls tells is_text = line_on host from then r rose next more before is (Said (outcome.Refused refusal)) comes calls writes still_by piece passage on tells true tt is_text refl
+leads host from then r rose next more before is (Said this) piece comes calls writes still_by passage tells (inr cut) =
     subst (λ (x : Reply). Leads host from piece then next before (turn_of x from.refused)) (sym cut.given_is)
-    (over_by host from then r rose next more before is (Said this) comes calls writes unread_by piece passage (rose_told from.counts then.counts r rose) WriteFault (record { cause = cut.cause; count = cut.count; front = cut.front; ended = refl; keeps = refl }))
-leads host from then r rose next more before is (Ends end) piece comes calls writes unread_by passage tells told = subst (λ (x : Reply). Leads host from piece then next before (turn_of x from.refused)) (sym told.0) (by end comes calls unread_by) where
+    (over_by host from then r rose next more before is (Said this) comes calls writes still_by piece passage (rose_told from.counts then.counts r rose) WriteFault (record { cause = cut.cause; count = cut.count; front = cut.front; ended = refl; keeps = refl }))
+leads host from then r rose next more before is (Ends end) piece comes calls writes still_by passage tells told = subst (λ (x : Reply). Leads host from piece then next before (turn_of x from.refused)) (sym told.0) (by end comes calls still_by) where
   only : then.counts ≡ carried_by from.counts then.counts
   only = same_carried from.counts then.counts (rose.given (ended_uncut end r told.0))
 
-  by : (end : Ended) → ((c : Counts) → RoseCalmly from.counts c → c.drives ≡ then.counts.drives → NextLine host from.counts from.kept from.script (Ends end) c next more) → NextCalls (drive_failures from.counts then.counts) (replied_to (Ends end) (made_between from.effort then.effort)) host from.kept from.script (Ends end) next → (EndsByReads (Ends end) → FromTo (KeptOutside nowhere) from.story then.story) → Leads host from piece then next before (turn_of (reply_at end) from.refused)
-  by (ended.Lost active listed) comes calls unread_by = over_by host from then r rose next more before is (Ends (ended.Lost active listed)) comes calls writes unread_by piece passage only (Panic active listed) (record { silent = told.1; ended = refl; keeps = refl })
-  by ended.Spent comes calls unread_by = over_by host from then r rose next more before is (Ends ended.Spent) comes calls writes unread_by piece passage only NumbersSpent (record { silent = told.1; ended = refl; keeps = refl })
-  by ended.Memory comes calls unread_by = over_by host from then r rose next more before is (Ends ended.Memory) comes calls writes unread_by piece passage only NoMemory (record { silent = told.1; ended = refl; keeps = refl })
-  by (ended.NoQuorum readable needed) comes calls unread_by = over_by host from then r rose next more before is (Ends (ended.NoQuorum readable needed)) comes calls writes unread_by piece passage only (NoQuorum readable needed) (record { silent = told.1; ended = refl; keeps = refl })
-  by (ended.TwoDatabases a b) comes calls unread_by = over_by host from then r rose next more before is (Ends (ended.TwoDatabases a b)) comes calls writes unread_by piece passage only (TwoDatabases a b) (record { silent = told.1; ended = refl; keeps = refl })
+  by : (end : Ended) → ((c : Counts) → RoseCalmly from.counts c → c.drives ≡ then.counts.drives → NextLine host from.counts from.kept from.script (Ends end) c next more) → NextCalls (drive_failures from.counts then.counts) (replied_to (Ends end) (made_between from.effort then.effort)) host from.kept from.script (Ends end) next → (EndsUnwritten (Ends end) → FromTo (KeptOutside nowhere) from.story then.story) → Leads host from piece then next before (turn_of (reply_at end) from.refused)
+  by (ended.Lost active listed) comes calls still_by = over_by host from then r rose next more before is (Ends (ended.Lost active listed)) comes calls writes still_by piece passage only (Panic active listed) (record { silent = told.1; ended = refl; keeps = refl })
+  by ended.Spent comes calls still_by = over_by host from then r rose next more before is (Ends ended.Spent) comes calls writes still_by piece passage only NumbersSpent (record { silent = told.1; ended = refl; keeps = refl })
+  by ended.Memory comes calls still_by = over_by host from then r rose next more before is (Ends ended.Memory) comes calls writes still_by piece passage only NoMemory (record { silent = told.1; ended = refl; keeps = refl })
+  by (ended.NoQuorum readable needed) comes calls still_by = over_by host from then r rose next more before is (Ends (ended.NoQuorum readable needed)) comes calls writes still_by piece passage only (NoQuorum readable needed) (record { silent = told.1; ended = refl; keeps = refl })
+  by (ended.TwoDatabases a b) comes calls still_by = over_by host from then r rose next more before is (Ends (ended.TwoDatabases a b)) comes calls writes still_by piece passage only (TwoDatabases a b) (record { silent = told.1; ended = refl; keeps = refl })
 
 -- a line
 pub leads_line : (now then : Point) (r : Reply) → RoseInTurn now.counts then.counts r → (host : Host) (old new : Memory) (any : Bool) (s more : Script) (text : List ℕ) (before : Option Script) (t u : Tale) → Passes now then t u
@@ -225,7 +225,7 @@ leads_line now then r rose host old new any s more text before t u passes is nex
       (refl, up, subst (λ (f : ℕ → ℕ). IsAnswered (λ drive. failures_of (now.counts.drives drive) (f drive)) host (kept_at old t) text done.answer (kept_at new u)) (sym same) done.done))
       (subst (λ (x : Script). NextCalls (drive_failures now.counts then.counts) (replied_to done.answer (made_between now.effort then.effort)) host (kept_at old t) x done.answer (kept_at new u)) (sym is) done.calls)
       (from_to now then t u passes (NextWrites host old s) (subst (λ (x : Script). NextWrites host old x t u) (sym is) done.writes))
-      (λ reads. from_to now then t u passes (KeptOutside nowhere) (done.unread reads))
+      (λ still. from_to now then t u passes (KeptOutside nowhere) (done.still still))
       (passage_of now then t u passes old new any s more done.replied.piece done.replied.is_told)
       (λ on. record {
         unwritten = λ quiet. from_to now then t u passes (KeptOutside nowhere) (done.unwritten on quiet);

@@ -30,7 +30,7 @@ use Rattle.std.proofs.lemmas.List.{append-nil}
 use Rattle.mdv_run.specs.Below.{Script, Tale, site_area, told, Ended, Host, Memory, IsRebooted, kept_at, unbooted, HasBootCause, boot_answer, RunStatus, Counts, Stretch, IsWholeRun, HasStatusCause}
 use Rattle.mdv_engine_law.specs.Line.{contents}
 use Rattle.mdv_run_law.specs.Run.{IsLostStatus, IsPoint, RoseCalmly, drive_failures, status_at}
-use Rattle.mdv_engine_law.specs.Answers.{EndsByReads, EndsUnwritten, accepted}
+use Rattle.mdv_engine_law.specs.Answers.{EndsUnwritten, accepted}
 use Rattle.mdv_engine_law.specs.declared.answer.Ended.TheVariants as ended
 use Rattle.mdv_run.specs.Turns.{LinesRun}
 
@@ -101,17 +101,6 @@ lost_unwritten e end.Memory is never = refl
 
 pub ended_unwritten : {calls : Outcomes} {made : Made} {host : Host} {old new : Memory} {t u : Tale} (e : Ended) → IsBootEnd calls made host old (Over e) new t u → EndsUnwritten (Over e) → KeptOutside nowhere t u
 ended_unwritten e end never = end.unwritten (lost_unwritten e end.rebooted.end end.rebooted.answer_is never)
-
--- one that ended the run by what it read isn't lost
-reads_alone : (e : Ended) → EndsByReads (Over e) → EndsUnwritten (Over e)
-reads_alone (ended.NoQuorum readable needed) reads = tt
-reads_alone (ended.TwoDatabases a b) reads = tt
-reads_alone (ended.Lost active listed) reads = reads
-reads_alone ended.Spent reads = tt
-reads_alone ended.Memory reads = tt
-
-pub ended_unread : {calls : Outcomes} {made : Made} {host : Host} {old new : Memory} {t u : Tale} (e : Ended) → IsBootEnd calls made host old (Over e) new t u → EndsByReads (Over e) → KeptOutside nowhere t u
-ended_unread e end reads = ended_unwritten e end (reads_alone e reads)
 
 pub none_opened : {calls : Outcomes} {made : Made} {host : Host} {old new : Memory} {t u : Tale} → IsBootEnd calls made host old accepted new t u → new.opened ≡ None → KeptOutside nowhere t u
 none_opened end none = end.unwritten (empty_unwritten end.rebooted.end end.rebooted.answer_is (sym (ap (λ (m : Memory). m.opened) (end.rebooted.memory refl)) ∙ none))

@@ -1,7 +1,7 @@
 -- A boot, as a line of the script and as the start of a run.
 use Rattle.std.proofs.Common.{◌≡◌, inl, inr, ℕ, List, [], ◌∷◌, ◌++◌, Some, Contains, refl, sym, ◌∙◌, ap, subst, arith}
 use Rattle.std.proofs.lemmas.List.{append-nil}
-use Rattle.mdv_run_law.specs.Below.{Drives, Entry, Script, line, ok_line, Tale, told, Said, left_in, replies_in, Boot, IsLine, History, Deed, Created, Event, history_after, history_after_all, Happening, HasBooted, Host, key_of, site_area, Nothing, ToBoot, Memory, Acks, AcksIn, AreOwn, Reached, StaysHome, issuable, issuable_in, issuable_of, StandsAt, IsKnown, BootMoment, BootedTo, TurnMoment, Turned}
+use Rattle.mdv_run_law.specs.Below.{Drives, Entry, Script, line, ok_line, Tale, told, Said, left_in, replies_in, Boot, IsLine, History, Deed, Created, Event, history_after, history_after_all, Happening, BootBegins, Host, key_of, site_area, Nothing, ToBoot, Memory, Acks, AcksIn, AreOwn, Reached, StaysHome, issuable, issuable_in, issuable_of, StandsAt, IsKnown, BootMoment, BootedTo, TurnMoment, Turned}
 use Rattle.mdv_store_law.proofs.Machine.{after_more, course_more}
 use Rattle.mdv_engine_law.proofs.Booting.{booted_first}
 use Rattle.mdv_engine_law.proofs.Plain.{nothing_answers, nothing_said, nothing_acked, nothing_issuable}
@@ -58,9 +58,9 @@ module _ (host : Host) where
     told_both m bytes more = more ∙ ap (λ (l : List ℕ). l ++ bytes) booted.quiet
 
     -- the events of a boot, and those of a turn behind it
-    booted_both : (done asks : List Deed) (After : List Event → History → Type 0) (m : Tale) (h : History) → IsKnown host old h t → ((g : History) → IsKnown host new g u → turn.Goes host asks done After m g) → turn.Goes host asks done (λ es after. HasBooted (key_of host) new.up es × ((fs : List Event) × After fs after)) m h
+    booted_both : (done asks : List Deed) (After : List Event → History → Type 0) (m : Tale) (h : History) → IsKnown host old h t → ((g : History) → IsKnown host new g u → turn.Goes host asks done After m g) → turn.Goes host asks done (λ es after. BootBegins (key_of host) new.up es × ((fs : List Event) × After fs after)) m h
     booted_both done asks After m h known then_goes =
-        goes_more host [] asks asks [] done (λ es g. IsKnown host new g u × HasBooted (key_of host) new.up es) (λ es after. HasBooted (key_of host) new.up es × ((fs : List Event) × After fs after)) u m h (part_itself asks) (booted.goes h known.stands (own_too h known))
+        goes_more host [] asks asks [] done (λ es g. IsKnown host new g u × BootBegins (key_of host) new.up es) (λ es after. BootBegins (key_of host) new.up es × ((fs : List Event) × After fs after)) u m h (part_itself asks) (booted.goes h known.stands (own_too h known))
         (λ es g there before. (
         let went = then_goes g before.0 in record { es = went.es; course = went.course; come = went.come; stands = went.stands; after = (booted_first (key_of host) new.up es went.es before.1, (went.es, went.after)) }
         ))
@@ -149,7 +149,7 @@ module _ (host : Host) where
     nothing_come = subst (λ (s : Said). ComeOf host (InWork host s.left) unread script s.replies []) (sym nothing_said) (in_work_none host unread script)
 
     -- events of a boot that didn't read the drive, or not yet
-    only_booted : (es : List Event) (up : Drives) → AreIdle host es → HasBooted (key_of host) up es → AreOfRun host script [] es
+    only_booted : (es : List Event) (up : Drives) → AreIdle host es → BootBegins (key_of host) up es → AreOfRun host script [] es
     only_booted es up idle booted = record { boot = es; lines = []; both = sym (append-nil es); idle = idle; booted = (up, booted); come = nothing_come }
 
     nothing_told : (deed : Deed) → IsTold host script (replies_in []) deed → ⊥

@@ -6,7 +6,7 @@ use Rattle.std.specs.Str.{bytes_eq}
 use Rattle.std.proofs.lemmas.List.Elements.{All-contains, Contains-append_cases, Contains-append_left, Contains-append_right}
 use Rattle.mdv_databases.proofs.Lists.{current_in}
 use Rattle.mdv_databases.specs.Going.{IsOpenIn}
-use Rattle.mdv_run_law.specs.Below.{AreMade, AreOwn, BootedTo, Change, Changed, Crashes, Created, Deed, Event, Extends, Geometry, Happening, HasBooted, HasNoTableOn, History, Host, Image, IsCourse, IsKnown, IsOpenedAt, Key, Local, Log, Memory, Opened, Script, StandsAt, Stops, Tale, Version, empty_log, history_after, history_after_all, issued_by, last, log_of, new_history, own_view, replies_in, told_by}
+use Rattle.mdv_run_law.specs.Below.{AreMade, AreOwn, BootedTo, Change, Changed, Crashes, Created, Deed, Event, Extends, Geometry, Happening, BootBegins, HasNoTableOn, History, Host, Image, IsCourse, IsKnown, IsOpenedAt, Key, Local, Log, Memory, Opened, Script, StandsAt, Stops, Tale, Version, empty_log, history_after, history_after_all, issued_by, last, log_of, new_history, own_view, replies_in, told_by}
 use Rattle.mdv_shelf.proofs.Blocks.{both_ways}
 use Rattle.mdv_shelf.proofs.Everywhere.{last_image}
 use Rattle.mdv_store.specs.Commit.{IsNewestWritten}
@@ -29,7 +29,7 @@ use Rattle.mdv_volumes.proofs.Told.{told_writes_last}
 use Rattle.mdv_engine_law.specs.Standing as turn
 use Rattle.mdv_engine_law.proofs.Going.{both_courses, may_course}
 use Rattle.mdv_run_law.specs.Standing.{AreOfRun, IsTold, RunMoment}
-use Rattle.mdv_run_law.specs.Lives.{Ran, MayBeFound, as_it_was, crashed, Life, new_drives, run_on, AreOfRuns, IsBetween, IsFair, IsNewWord, IsSaid, OfHost, IsHistoryOf, HasToldChanges, LivesStand, HostsSee, DatabaseIsFound, BlocksAre, BlocksHold, ShowsOwn, changes_in, host_of}
+use Rattle.mdv_run_law.specs.Lives.{Ran, MayBeFound, as_it_was, crashed, Life, new_drives, run_on, AreOfRuns, IsBetween, IsFair, IsNewWord, HaveSaid, OfHost, IsHistoryOf, HasToldChanges, LivesStand, HostsSee, DatabaseIsFound, BlocksAre, BlocksHold, ShowsOwn, changes_in, host_of}
 use Rattle.mdv_run_law.proofs.Asked.{runs_answer, told_ended}
 use Rattle.mdv_run_law.proofs.Coming.{IsDone}
 use Rattle.mdv_run_law.proofs.Deeds.{change_has, deed_has, part_changes, part_contains, part_deeds}
@@ -58,7 +58,7 @@ here_told drives name ran es deed done (inl of_host) same is = run_told (host_of
 here_told drives name ran es deed done (inr of_other) same is = absurd (of_other.0 same)
 
 -- so it is of all of them
-said_told : (drives : Geometry) (name : List ℕ) (ran : List Ran) (es : List Event) (deed : Deed) → IsDone deed → AreOfRuns drives name ran es → IsSaid drives name ran deed → Contains (told_by es) deed
+said_told : (drives : Geometry) (name : List ℕ) (ran : List Ran) (es : List Event) (deed : Deed) → IsDone deed → AreOfRuns drives name ran es → HaveSaid drives name ran deed → Contains (told_by es) deed
 said_told drives name [] es deed done are said = absurd said
 said_told drives name (run ∷ before) es deed done are (inl is) =
     let here = subst (λ (l : List Deed). Contains l deed) (sym (told_ended are.1 are.2 are.6)) (here_told drives name run are.1 deed done are.5 is.0 is.1) in
@@ -166,11 +166,11 @@ module _ (drives : Geometry) (name : List ℕ) where
       its_may : IsCourse view new_history is.es
       its_may = may_course host new_history is.es is.course
 
-      its_told : (deed : Deed) → IsDone deed → IsSaid drives name ran deed → Contains (told_by is.es) deed
+      its_told : (deed : Deed) → IsDone deed → HaveSaid drives name ran deed → Contains (told_by is.es) deed
       its_told deed done said = said_told drives name ran is.es deed done is.come said
 
       -- some replica shows a table where a creation was told
-      shows_own : IsSaid drives name ran (Created key) → ShowsOwn drives name ran (last t)
+      shows_own : HaveSaid drives name ran (Created key) → ShowsOwn drives name ran (last t)
       shows_own said =
           let shown = told_shown view now.databases key t is.stands.databases (told_acknowledged host new_history is.es (empty_is_log view) is.course (its_told (Created key) tt said)) in
           record {
@@ -179,7 +179,7 @@ module _ (drives : Geometry) (name : List ℕ) where
             shown = shown.2 (last t) (last_image t);
           }
 
-      is_found : IsSaid drives name ran (Created key) → HasNoTableOn view key (last t) → ⊥
+      is_found : HaveSaid drives name ran (Created key) → HasNoTableOn view key (last t) → ⊥
       is_found said none = let shown = shows_own said in shown.shown (none shown.identity)
 
       -- each block of a volume reads as the history has it, and writes that were told last
@@ -192,7 +192,7 @@ module _ (drives : Geometry) (name : List ℕ) where
 
       -- the next run's boot, which adopted a database
       module _ (u : Tale) (fresh : ℕ) (memory : Memory) (o : Opened) (new : IsNewWord name fresh ran) (booted : BootedTo (host_of drives name fresh) memory t u) (begun : memory.begun ≡ 0) (opened : memory.opened ≡ Some o) where
-        went : turn.Goes (host_of drives name fresh) [] [] (λ es after. IsKnown (host_of drives name fresh) memory after u × HasBooted key memory.up es) u now
+        went : turn.Goes (host_of drives name fresh) [] [] (λ es after. IsKnown (host_of drives name fresh) memory after u × BootBegins key memory.up es) u now
         went = booted.goes now is.stands (subst (λ (n : ℕ). AreOwn (host_of drives name fresh) n now) (sym begun) (none_own drives name ran fresh is.es new is.come))
 
         abbrev all : List Event

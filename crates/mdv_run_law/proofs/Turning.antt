@@ -3,7 +3,7 @@ use Rattle.std.proofs.Common.{◌≡◌, ◌⊎◌, inl, inr, ℕ, Bool, true, f
 use Rattle.std.specs.Str.{bytes_eq}
 use Rattle.std.proofs.lemmas.Slice.Eq.{bytes_eq-Decides}
 use Rattle.mdv_base.specs.declared.refusal.Refusal.TheVariants.{IoFault}
-use Rattle.mdv_run_law.specs.Below.{Drives, Script, too_long, line, Tale, Said, StaysHome, left_in, replies_in, Boot, IsLine, Deed, Event, Host, key_of, Ask, Nothing, Memory, IsFront, IsReply, Acks, AcksBy, AcksFront, AcksIn, is_front_of, issuable, issuable_front, issuable_in, issuable_of, ok_line, refusal_line, HasBooted, Does, Knows, TurnMoment, Turned}
+use Rattle.mdv_run_law.specs.Below.{Drives, Script, too_long, line, Tale, Said, StaysHome, left_in, replies_in, Boot, IsLine, Deed, Event, Host, key_of, Ask, Nothing, Memory, IsFront, IsReply, Acks, AcksBy, AcksFront, AcksIn, is_front_of, issuable, issuable_front, issuable_in, issuable_of, ok_line, refusal_line, BootBegins, Does, Knows, TurnMoment, Turned}
 use Rattle.mdv_run_law.specs.Standing.{AsksBy, AreIdle, AreOfLine, ComeOf, context_of, HasEntries, InWork, IsWanting, NothingLeft, AreReplies, behind, LinesMoment, RanTo}
 use Rattle.mdv_run_law.proofs.Coming.{behind_none, no_ok, in_work_none, come_line, come_long}
 use Rattle.mdv_shelf.proofs.Moments.{some_is}
@@ -58,7 +58,7 @@ never_boots text bytes (inr wanting) boot ok = no_ok bytes wanting ((bytes_eq-De
 
 -- a front of a reply to a line, and a whole one
 module _ (host : Host) (text : List ℕ) (ask : Ask) (more : Script) where
-  pub front_come : (old : Memory) (bytes : List ℕ) → AsksBy host text bytes ask → IsFront bytes → (done : List Deed) → Acks ask bytes done → (es : List Event) → Does host (issuable_of ask bytes) done es → (IsLine text Boot → bytes ≡ ok_line → (up : Drives) × HasBooted (key_of host) up es)
+  pub front_come : (old : Memory) (bytes : List ℕ) → AsksBy host text bytes ask → IsFront bytes → (done : List Deed) → Acks ask bytes done → (es : List Event) → Does host (issuable_of ask bytes) done es → (IsLine text Boot → bytes ≡ ok_line → (up : Drives) × BootBegins (key_of host) up es)
       → ComeOf host (InWork host (left_in bytes)) (context_of old) (line text more) (replies_in bytes) es
   front_come old bytes asks (inl none) done acks es does boots =
       let front : AcksFront ask bytes done = subst (λ (s : Said). AcksIn ask s.replies s.left done) none acks in
@@ -83,7 +83,7 @@ module _ (host : Host) (text : List ℕ) (ask : Ask) (more : Script) where
       turn_lines host (line text more) ask old t m moment
       (λ es does. front_come old moment.bytes asks moment.front moment.done moment.acks es does (λ boot ok. absurd (never_boots text moment.bytes other boot ok)))
 
-  pub reply_come : (old new : Memory) (bytes : List ℕ) → AsksBy host text bytes ask → (is : IsReply bytes) (done : List Deed) → AcksBy ask bytes done → (es : List Event) → Does host (issuable ask bytes) done es → (IsLine text Boot → bytes ≡ ok_line → (up : Drives) × HasBooted (key_of host) up es)
+  pub reply_come : (old new : Memory) (bytes : List ℕ) → AsksBy host text bytes ask → (is : IsReply bytes) (done : List Deed) → AcksBy ask bytes done → (es : List Event) → Does host (issuable ask bytes) done es → (IsLine text Boot → bytes ≡ ok_line → (up : Drives) × BootBegins (key_of host) up es)
       → HasEntries text bytes (Some old.entries) new.entries → ComeOf host (NothingLeft (context_of new)) (context_of old) (line text more) (replies_in bytes) es
   reply_come old new bytes asks is done acks es does boots entries =
       let here : AreOfLine host text (context_of old) bytes es (context_of new) = record {

@@ -14,7 +14,7 @@ pub use Rattle.mdv_base.specs.declared.refusal.Refusal.TheVariants.{OutOfMemory,
 pub use Rattle.mdv_base.specs.declared.refusal.Refusal.TheVariants.{TooMany, WrongState}
 pub use Rattle.mdv_base.specs.declared.state_word.StateWord.{StateWord}
 pub use Rattle.mdv_base.specs.DriveSet.{Drives}
-pub use Rattle.mdv_engine_law.specs.Awake.{Happening, HasBooted, IsAwakeAt}
+pub use Rattle.mdv_engine_law.specs.Awake.{Happening, BootBegins, IsAwakeAt}
 pub use Rattle.mdv_engine_law.specs.Hosts.{StaysHome, host_area, identity_of, key_of}
 pub use Rattle.mdv_engine_law.specs.Commands.{CameTo, ComesTo}
 pub use Rattle.mdv_engine_law.specs.Line.{AreBlocksAt, ArePut, HasVolumeOn}

@@ -76,9 +76,9 @@ AreOfRuns drives name (ran ∷ before) es =
     × OfHost name ran (AreOfRun (host_of drives name ran.fresh) ran.script ran.bytes run) (run ≡ []) × IsBetween end
 
 -- one of the host's runs told the deed
-abbrev pub IsSaid : Geometry → List ℕ → List Ran → Deed → Type 0
-IsSaid drives name [] deed = ⊥
-IsSaid drives name (ran ∷ before) deed = ((ran.host ≡ name) × IsTold (host_of drives name ran.fresh) ran.script (replies_in ran.bytes) deed) ⊎ IsSaid drives name before deed
+abbrev pub HaveSaid : Geometry → List ℕ → List Ran → Deed → Type 0
+HaveSaid drives name [] deed = ⊥
+HaveSaid drives name (ran ∷ before) deed = ((ran.host ≡ name) × IsTold (host_of drives name ran.fresh) ran.script (replies_in ran.bytes) deed) ⊎ HaveSaid drives name before deed
 
 -- all that they told, and what their lines may have begun, in order
 abbrev pub AreSaid : Geometry → List ℕ → List Ran → List Deed → Type 0
@@ -124,7 +124,7 @@ pub record HasToldChanges (drives : Geometry) (name : List ℕ) (made : Image) (
   pub one_of : Contains (log_of (history_after_all new_history (history.es ++ boot)).databases (Local name)).family version
   pub is_table : version.table ≡ table
   pub by : AreMade (own_view drives name) version.changes table
-  pub told : (change : Change) → IsSaid drives name ran (Changed (Local name) change) → Contains version.changes change
+  pub told : (change : Change) → HaveSaid drives name ran (Changed (Local name) change) → Contains version.changes change
   pub said : List Deed
   pub are_said : AreSaid drives name ran said
   pub all_said : IsPart (changes_in (Local name) said) (reverse version.changes)
@@ -150,10 +150,10 @@ HasReadAll drives name up survey = (line : SliceLine) → Contains (site_of (own
 -- Once a creation was told ok, some replica shows a table of the host's database, one that a run of the host made, whatever was run and crashed since, so a boot that reads all drives
 -- finds a table; no boot finds two databases, whatever it reads; and the table that a boot adopts has every change that was told ok.
 pub record DatabaseIsFound : Type 0 where
-  pub found : (drives : Geometry) (name : List ℕ) (made : Image) (ran : List Ran) (t : Tale) → Contains drives.hosts name → IsLife drives made ran t → IsSaid drives name ran (Created (Local name)) → HasNoTableOn (own_view drives name) (Local name) (last t) → ⊥
-  pub made : (drives : Geometry) (name : List ℕ) (made : Image) (ran : List Ran) (t : Tale) → Contains drives.hosts name → IsLife drives made ran t → IsSaid drives name ran (Created (Local name)) → ShowsOwn drives name ran (last t)
+  pub found : (drives : Geometry) (name : List ℕ) (made : Image) (ran : List Ran) (t : Tale) → Contains drives.hosts name → IsLife drives made ran t → HaveSaid drives name ran (Created (Local name)) → HasNoTableOn (own_view drives name) (Local name) (last t) → ⊥
+  pub made : (drives : Geometry) (name : List ℕ) (made : Image) (ran : List Ran) (t : Tale) → Contains drives.hosts name → IsLife drives made ran t → HaveSaid drives name ran (Created (Local name)) → ShowsOwn drives name ran (last t)
   pub not_empty : (drives : Geometry) (name : List ℕ) (made : Image) (ran : List Ran) (t : Tale) (up : Drives) (survey : Survey) → Contains drives.hosts name → IsLife drives made ran t
-      → IsSaid drives name ran (Created (Local name)) → BootFinds drives name up (last t) survey → HasReadAll drives name up survey → survey.newest ≡ None → ⊥
+      → HaveSaid drives name ran (Created (Local name)) → BootFinds drives name up (last t) survey → HasReadAll drives name up survey → survey.newest ≡ None → ⊥
   pub one : (drives : Geometry) (name : List ℕ) (made : Image) (ran : List Ran) (t : Tale) (up : Drives) (survey : Survey) (a b : Identity) → Contains drives.hosts name → IsLife drives made ran t
       → BootFinds drives name up (last t) survey → IsChoice survey (chosen.TwoDatabases a b) → ⊥
   pub table : (drives : Geometry) (name : List ℕ) (made : Image) (ran : List Ran) (t u : Tale) (fresh : ℕ) (memory : Memory) (o : Opened) → Contains drives.hosts name → IsLife drives made ran t → IsNewWord name fresh ran

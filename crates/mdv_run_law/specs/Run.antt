@@ -15,8 +15,8 @@ use Rattle.mdv_engine_law.specs.declared.answer.Answer.TheVariants.{Said, Over a
 use Rattle.mdv_engine_law.specs.declared.answer.Ended.{Ended}
 use Rattle.mdv_engine_law.specs.declared.answer.Ended.TheVariants as stop
 use Rattle.mdv_engine_law.specs.declared.answer.Outcome.TheVariants as outcome
-pub use Rattle.mdv_engine_law.specs.Answers.{IsQuiet}
-use Rattle.mdv_engine_law.specs.Answers.{EndsByReads, EndsUnwritten, accepted, refusing}
+pub use Rattle.mdv_engine_law.specs.Answers.{IsMereRefusal, IsSaid}
+use Rattle.mdv_engine_law.specs.Answers.{EndsUnwritten, accepted, refusing}
 use Rattle.mdv_engine_law.specs.Line.{Memory}
 use Rattle.mdv_engine_law.specs.Awake.{Happening}
 use Rattle.mdv_engine_law.specs.Standing.{IsKnown, IsOfRun, LeavesDone, LineWrites, StandsAt}
@@ -164,11 +164,6 @@ NextWrites host memory (line text rest) t u = TextWrites host memory text t u
 abbrev pub FromTo : (Tale → Tale → Type 0) → Option Story → Option Story → Type 0
 FromTo P old new = (s u : Story) → old ≡ Some s → new ≡ Some u → P (tale_of s) (tale_of u)
 
--- an answer that is told, and with which the run goes on
-abbrev pub IsSaid : Answer → Type 0
-IsSaid (Said this) = Unit {0}
-IsSaid (Ends end) = ⊥
-
 -- whether some reply was a refusal, with this answer
 abbrev pub refused_by : Answer → Bool → Bool
 refused_by (Said (outcome.Refused refusal)) before = true
@@ -215,7 +210,7 @@ Leads host old new t u = (h : History) → IsKnown host old h t → machine.Goes
 
 -- by such an answer, behind which this is in memory, a line wrote nothing: a refusal for another cause than a failed call, or that of a boot which found nothing
 abbrev pub IsUnwritten : Answer → Memory → Type 0
-IsUnwritten answer next = IsQuiet answer ⊎ ((answer ≡ accepted) × (next.opened ≡ None))
+IsUnwritten answer next = IsMereRefusal answer ⊎ ((answer ≡ accepted) × (next.opened ≡ None))
 
 -- A line that was answered, and whose reply was told whole: by as many calls as it takes, and one, by which no block was written but those that it may write, none where it was
 -- refused for another cause than a failed call, nor by a boot that found nothing; and a write that was told `ok` is on the disk, a creation that was told it has a replica at each of its places, and behind
@@ -268,12 +263,12 @@ pub record EndsAt (stretch : Stretch) (story : Option Story) (effort : Effort) :
   pub uncalled : stretch.after.effort ≡ effort
 
 -- It ends behind a line with which a run is over: no call that changed something was made behind one on the same part that failed, and the line took as many calls
--- as it takes, its reply's among them, and wrote no block but those that it may write; none, where a boot ended the run by what it read.
+-- as it takes, its reply's among them, and wrote no block but those that it may write; none, where it is over and no places were lost.
 pub record EndsBehind (stretch : Stretch) (host : Host) (now : At) (later : Counts) (answer : Answer) (next : Kept) : Type 0 where
   pub in_time : AreInTime now.counts now.story stretch.new
   pub calls : NextCalls (drive_failures now.counts later) (replied_to answer (made_between now.effort stretch.after.effort)) host now.kept now.script answer next
   pub writes : FromTo (NextWrites host now.kept.memory now.script) now.story stretch.new
-  pub unwritten : EndsByReads answer → FromTo (KeptOutside nowhere) now.story stretch.new
+  pub unwritten : EndsUnwritten answer → FromTo (KeptOutside nowhere) now.story stretch.new
 
 -- A point of what the bench told, by which the parts had failed so often, nothing was told, and the drive's blocks read so; no call until then that changed something was made
 -- behind one on the same part that failed.
@@ -386,7 +381,7 @@ pub record NextFront (host : Host) (now : At) (told : List ℕ) (m : Moment) : T
   pub shows : IsSame next.content (contents m.tale)
   pub count : ℕ
   pub front : told ≡ take count (text_of answer)
-  pub unwritten : told ≡ text_of answer → IsQuiet answer → (s : Story) → now.story ≡ Some s → KeptOutside nowhere (tale_of s) m.tale
+  pub unwritten : told ≡ text_of answer → IsMereRefusal answer → (s : Story) → now.story ≡ Some s → KeptOutside nowhere (tale_of s) m.tale
 
 abbrev pub IsNextFront : Host → At → List ℕ → Moment → Type 0
 IsNextFront host now told m = (told ≡ []) ⊎ NextFront host now told m

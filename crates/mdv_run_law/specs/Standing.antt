@@ -1,6 +1,6 @@
 -- How the drive stands with its history at each moment of a run.
 use Rattle.std.specs.Prelude.{◌≡◌, ◌≢◌, ◌⊎◌, ℕ, true, List, [], ◌∷◌, ◌++◌, length, Option, Some, Contains}
-use Rattle.mdv_run_law.specs.Below.{AcksBy, AcksFront, AreOwn, Ask, Boot, Created, Deed, Does, Drives, Entry, Event, Everywhere, Happening, HasBooted, History, Host, Identity, IsKnown, IsLine, IsRefusal, IsTab, Knows, Line, Memory, Nothing, OutOfMemory, Reached, Script, ShowsNoTable, Spells, StandsAt, StaysHome, Tab, Tale, asked_by_line, at_end, entries_reply, history_after, is_front_of, issuable, issuable_front, key_of, left_in, line, ok_line, refusal_line, replies_in, site_of, spent, told, too_long}
+use Rattle.mdv_run_law.specs.Below.{AcksBy, AcksFront, AreOwn, Ask, Boot, Created, Deed, Does, Drives, Entry, Event, Everywhere, Happening, BootBegins, History, Host, Identity, IsKnown, IsLine, IsRefusal, IsTab, Knows, Line, Memory, Nothing, OutOfMemory, Reached, Script, ShowsNoTable, Spells, StandsAt, StaysHome, Tab, Tale, asked_by_line, at_end, entries_reply, history_after, is_front_of, issuable, issuable_front, key_of, left_in, line, ok_line, refusal_line, replies_in, site_of, spent, told, too_long}
 use Rattle.mdv_store_law.specs.Machine as machine
 use Rattle.mdv_run_law.specs.Run.{IsNoCommand}
 
@@ -48,7 +48,7 @@ pub record AreOfLine (host : Host) (text : List ℕ) (now : Context) (reply : Li
   pub done : List Deed
   pub acks : AcksBy ask reply done
   pub does : Does host (issuable ask reply) done es
-  pub boots : IsLine text Boot → reply ≡ ok_line → (up : Drives) × HasBooted (key_of host) up es
+  pub boots : IsLine text Boot → reply ≡ ok_line → (up : Drives) × BootBegins (key_of host) up es
   pub kept : (entries : List Entry) → then ≡ Some entries → HasEntries text reply now entries
 
 -- Events of the line in work, by the front of its reply that was told: they begin what it asks only where that is a front of `ok`, or of the reply
@@ -119,7 +119,7 @@ pub record AreOfRun (host : Host) (script : Script) (bytes : List ℕ) (es : Lis
   pub lines : List Event
   pub both : es ≡ boot ++ lines
   pub idle : AreIdle host boot
-  pub booted : (up : Drives) × HasBooted (key_of host) up boot
+  pub booted : (up : Drives) × BootBegins (key_of host) up boot
   pub come : ComeOf host (InWork host (left_in bytes)) (Some []) script (replies_in bytes) lines
 
 -- from a history by some events of such a kind to one that the drive stands with, of which more is known

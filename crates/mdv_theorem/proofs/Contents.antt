@@ -31,7 +31,7 @@ use Rattle.mdv_words.specs.Line.{IsLine}
 use Rattle.mdv_words.specs.declared.command.Command.TheVariants.{Read, Write}
 use Rattle.mdv_theorem.specs.Exchanges.{Exchange, IsAcknowledged, IsSameBlock, IsTold, MayBeWritten, MayHaveBegun, TellsBlock}
 use Rattle.mdv_theorem.proofs.Steps.{Steps, no_step, one_step, skipped, told_once, sure_first}
-use Rattle.mdv_theorem.proofs.Tables.{never_clean, IsCarried, Keeps, Offers, OpenLine, ShutLine, booted, created, falls, granted_done, idle, keeps_line, keeps_steps, map_carried, off, open_line, rests, shut_line, up, writes, HasBooted, adopted, empty, has_booted}
+use Rattle.mdv_theorem.proofs.Tables.{never_clean, IsCarried, Keeps, Offers, OpenLine, ShutLine, booted, created, falls, granted_done, idle, keeps_line, keeps_steps, map_carried, off, open_line, rests, shut_line, up, writes, HasComeUp, adopted, empty, has_come_up}
 use Rattle.mdv_theorem.proofs.Telling.{is_fault, ok_is_none, one_number}
 use Rattle.mdv_store.specs.Opened.{Opened}
 use Rattle.mdv_shown.specs.Site.{site_area}
@@ -118,8 +118,8 @@ module _ (host : Host) (sound : IsSound host.drives) (sees : SeesOwn host) (volu
 
   -- what a boot leaves: a table that it adopts has the volume there
   pub first_left : (calls : Outcomes) (answer : Answer) (kept next : Kept) → Offers host Lies kept.content → IsSure host next → IsRebooted calls host kept answer next → IsSaid answer → next.content drive (first + b) ≡ kept.content drive (first + b)
-  first_left calls answer kept next offers after boots said = by (has_booted host sound sees calls kept next answer boots said) where
-    by : HasBooted host calls kept next → next.content drive (first + b) ≡ kept.content drive (first + b)
+  first_left calls answer kept next offers after boots said = by (has_come_up host sound sees calls kept next answer boots said) where
+    by : HasComeUp host calls kept next → next.content drive (first + b) ≡ kept.content drive (first + b)
     by (adopted later now adopts beside) = beside drive (first + b) (lies_out later.table (sure_plan host next later after now) (offers.each later.table adopts))
     by (empty none shows same) = same drive (first + b)
 

@@ -2,7 +2,7 @@
 use Rattle.std.specs.Prelude.{◌≡◌, ℕ, List, Some}
 use Rattle.mdv_engine_law.specs.Replies.{text_of}
 use Rattle.mdv_engine_law.specs.declared.host.Host.{Host}
-use Rattle.mdv_run_law.specs.Run.{At, FromTo, IsQuiet, Leads, LineTold, NextFront}
+use Rattle.mdv_run_law.specs.Run.{At, FromTo, IsMereRefusal, Leads, LineTold, NextFront}
 use Rattle.mdv_shelf.specs.Area.{KeptOutside, nowhere}
 use Rattle.mdv_shelf.specs.Story.{Moment, Story, tale_of}
 
@@ -12,7 +12,7 @@ LinesLead = (host : Host) (now : At) (piece : List ℕ) (later : At) → LineTol
 
 -- a line whose refusal was told whole wrote nothing, where no call on a drive was the cause
 abbrev pub FrontsUnwritten : Type 0
-FrontsUnwritten = (host : Host) (now : At) (told : List ℕ) (m : Moment) (front : NextFront host now told m) → told ≡ text_of front.answer → IsQuiet front.answer → (s : Story) → now.story ≡ Some s → KeptOutside nowhere (tale_of s) m.tale
+FrontsUnwritten = (host : Host) (now : At) (told : List ℕ) (m : Moment) (front : NextFront host now told m) → told ≡ text_of front.answer → IsMereRefusal front.answer → (s : Story) → now.story ≡ Some s → KeptOutside nowhere (tale_of s) m.tale
 
 pub record Given : Type 0 where
   pub lead : LinesLead

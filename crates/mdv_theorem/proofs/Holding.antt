@@ -13,7 +13,7 @@ use Rattle.mdv_table.specs.declared.change.Change.TheVariants.{MakeStripe}
 use Rattle.mdv_volumes.proofs.Lists.{contains_behind, contains_first}
 use Rattle.mdv_theorem.specs.Exchanges.{Exchange, IsTold, MayBeMade}
 use Rattle.mdv_theorem.proofs.Steps.{Steps, no_step, one_step, skipped, told_once, sure_first}
-use Rattle.mdv_theorem.proofs.Tables.{IsBare, IsLater, Keeps, OpenLine, ShutLine, booted, created, falls, idle, keeps_boot, keeps_same, never_clean, off, open_line, rests, same_content, shut_line, up, writes, HasBooted, Offers, adopted, empty, has_booted, open_keeps, open_offers}
+use Rattle.mdv_theorem.proofs.Tables.{IsBare, IsLater, Keeps, OpenLine, ShutLine, booted, created, falls, idle, keeps_boot, keeps_same, never_clean, off, open_line, rests, same_content, shut_line, up, writes, HasComeUp, Offers, adopted, empty, has_come_up, open_keeps, open_offers}
 use Rattle.mdv_theorem.proofs.Telling.{ok_is_none}
 use Rattle.mdv_store.specs.Opened.{Opened}
 use Rattle.mdv_run_law.proofs.Extents.{SeesOwn}
@@ -35,8 +35,8 @@ module _ (host : Host) (sound : IsSound host.drives) (sees : SeesOwn host) (P : 
 
   -- a boot from there
   pub holds_boot : (calls : Outcomes) (kept next : Kept) (answer : Answer) → Finds host P kept.content → IsRebooted calls host kept answer next → IsSaid answer → Holds host P next
-  holds_boot calls kept next answer finds boots said = by (has_booted host sound sees calls kept next answer boots said) where
-    by : HasBooted host calls kept next → Holds host P next
+  holds_boot calls kept next answer finds boots said = by (has_come_up host sound sees calls kept next answer boots said) where
+    by : HasComeUp host calls kept next → Holds host P next
     by (adopted later now adopts beside) = keeps (up later now (finds later.table adopts))
     by (empty none shows same) = bare none (finds_same kept next same finds)
 

@@ -16,7 +16,7 @@ use Rattle.mdv_engine_law.proofs.Beside.{lies_plain}
 use Rattle.mdv_map.specs.Maps.{DriveBlock, run_map}
 use Rattle.mdv_name.specs.declared.geometry.Geometry.{Geometry}
 use Rattle.mdv_run_law.specs.Lives.{host_of}
-use Rattle.mdv_run_law.specs.Run.{IsQuiet, IsSaid, TextWrites}
+use Rattle.mdv_run_law.specs.Run.{IsMereRefusal, IsSaid, TextWrites}
 use Rattle.mdv_run_law.proofs.Extents.{lies_beside, one_place}
 use Rattle.mdv_run_law.proofs.Placing.{put_at}
 use Rattle.mdv_shelf.specs.Area.{IsKept, KeptOutside, nowhere}
@@ -43,12 +43,12 @@ use Rattle.mdv_engine_law.specs.Hosts.{opened_area}
 use Rattle.mdv_shown.specs.Site.{site_area}
 
 -- a refusal for another cause than a failed call, or that one
-quiet_or_fault : (r : Refusal) → IsQuiet (Said (outcome.Refused r)) ⊎ (r ≡ IoFault)
+quiet_or_fault : (r : Refusal) → IsMereRefusal (Said (outcome.Refused r)) ⊎ (r ≡ IoFault)
 quiet_or_fault IoFault = inr refl
 quiet_or_fault _ = inl tt
 
 -- a line that was told so may have begun what it asks, or is refused for such a cause
-pub begun_or_quiet : (one : Exchange) (answer : Answer) → IsPlainAnswer answer → IsSaid answer → IsTold one (text_of answer) → MayHaveBegun one ⊎ IsQuiet answer
+pub begun_or_quiet : (one : Exchange) (answer : Answer) → IsPlainAnswer answer → IsSaid answer → IsTold one (text_of answer) → MayHaveBegun one ⊎ IsMereRefusal answer
 begun_or_quiet one (Said outcome.Ok) plain said told = inl (λ refusal refused. absurd (ok_is_none refusal (told_once one ok_line (refusal_line refusal) told refused)))
 begun_or_quiet one (Said (outcome.Values text)) (inl are) said told = inl (λ refusal refused. absurd (values_are_none are.at are.blocks refusal (sym are.is ∙ told_once one text (refusal_line refusal) told refused)))
 begun_or_quiet one (Said (outcome.Values text)) (inr (inl are)) said told = inl (λ refusal refused. absurd (entries_are_none are.count refusal (sym are.is ∙ told_once one text (refusal_line refusal) told refused)))

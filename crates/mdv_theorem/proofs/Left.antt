@@ -12,7 +12,7 @@ use Rattle.mdv_base.specs.declared.refusal.Refusal.TheVariants.{LineTooLong}
 use Rattle.mdv_name.specs.declared.geometry.Geometry.{Geometry}
 use Rattle.mdv_port.specs.Script.{Script, at_end, line, spent, too_long}
 use Rattle.mdv_run_law.specs.Lives.{host_of, IsNewWord, Ran}
-use Rattle.mdv_run_law.specs.Run.{At, Counts, IsNextFront, IsQuiet, IsSaid, LineTold, LinesTold, NextFront, NextLine, NextWrites, Stretch, behind_boot, drive_failures, no_line, one_more, Leads}
+use Rattle.mdv_run_law.specs.Run.{At, Counts, IsNextFront, IsMereRefusal, IsSaid, LineTold, LinesTold, NextFront, NextLine, NextWrites, Stretch, behind_boot, drive_failures, no_line, one_more, Leads}
 use Rattle.mdv_run_law.specs.Told.{AtWork, IsToldBy, RunToldBy, WorkWrites}
 use Rattle.mdv_run_law.proofs.Course.{answer_plain, refused_plain, said_reply}
 use Rattle.mdv_engine_law.specs.Replies.{IsPlainAnswer}
@@ -152,7 +152,7 @@ module _ (drives : Geometry) (name : List ℕ) (sound : IsSound drives) (of_tabl
     Into = IsInto drives name final
 
     script_leaves : (now later : Counts) (kept next : Kept) (script more : Script) (answer : Answer) (t u : Tale) → NextLine host now kept script answer later next more → IsSaid answer → NextWrites host kept.memory script t u
-        → (IsQuiet answer → KeptOutside nowhere t u) → Into kept.memory → AreLeft (said_of script (text_of answer)) t u
+        → (IsMereRefusal answer → KeptOutside nowhere t u) → Into kept.memory → AreLeft (said_of script (text_of answer)) t u
     script_leaves now later kept next at_end more answer t u is said wrote quiet into = absurd is
     script_leaves now later kept next (spent lines bytes) more answer t u is said wrote quiet into = absurd is
     script_leaves now later kept next (too_long left) more answer t u is said wrote quiet into = none_leaves drives name sound of_table final volume number spot [] t u wrote

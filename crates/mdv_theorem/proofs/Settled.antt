@@ -18,7 +18,7 @@ use Rattle.mdv_engine_law.specs.Standing.{LeavesDone, LineWrites, WritesOnly}
 use Rattle.mdv_engine_law.specs.declared.answer.Answer.{Answer}
 use Rattle.mdv_engine_law.specs.declared.host.Host.{Host}
 use Rattle.mdv_map.specs.Maps.{DriveBlock, run_map}
-use Rattle.mdv_run_law.specs.Run.{IsAnswered, IsQuiet, IsSaid, TextWrites}
+use Rattle.mdv_run_law.specs.Run.{IsAnswered, IsMereRefusal, IsSaid, TextWrites}
 use Rattle.mdv_run_law.proofs.Extents.{one_place, SeesOwn}
 use Rattle.mdv_run_law.proofs.Placing.{opened_twice, put_at}
 use Rattle.mdv_shelf.specs.Area.{IsKept, KeptOutside, nowhere}
@@ -37,16 +37,16 @@ use Rattle.mdv_shown.specs.Site.{site_area}
 use Rattle.mdv_theorem.proofs.Sure.{IsSure, sure_plan, opened_outside}
 
 -- a write that is refused before anything is done is refused for another cause than a failed call
-where_quiet : (holds : Bool) (r : Refusal) → IsQuiet (refusing r) → All (λ s. IsQuiet (refusing s)) (where_so holds r)
-where_quiet true r is = All-cons (λ s. IsQuiet (refusing s)) r [] is (All-nil (λ s. IsQuiet (refusing s)))
-where_quiet false r is = All-nil (λ s. IsQuiet (refusing s))
+where_quiet : (holds : Bool) (r : Refusal) → IsMereRefusal (refusing r) → All (λ s. IsMereRefusal (refusing s)) (where_so holds r)
+where_quiet true r is = All-cons (λ s. IsMereRefusal (refusing s)) r [] is (All-nil (λ s. IsMereRefusal (refusing s)))
+where_quiet false r is = All-nil (λ s. IsMereRefusal (refusing s))
 
-past_quiet : (found : Option Volume) (end : ℕ) → All (λ s. IsQuiet (refusing s)) (held_past found end)
-past_quiet None end = All-cons (λ s. IsQuiet (refusing s)) _ [] tt (All-nil (λ s. IsQuiet (refusing s)))
+past_quiet : (found : Option Volume) (end : ℕ) → All (λ s. IsMereRefusal (refusing s)) (held_past found end)
+past_quiet None end = All-cons (λ s. IsMereRefusal (refusing s)) _ [] tt (All-nil (λ s. IsMereRefusal (refusing s)))
 past_quiet (Some of) end = where_quiet (nat_lt (size_of of.kind) end) OutOfRange tt
 
-blocks_quiet : (opened : Option Opened) (volume : VolId) (end : ℕ) → All (λ s. IsQuiet (refusing s)) (held_of_blocks opened volume end)
-blocks_quiet None volume end = All-cons (λ s. IsQuiet (refusing s)) _ [] tt (All-nil (λ s. IsQuiet (refusing s)))
+blocks_quiet : (opened : Option Opened) (volume : VolId) (end : ℕ) → All (λ s. IsMereRefusal (refusing s)) (held_of_blocks opened volume end)
+blocks_quiet None volume end = All-cons (λ s. IsMereRefusal (refusing s)) _ [] tt (All-nil (λ s. IsMereRefusal (refusing s)))
 blocks_quiet (Some o) volume end = past_quiet (find (has_number volume) o.table.plan.volumes) end
 
 module _ (host : Host) (sound : IsSound host.drives) where
@@ -67,12 +67,12 @@ module _ (host : Host) (sound : IsSound host.drives) (sees : SeesOwn host) (driv
 
   -- one line, by whose calls none failed on the drive
   module _ (calls : Outcomes) (calm : (calls drive).some → ⊥) (text : List ℕ) (answer : Answer) (kept next : Kept) (sure : IsSure host kept) (comes : IsAnswered calls host kept text answer next) (said : IsSaid answer) (t u : Tale)
-      (unwritten : IsQuiet answer → KeptOutside nowhere t u) (leaves : answer ≡ accepted → (command : Command) → IsLine text (words.Exec command) → LeavesDone host kept.memory command u) (settled : IsSettledAt t) where
-    quiet : IsQuiet answer → IsSettledAt u
+      (unwritten : IsMereRefusal answer → KeptOutside nowhere t u) (leaves : answer ≡ accepted → (command : Command) → IsLine text (words.Exec command) → LeavesDone host kept.memory command u) (settled : IsSettledAt t) where
+    quiet : IsMereRefusal answer → IsSettledAt u
     quiet is = still_settled t u (unwritten is drive b refl) settled
 
-    refuses : (r : Refusal) → answer ≡ refusing r → IsQuiet (refusing r) → IsSettledAt u
-    refuses r is so = quiet (subst IsQuiet (sym is) so)
+    refuses : (r : Refusal) → answer ≡ refusing r → IsMereRefusal (refusing r) → IsSettledAt u
+    refuses r is so = quiet (subst IsMereRefusal (sym is) so)
 
     -- a write of it
     module _ (volume : VolId) (at : ℕ) (block : List ℕ) (spelled : IsLine text (words.Exec (Write volume at block))) (place : DriveBlock) (there : AreBlocksAt host kept.memory volume at 1 place) (on : place.drive ≡ drive) where
@@ -83,7 +83,7 @@ module _ (host : Host) (sound : IsSound host.drives) (sees : SeesOwn host) (driv
           subst (λ (d : ℕ). (x : List ℕ) → MayLeave u d b x → x ≡ last u d b) same (left.2.synced b)
 
       wrote_came : CameTo calls host kept (Write volume at block) answer next → IsSettledAt u
-      wrote_came (came.refused calmly r why left) = refuses r left.0 (first_holds (λ s. IsQuiet (refusing s)) order (held_of_blocks kept.memory.opened volume (at + 1)) r (blocks_quiet kept.memory.opened volume (at + 1)) why)
+      wrote_came (came.refused calmly r why left) = refuses r left.0 (first_holds (λ s. IsMereRefusal (refusing s)) order (held_of_blocks kept.memory.opened volume (at + 1)) r (blocks_quiet kept.memory.opened volume (at + 1)) why)
       wrote_came (came.wanting calmly told wants) = absurd wants
       wrote_came (came.done free effect) = done effect.3
       wrote_came (came.faulted free told (where_it, failed, its, memory, put)) =

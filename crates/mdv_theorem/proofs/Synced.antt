@@ -7,7 +7,7 @@ use Rattle.mdv_engine_law.specs.Line.{IsSame, contents}
 use Rattle.mdv_engine_law.specs.declared.answer.Answer.{Answer}
 use Rattle.mdv_engine_law.specs.declared.host.Host.{Host}
 use Rattle.mdv_port.specs.Script.{Script, at_end, line, spent, too_long}
-use Rattle.mdv_run_law.specs.Run.{At, Counts, FromTo, IsQuiet, IsSaid, IsShown, LineTold, LinesTold, NextLeaves, NextLine, NextWrites, Stretch, drive_failures, no_line, one_more}
+use Rattle.mdv_run_law.specs.Run.{At, Counts, FromTo, IsMereRefusal, IsSaid, IsShown, LineTold, LinesTold, NextLeaves, NextLine, NextWrites, Stretch, drive_failures, no_line, one_more}
 use Rattle.mdv_shelf.specs.Area.{KeptOutside, nowhere}
 use Rattle.mdv_shelf.specs.Story.{Moment, Story, marked, tale_of}
 use Rattle.mdv_table.specs.Slices.{IsSound}
@@ -54,7 +54,7 @@ module _ (host : Host) (start : Counts) (m : Moment) (stretch : Stretch) (sound 
     pub settled : IsSettledAt host sound sees drive b out (tale_of sure.story)
 
   next_settled : (now mid : At) (answer : Answer) (script more : Script) → NextLine host now.counts now.kept script answer mid.counts mid.kept more → IsSaid answer → ((drive_failures now.counts mid.counts drive).some → ⊥) → IsSure host now.kept
-      → (s u : Story) → now.story ≡ Some s → mid.story ≡ Some u → FromTo (NextWrites host now.kept.memory script) now.story mid.story → (IsQuiet answer → FromTo (KeptOutside nowhere) now.story mid.story)
+      → (s u : Story) → now.story ≡ Some s → mid.story ≡ Some u → FromTo (NextWrites host now.kept.memory script) now.story mid.story → (IsMereRefusal answer → FromTo (KeptOutside nowhere) now.story mid.story)
       → (answer ≡ accepted → FromTo (λ t u. NextLeaves (drive_failures now.counts mid.counts) host now.kept.memory script u) now.story mid.story) → IsSettledAt host sound sees drive b out (tale_of s) → IsSettledAt host sound sees drive b out (tale_of u)
   next_settled now mid answer at_end more comes said calm sure s u old new writes unwritten leaves settled = absurd comes
   next_settled now mid answer (spent n c) more comes said calm sure s u old new writes unwritten leaves settled = absurd comes

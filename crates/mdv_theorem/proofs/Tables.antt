@@ -140,9 +140,9 @@ pub never_clean : (clean : Bool) → clean ≡ false → clean ≡ true → ⊥
 never_clean clean down calm = absurd (cc (down, calm))
 
 -- what a boot that was answered has come to: it adopted a table, or found nothing and left all as it was
-pub data HasBooted (host : Host) (calls : Outcomes) (kept next : Kept) : Type 0 where
-  adopted : (o : Opened) → next.memory.opened ≡ Some o → Adopts host.drives host.site kept.content o.table → IsSameBeside (site_area host.site) kept.content next.content → HasBooted host calls kept next
-  empty : next.memory.opened ≡ None → IsBlind host calls kept.content → IsSame kept.content next.content → HasBooted host calls kept next
+pub data HasComeUp (host : Host) (calls : Outcomes) (kept next : Kept) : Type 0 where
+  adopted : (o : Opened) → next.memory.opened ≡ Some o → Adopts host.drives host.site kept.content o.table → IsSameBeside (site_area host.site) kept.content next.content → HasComeUp host calls kept next
+  empty : next.memory.opened ≡ None → IsBlind host calls kept.content → IsSame kept.content next.content → HasComeUp host calls kept next
 
 -- no boot is blind of which it is so, where calls fail on such drives alone
 abbrev pub NeverBlind : Host → (ℕ → Type 0) → (Table → Type 0) → Type 1
@@ -162,10 +162,10 @@ module _ (host : Host) (sound : IsSound host.drives) (sees : SeesOwn host) where
   open_offers P kept o sure opened has = lasting_offers P sure.history sure.tale kept.content sure.known.stands (open_lasting host kept.memory sure.history sure.tale o sure.known opened P has) sure.reads
 
   -- what a boot comes to that is answered
-  pub has_booted : (calls : Outcomes) (kept next : Kept) (answer : Answer) → IsRebooted calls host kept answer next → IsSaid answer → HasBooted host calls kept next
-  has_booted calls kept next answer r said = by r.end r.by r.beside r.answer_is r.memory where
+  pub has_come_up : (calls : Outcomes) (kept next : Kept) (answer : Answer) → IsRebooted calls host kept answer next → IsSaid answer → HasComeUp host calls kept next
+  has_come_up calls kept next answer r said = by r.end r.by r.beside r.answer_is r.memory where
     by : (e : BootEnd) → (is_memory e ≡ true) ⊎ ((survey : Survey) × IsReadOf calls host kept.content r.up e survey × IsEndBy calls (λ hand of. WritesTo kept.content next.content hand.seats) host.site survey e) → IsSameBeside (boot_area host.site (has_written e)) kept.content next.content
-        → answer ≡ answered_by e → (answer ≡ accepted → next.memory ≡ booted_with (opened_by e) r.up r.clean kept.memory.begun) → HasBooted host calls kept next
+        → answer ≡ answered_by e → (answer ≡ accepted → next.memory ≡ booted_with (opened_by e) r.up r.clean kept.memory.begun) → HasComeUp host calls kept next
     by (ending.Adopted o) (inl never) beside is memory = absurd (cc (never))
     by (ending.Adopted o) (inr (survey, read, a)) beside is memory = adopted o (ap (λ (m : Memory). m.opened) (memory is)) (adopts_of calls host kept.content next.content r.up survey o read a) beside
     by ending.Empty (inl never) beside is memory = absurd (cc (never))
@@ -199,11 +199,11 @@ module _ (host : Host) (sound : IsSound host.drives) (sees : SeesOwn host) where
     stays same = still (ap (λ (m : Memory). m.opened) same.memory) same.content
 
     open_boot : IsRebooted calls host kept answer next → IsSaid answer → Line_of
-    open_boot boots said = by (has_booted calls kept next answer boots said) where
+    open_boot boots said = by (has_come_up calls kept next answer boots said) where
       offers : Offers host (λ table. table ≡ o.table) kept.content
       offers = open_offers (λ table. table ≡ o.table) kept o sure opened refl
 
-      by : HasBooted host calls kept next → Line_of
+      by : HasComeUp host calls kept next → Line_of
       by (adopted later now adopts beside) = rests later now (inl (offers.each later.table adopts)) beside
       by (empty none blind same) = falls blind none (not_clean kept next offers.found none same after) same
 
@@ -323,15 +323,15 @@ module _ (host : Host) (sound : IsSound host.drives) (sees : SeesOwn host) where
 
     -- a boot adopts one of the tables that are offered, or goes down and leaves them
     pub keeps_boot : (calls : Outcomes) (kept next : Kept) (answer : Answer) → Offers host P kept.content → IsSure host next → IsRebooted calls host kept answer next → IsSaid answer → Keeps host P next
-    keeps_boot calls kept next answer offers after boots said = by (has_booted calls kept next answer boots said) where
-      by : HasBooted host calls kept next → Keeps host P next
+    keeps_boot calls kept next answer offers after boots said = by (has_come_up calls kept next answer boots said) where
+      by : HasComeUp host calls kept next → Keeps host P next
       by (adopted later now adopts beside) = up later now (offers.each later.table adopts)
       by (empty none blind same) = off none (not_clean kept next offers.found none same after) (offers_same kept next same offers)
 
     -- and opens it, where it isn't blind
     pub boot_opens : (calls : Outcomes) (kept next : Kept) (answer : Answer) → Offers host P kept.content → IsRebooted calls host kept answer next → IsSaid answer → (IsBlind host calls kept.content → ⊥) → (o : Opened) × (next.memory.opened ≡ Some o) × P o.table
-    boot_opens calls kept next answer offers boots said never = by (has_booted calls kept next answer boots said) where
-      by : HasBooted host calls kept next → (o : Opened) × (next.memory.opened ≡ Some o) × P o.table
+    boot_opens calls kept next answer offers boots said never = by (has_come_up calls kept next answer boots said) where
+      by : HasComeUp host calls kept next → (o : Opened) × (next.memory.opened ≡ Some o) × P o.table
       by (adopted later now adopts beside) = (later, now, offers.each later.table adopts)
       by (empty none blind same) = absurd (never blind)
 

@@ -98,20 +98,20 @@ returns-in-Empty-clause-counted g c =
 
 pub returns-in-TwoDatabases-clause-counted : goal.returns-in-TwoDatabases-clause-counted
 returns-in-TwoDatabases-clause-counted g c =
-    over_counted g.S.Shelf c.args.shelf.now c.boot-end.new.shelf c.args.host.now c.requires c.boot-end.result c.boot-end.ensures.answer c.boot-end.ensures.kept c.args.begun c.boot-end.ensures.moments c.boot-end.ensures.end c.boot-end.ensures.counted (ended.TwoDatabases c.in-TwoDatabases.a c.in-TwoDatabases.b) _
+    over_counted g.S.Shelf c.args.shelf.now c.boot-end.new.shelf c.args.host.now c.requires c.boot-end.result c.boot-end.ensures.answer c.boot-end.ensures.kept c.args.begun c.boot-end.ensures.moments c.boot-end.ensures.end c.boot-end.ensures.counted (ended.TwoDatabases c.in-TwoDatabases.a c.in-TwoDatabases.b) _ (ap answered_by c.in-TwoDatabases.is)
 
 pub returns-in-NoQuorum-clause-counted : goal.returns-in-NoQuorum-clause-counted
 returns-in-NoQuorum-clause-counted g c =
-    over_counted g.S.Shelf c.args.shelf.now c.boot-end.new.shelf c.args.host.now c.requires c.boot-end.result c.boot-end.ensures.answer c.boot-end.ensures.kept c.args.begun c.boot-end.ensures.moments c.boot-end.ensures.end c.boot-end.ensures.counted (ended.NoQuorum c.in-NoQuorum.readable c.in-NoQuorum.needed) _
+    over_counted g.S.Shelf c.args.shelf.now c.boot-end.new.shelf c.args.host.now c.requires c.boot-end.result c.boot-end.ensures.answer c.boot-end.ensures.kept c.args.begun c.boot-end.ensures.moments c.boot-end.ensures.end c.boot-end.ensures.counted (ended.NoQuorum c.in-NoQuorum.readable c.in-NoQuorum.needed) _ (ap answered_by c.in-NoQuorum.is)
 
 pub returns-in-Lost-clause-counted : goal.returns-in-Lost-clause-counted
 returns-in-Lost-clause-counted g c =
-    over_counted g.S.Shelf c.args.shelf.now c.boot-end.new.shelf c.args.host.now c.requires c.boot-end.result c.boot-end.ensures.answer c.boot-end.ensures.kept c.args.begun c.boot-end.ensures.moments c.boot-end.ensures.end c.boot-end.ensures.counted (ended.Lost c.in-Lost.active c.in-Lost.listed) _
+    over_counted g.S.Shelf c.args.shelf.now c.boot-end.new.shelf c.args.host.now c.requires c.boot-end.result c.boot-end.ensures.answer c.boot-end.ensures.kept c.args.begun c.boot-end.ensures.moments c.boot-end.ensures.end c.boot-end.ensures.counted (ended.Lost c.in-Lost.active c.in-Lost.listed) _ (ap answered_by c.in-Lost.is)
 
 pub returns-in-Spent-clause-counted : goal.returns-in-Spent-clause-counted
 returns-in-Spent-clause-counted g c =
-    over_counted g.S.Shelf c.args.shelf.now c.boot-end.new.shelf c.args.host.now c.requires c.boot-end.result c.boot-end.ensures.answer c.boot-end.ensures.kept c.args.begun c.boot-end.ensures.moments c.boot-end.ensures.end c.boot-end.ensures.counted ended.Spent _
+    over_counted g.S.Shelf c.args.shelf.now c.boot-end.new.shelf c.args.host.now c.requires c.boot-end.result c.boot-end.ensures.answer c.boot-end.ensures.kept c.args.begun c.boot-end.ensures.moments c.boot-end.ensures.end c.boot-end.ensures.counted ended.Spent _ (ap answered_by c.in-Spent.is)
 
 pub returns-in-Memory-clause-counted : goal.returns-in-Memory-clause-counted
 returns-in-Memory-clause-counted g c =
-    over_counted g.S.Shelf c.args.shelf.now c.boot-end.new.shelf c.args.host.now c.requires c.boot-end.result c.boot-end.ensures.answer c.boot-end.ensures.kept c.args.begun c.boot-end.ensures.moments c.boot-end.ensures.end c.boot-end.ensures.counted ended.Memory _
+    over_counted g.S.Shelf c.args.shelf.now c.boot-end.new.shelf c.args.host.now c.requires c.boot-end.result c.boot-end.ensures.answer c.boot-end.ensures.kept c.args.begun c.boot-end.ensures.moments c.boot-end.ensures.end c.boot-end.ensures.counted ended.Memory _ (ap answered_by c.in-Memory.is)

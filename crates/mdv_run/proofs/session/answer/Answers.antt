@@ -29,7 +29,7 @@ use Rattle.mdv_engine.specs.Tab.{KeepsLines}
 use Rattle.mdv_engine.proofs.Entering.{kept_begun, kept_host, kept_well}
 use Rattle.mdv_engine.proofs.Counting.{not_lost}
 use Rattle.mdv_engine_law.specs.Commands.{MaySpend, blame_of}
-use Rattle.mdv_run.proofs.Answering.{command_reads, said_reads, asks_none, command_works, stays_as, uncut_replied, command_reply, told_reply, no_boot, line_executed, refused_turned, refused_down, refused_keeps, refused_knows, turn_home, turn_writes}
+use Rattle.mdv_run.proofs.Answering.{command_still, said_still, asks_none, command_works, stays_as, uncut_replied, command_reply, told_reply, no_boot, line_executed, refused_turned, refused_down, refused_keeps, refused_knows, turn_home, turn_writes}
 use Rattle.mdv_run.proofs.session.answer.Goals as goal
 
 pub exec-requires-clause-form : goal.exec-requires-clause-form
@@ -65,7 +65,7 @@ returns-in-Ok-Command-clause-end g c = λ t told.
       end.1,
       record {
         answered = λ knows. line_executed c.args.line.now (words.Exec command) is outcomes replies made host old new c.exec.result t end.0 (end.2.answered knows) (turn_writes host (asked_by host command) old _ _ c.exec.ensures.moments.each t end.0 told end.1)
-            end.2.quiet (λ reads. absurd (command_reads _ _ _ c.exec.result c.exec.ensures.answer.cause reads)) (λ same none. absurd (cc (same))) (λ ok other same. subst (λ (x : Command). LeavesDone host old x end.0) (cc (same)) (end.2.done ok)) (λ ok same. absurd (cc (same)));
+            end.2.quiet (λ still. end.2.spent (command_still _ _ _ c.exec.result c.exec.ensures.answer.cause still)) (λ same none. absurd (cc (same))) (λ ok other same. subst (λ (x : Command). LeavesDone host old x end.0) (cc (same)) (end.2.done ok)) (λ ok same. absurd (cc (same)));
         ran = λ on more. line_ran host c.args.line.now (asked_by host command) more old new t end.0 (end.2.turned on) (turn_home host (asked_by host command) old _ _ c.exec.ensures.moments.each t end.0 told end.1) (inl (inr (words.Exec command, is, refl))) (inl (no_boot c.args.line.now (words.Exec command) is (λ same. cc (same))))
             (λ knows. command_entries outcomes replies made host old new c.exec.result t end.0 c.args.line.now (end.2.turned on).bytes (end.2.turned on).is_told command is (end.2.answered knows) on);
         knows = end.2.knows;
@@ -123,7 +123,7 @@ returns-in-Ok-Tab-clause-end g c = λ t told.
       end.0,
       end.1,
       record {
-        answered = λ knows. line_executed c.args.line.now (words.Tab lines) is outcomes replies made host old new c.keep_tab.result t end.0 end.2.answered end.2.kept (λ quiet. end.2.kept) (λ reads. absurd (said_reads _ c.keep_tab.ensures.answer.said c.keep_tab.result c.keep_tab.ensures.answer.cause reads)) (λ same none. absurd (cc (same))) (λ ok command same. absurd (cc (same))) (λ ok same. absurd (cc (same)));
+        answered = λ knows. line_executed c.args.line.now (words.Tab lines) is outcomes replies made host old new c.keep_tab.result t end.0 end.2.answered end.2.kept (λ quiet. end.2.kept) (λ still. absurd (said_still _ c.keep_tab.ensures.answer.said c.keep_tab.result c.keep_tab.ensures.answer.cause still)) (λ same none. absurd (cc (same))) (λ ok command same. absurd (cc (same))) (λ ok same. absurd (cc (same)));
         ran = λ on more. line_ran host c.args.line.now Nothing more old new t end.0 (end.2.turned on) (stays_still host t end.0 end.2.kept) (inl (inr (words.Tab lines, is, refl))) (inl (no_boot c.args.line.now (words.Tab lines) is (λ same. cc (same))))
             (λ knows. tab_entries outcomes replies made host old new c.keep_tab.result t end.0 c.args.line.now (end.2.turned on).bytes (end.2.turned on).is_told lines is end.2.answered on);
         knows = λ kept. end.2.knows;
@@ -177,7 +177,7 @@ returns-in-Err-BadLine-clause-end g c =
       end.0,
       end.1,
       record {
-        answered = λ knows. record { answer = refusing BadLine; done = inl (never, c.refuse.ensures.answer.calm, refused_down host old BadLine bad_line_plain replies c.refuse.result t end.0 end.2); calls = inl (never, between_of g.B.Shelf.calls g.B.Shelf.written _ _ 1 0 1 1 0 (omega arith) (omega arith) (omega arith) c.refuse.ensures.counted.once); writes = inl end.2.kept; unwritten = λ on quiet. end.2.kept; unread = λ reads. absurd reads; leaves = λ on ok. absurd (cc (ok)); replied = end.2.replied };
+        answered = λ knows. record { answer = refusing BadLine; done = inl (never, c.refuse.ensures.answer.calm, refused_down host old BadLine bad_line_plain replies c.refuse.result t end.0 end.2); calls = inl (never, between_of g.B.Shelf.calls g.B.Shelf.written _ _ 1 0 1 1 0 (omega arith) (omega arith) (omega arith) c.refuse.ensures.counted.once); writes = inl end.2.kept; unwritten = λ on quiet. end.2.kept; still = λ ends. absurd ends; leaves = λ on ok. absurd (cc (ok)); replied = end.2.replied };
         ran = λ on more. line_ran host c.args.line.now Nothing more old old t end.0 (refused_turned host old BadLine bad_line_plain replies c.refuse.result t end.0 end.2 Nothing on) (stays_still host t end.0 end.2.kept) (inl (inl (never, refl))) (inl (never Boot)) (λ knows. refused_keeps host old BadLine bad_line_plain replies c.refuse.result t end.0 end.2 c.args.line.now Nothing on);
         knows = λ kept. refused_knows host old BadLine bad_line_plain replies c.refuse.result t end.0 end.2;
       },

@@ -1,5 +1,5 @@
 use Rattle.mdv_run.proofs.Counting.{accepted_calls, over_calls}
-use Rattle.mdv_run.proofs.Whole.{ended_unread, none_opened}
+use Rattle.mdv_run.proofs.Whole.{ended_unwritten, none_opened}
 use Rattle.mdv_engine_law.specs.declared.answer.Outcome.TheVariants as outcome
 use Rattle.std.proofs.Common.{◌≡◌, ◌≤◌, ◌+◌, ℕ, List, [], inl, inr, Option, refl, sym, ◌∙◌, ap, subst, arith}
 use Rattle.mdv_engine_law.specs.Line.{Nothing, ToBoot}
@@ -7,7 +7,7 @@ use Rattle.std.proofs.lemmas.List.{append-nil}
 use Rattle.mdv_shelf.specs.Shelves.{DriveFailures, GivingFailed}
 use Rattle.mdv_run.specs.Below.{IsLine, LinesMoment, Memory, Script, line, OnReplies, Moments, Ends, told, Boot, Host, StaysHome, BootMoment, BootedTo, TurnMoment, Engine, IsLostOnSite, IsWell, Knows, IsRebooted, Tale, kept_at, site_area}
 use Rattle.mdv_run.specs.Promise.{IsWorkOf, LineEnd}
-use Rattle.mdv_run.proofs.Answering.{said_reads, loud_ok, same_within, uncut_replied, line_executed, accepted_ok, accepted_turned, ended_reply, reply_more, told_reply, turn_writes}
+use Rattle.mdv_run.proofs.Answering.{said_still, loud_ok, same_within, uncut_replied, line_executed, accepted_ok, accepted_turned, ended_reply, reply_more, told_reply, turn_writes}
 use Rattle.std.specs.Option.{option_map}
 use Rattle.mdv_shelf.specs.Shelves.{AtEachMoment}
 use Rattle.mdv_shelf.specs.Story.{OfTales, Story, tale_of}
@@ -78,7 +78,7 @@ returns-in-Ok-clause-end g c = λ text boots.
             (ap told (some_is _ up.0 quiet.0 up.1 quiet.1) ∙ quiet.2.quiet) up.2.rebooted end.2
             (boot_too (DriveFailures g.B.Shelf c.args.bench.now c.reboot.new.shelf) (DriveFailures g.B.Shelf c.args.bench.now c.reboot.new.shelf) (same_within (DriveFailures g.B.Shelf c.args.bench.now c.reboot.new.shelf)) (made_of g.B.Shelf c.args.bench.now c.reboot.new.shelf) (and_more 1 made) (with_more g.B.Shelf.calls g.B.Shelf.written _ _ _ 1 c.accept.ensures.counted.once) host accepted new (contents t) up.2.effort))
             (turn_writes host ToBoot old _ _ (both_turns host c.reboot.new.self.host c.in-Ok.ensures.answer.host old new c.in-Ok.ensures.answer.begun _ _ _ c.reboot.ensures.moments (λ s start. (let there = c.in-Ok.ensures.end s start in (there.0, there.1, there.2.booted refl))) c.accept.ensures.moments.each) t end.0 is end.1)
-            (λ quiet. absurd (loud_ok _ c.accept.result c.accept.ensures.answer.cause quiet)) (λ reads. absurd (said_reads _ outcome.Ok c.accept.result c.accept.ensures.answer.cause reads)) (λ same none. kept_outside_more nowhere t up.0 end.0 (none_opened up.2 none) end.2.kept) (λ ok command same. absurd (cc (same)))
+            (λ quiet. absurd (loud_ok _ c.accept.result c.accept.ensures.answer.cause quiet)) (λ still. absurd (said_still _ outcome.Ok c.accept.result c.accept.ensures.answer.cause still)) (λ same none. kept_outside_more nowhere t up.0 end.0 (none_opened up.2 none) end.2.kept) (λ ok command same. absurd (cc (same)))
             (λ ok same drive own calm. synced_still drive.0 up.0 end.0 (λ block. end.2.kept drive.0 block refl) (up.2.synced refl drive own (λ once. calm ((within_calm _ _ _ (c.accept.ensures.answer.calm drive.0)).some once))));
         ran = λ on more. booted_ran host old new t up.0 (up.2.booted refl) c.in-Ok.ensures.answer.begun text more boots c.in-Ok.ensures.answer.fresh end.0 (accepted_turned host new _ c.accept.result up.0 end.0 end.2 on) (stays_still host up.0 end.0 end.2.kept) (accepted_ok host new _ c.accept.result up.0 end.0 end.2 on);
         knows = λ kept known. knows_kept host up.0 end.0 end.2.kept new (up.2.booted refl).knows;
@@ -123,7 +123,7 @@ returns-in-Err-clause-end g c = λ text boots t is.
           done = inr (inl (Boot, boots, done.2.rebooted));
           calls = inr (inl (Boot, boots, done.2.effort));
           unwritten = λ on quiet. absurd (never_ended c.in-Err.end (subst IsReplied c.reply_at.ensures on));
-          unread = ended_unread c.in-Err.end done.2;
+          still = ended_unwritten c.in-Err.end done.2;
           leaves = λ on ok. absurd (cc (ok));
           writes = inr (Boot, boots, subst (KeptOutside (site_area host.site) t) (some_is _ quiet.0 done.0 quiet.1 done.1) quiet.2.kept);
           replied = record { piece = []; is_told = ap told (some_is _ done.0 quiet.0 done.1 quiet.1) ∙ quiet.2.quiet ∙ sym (append-nil (told t)); as_told = (c.reply_at.ensures, refl) };

@@ -47,7 +47,7 @@ returns-clause-end g c = λ text.
           calls = inr (inr (refl, between_of g.B.Shelf.calls g.B.Shelf.written _ _ 1 0 1 1 0 (omega arith) (omega arith) (omega arith) c.refuse.ensures.counted.once));
           writes = inl end.2.kept;
           unwritten = λ on quiet. end.2.kept;
-          unread = λ reads. absurd reads;
+          still = λ ends. absurd ends;
           leaves = λ on ok. absurd (cc (ok));
           replied = end.2.replied;
         };

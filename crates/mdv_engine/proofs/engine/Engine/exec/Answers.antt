@@ -77,6 +77,9 @@ returns-clause-end g c = λ t is.
         quiet = λ still.
             let same = quiet_told g.B.Shelf _ _ host c.args.command.now old.opened new.opened _ answer c.tell.result _ c.tell.ensures.answers.1 still c.carry_out-answer.ensures.counted in
             subst (λ (x : Tale). KeptOutside nowhere x end.0) (some_is _ done.0 t done.1 (same ∙ is)) end.2.kept;
+        spent = λ ended.
+            let same = ap g.B.Shelf.tale (spent_told g.B.Shelf _ _ host c.args.command.now old.opened new.opened _ answer c.tell.ensures.answers.0 (rw ended at c.tell.ensures.answers.1) c.carry_out-answer.ensures.counted) in
+            subst (λ (x : Tale). KeptOutside nowhere x end.0) (some_is _ done.0 t done.1 (same ∙ is)) end.2.kept;
         done = λ ok. done_still host old c.args.command.now done.0 end.0 end.2.kept (done.2.done (told_ok _ answer _ (rw ok at c.tell.ensures.answers.1)));
         lost = λ active listed is.
             let same = ap g.B.Shelf.tale (c.tell.ensures.counted.silent (subst IsLost (sym is) tt)) in
