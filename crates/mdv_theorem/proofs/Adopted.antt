@@ -1,19 +1,25 @@
 -- Which table a boot may adopt, by what it read: one that a boot may find by the history with which the drives stand.
-use Rattle.std.proofs.Common.{◌≡◌, ℕ, ◌+◌, ◌*◌, ◌<◌, ◌^◌, max, Bool, true, List, [], ◌∷◌, length, Option, Some, None, Contains, refl, sym, ◌∙◌, ap, subst, arith, ◌⊎◌, inl, inr, false, not, ◌&&◌, MatchOption, ◌≤◌, replicate}
-use Rattle.std.proofs.lemmas.Bool.{or_left, or_right}
+use Rattle.std.proofs.Common.{◌≡◌, ℕ, ◌+◌, ◌*◌, ◌<◌, ◌^◌, max, Bool, true, List, [], ◌∷◌, length, Option, Some, None, Contains, refl, sym, ◌∙◌, ap, subst, arith, ◌⊎◌, inl, inr, ⊎_elim, false, not, ◌&&◌, MatchOption, ◌≤◌, map, replicate}
+use Rattle.std.specs.List.{find}
+use Rattle.std.specs.Prelude.{nat_le}
+use Rattle.std.proofs.lemmas.Bool.{and_from, false≢true, le-leb, or_left, or_right}
 use Rattle.std.proofs.lemmas.List.{length-map, length-replicate}
 use Rattle.mdv_base.specs.declared.block.TheConstants.{ZERO_BLOCK}
 use Rattle.mdv_record.specs.Record.{IsRecordOf}
 use Rattle.mdv_record.proofs.Rooms.{room_most}
 use Rattle.mdv_base.specs.DriveSet.{Drives, has_drive}
 use Rattle.mdv_base.specs.declared.drive.DriveNo.{DriveNo}
+use Rattle.mdv_base.specs.declared.drive.SliceName.{SliceName}
 use Rattle.mdv_base.specs.declared.mark.Identity.{Identity}
 use Rattle.mdv_base.specs.declared.mark.Mark.{Mark}
 use Rattle.mdv_base.specs.declared.name.Key.{Key}
+use Rattle.mdv_base.specs.declared.place.Place.{Place}
 use Rattle.mdv_databases.specs.Going.{IsCurrentOf}
+use Rattle.mdv_databases.specs.Meeting.{MayBeFound, is_on}
 use Rattle.mdv_databases.specs.Standing.{Stand}
 use Rattle.mdv_databases.proofs.Booting.{shown_current}
 use Rattle.mdv_databases.proofs.Lists.{current_in, current_key}
+use Rattle.mdv_name.specs.SliceIndex.{slice_at}
 use Rattle.mdv_name.specs.Sound.{IsSound}
 use Rattle.mdv_name.specs.declared.geometry.Geometry.{Geometry}
 use Rattle.mdv_quorum.specs.World.{after_all}
@@ -23,11 +29,14 @@ use Rattle.mdv_replica.specs.declared.forms.Gate.TheVariants.{Open}
 use Rattle.mdv_replica.specs.declared.replica.Head.{Head}
 use Rattle.mdv_replica.specs.declared.replica.Slot.{Slot}
 use Rattle.mdv_replica.specs.declared.replica.Slot.TheVariants.{First, Second}
+use Rattle.mdv_replica.specs.Replica.{slot_blocks}
+use Rattle.mdv_record.proofs.Lengths.{length-record_text}
 use Rattle.mdv_shelf.specs.Everywhere.{Image}
 use Rattle.mdv_shelf.specs.Settle.{IsSynced}
 use Rattle.mdv_shelf.specs.Tale.{MayLeave, Tale, last, values, IsImage}
 use Rattle.mdv_shelf.proofs.Everywhere.{last_image, everywhere_begun}
-use Rattle.mdv_shown.specs.Choice.{IsChosen, greatest_seen, spots_seen}
+use Rattle.mdv_shown.specs.Choice.{HaveRead, IsChosen, greatest_seen, spot_seen, spots_seen}
+use Rattle.mdv_shown.proofs.Choice.{chosen_voted}
 use Rattle.mdv_shown.specs.Site.{place_on}
 use Rattle.mdv_shown.specs.declared.site.Site.{Site}
 use Rattle.mdv_shown.specs.Sites.{site_of}
@@ -35,32 +44,41 @@ use Rattle.mdv_shown.proofs.Sites.{site_is, law_sites}
 use Rattle.mdv_shown.proofs.Slots.{reads_one, shows_one}
 use Rattle.mdv_standing.specs.Databases.{Database, log_in, log_of}
 use Rattle.mdv_standing.specs.Laws.{FoundHolds, ShowsNoTable}
-use Rattle.mdv_standing.specs.Matching.{spots_of}
-use Rattle.mdv_standing.specs.Worlds.{IsWorld}
+use Rattle.mdv_standing.specs.Adopting.{IsLook}
+use Rattle.mdv_standing.specs.Listed.{HasPlace, HavePlaces}
+use Rattle.mdv_standing.specs.Matching.{spots_of, tables_of}
+use Rattle.mdv_standing.specs.Worlds.{IsWorld, Turned}
 use Rattle.mdv_standing.proofs.Adopting.{finds}
 use Rattle.mdv_standing.proofs.Lawful.{found_holds}
 use Rattle.mdv_standing.proofs.Looking.{looks}
 use Rattle.mdv_store.specs.Adopting.{WasReadOf}
-use Rattle.mdv_store.specs.Boot.{IsAdopted, IsDrawn, IsWrittenTo, greatest_number, seat_for, seats_of}
+use Rattle.mdv_store.specs.Boot.{IsAdopted, IsDrawn, IsWrittenTo, greatest_number, is_seated, seat_for, seats_of}
 use Rattle.mdv_store.specs.Opened.{Opened, least_room}
 use Rattle.mdv_store.specs.Records.{Spells}
 use Rattle.mdv_store.specs.Seats.{active_of}
 use Rattle.mdv_store.specs.Taking.{IsToAdopt}
 use Rattle.mdv_store.specs.Text.{blocks_for}
 use Rattle.mdv_store.proofs.Adoptions.{got_contains, same_identity_self}
-use Rattle.mdv_store.proofs.Reading.{to_adopt}
+use Rattle.mdv_store.proofs.Passes.{mapped, unmapped}
+use Rattle.mdv_store.proofs.Reading.{lies_at, seated_place, to_adopt}
 use Rattle.mdv_store.proofs.Records.{spelled_of}
+use Rattle.mdv_store.proofs.Rooms.{room_least}
+use Rattle.mdv_store.proofs.Seating.{seats_places}
+use Rattle.mdv_store.proofs.Spotting.{line_found}
 use Rattle.mdv_store_law.specs.Laws.{restarted}
 use Rattle.mdv_store_law.specs.Log.{Log, Version, is_firm}
 use Rattle.mdv_survey.specs.declared.choosing.Choice.TheVariants as chosen
-use Rattle.mdv_survey.specs.Choice.{is_of, same_identity, IsChoice, IsChoiceAmong}
+use Rattle.mdv_survey.specs.Choice.{is_of, place_of, same_identity, IsChoice, IsChoiceAmong}
+use Rattle.mdv_survey.proofs.Identities.{find_none, find_some}
 use Rattle.mdv_survey.specs.Newest.{HasTable, IsGreatest, IsMarked, IsTableIn}
 use Rattle.mdv_survey.specs.Replica.{Contents, IsFoundIn}
-use Rattle.mdv_survey.specs.Survey.{IsSurvey, IsSurveyOf}
+use Rattle.mdv_survey.specs.Survey.{IsSurvey, IsSurveyOf, answers_in}
 use Rattle.mdv_survey.specs.declared.replica.Newest.{Newest}
 use Rattle.mdv_survey.specs.declared.replica.Replica.{Replica}
 use Rattle.mdv_survey.specs.declared.replica.Survey.{Survey}
 use Rattle.mdv_record.specs.Text.{record_text}
+use Rattle.mdv_table.proofs.Testing.{same_place-true}
+use Rattle.mdv_table.specs.Tests.{same_place}
 use Rattle.mdv_table.specs.Plan.{places_of}
 use Rattle.mdv_table.specs.Table.{IsListsOf, IsOfGeometry}
 use Rattle.mdv_table.specs.declared.plan.Lists.{Lists}
@@ -88,6 +106,14 @@ use Rattle.mdv_record.specs.Parsing.{read_of}
 pub open_shows : (head : Head) (slot : Slot) (mark : Mark) (bytes : ℕ) → gate_of head slot ≡ Open mark bytes → shows head ≡ true
 open_shows head First mark bytes is = or_left (is_open head.first) (is_open head.second) (ap is_open is)
 open_shows head Second mark bytes is = or_right (is_open head.first) (is_open head.second) (ap is_open is)
+
+-- where one passes the test, one is found
+module _ {X : Type 0} (p : X → Bool) (xs : List X) where
+  found_one : (x : X) → Contains xs x → p x ≡ true → (y : X) × (find p xs ≡ Some y) × Contains xs y × (p y ≡ true)
+  found_one x has is = by (find p xs) refl where
+    by : (o : Option X) → find p xs ≡ o → (y : X) × (find p xs ≡ Some y) × Contains xs y × (p y ≡ true)
+    by None none = absurd (false≢true (sym (find_none p xs none x has.0 has.1 has.2) ∙ is))
+    by (Some y) some = (let one = find_some p xs y some in (y, some, one.0, one.1))
 
 -- a table of these drives lists few places
 few_listed : (g : Geometry) (lists : Lists) → IsListsOf g lists → length (places_of lists) ≤ 50
@@ -121,7 +147,16 @@ pub record Adopts (g : Geometry) (site : Site) (content : Image) (table : Table)
   pub by : IsAdoptable survey newest
   pub is_table : newest.table ≡ table
 
--- what a boot has adopted it might adopt
+-- what a boot has drawn and written it might adopt
+abbrev pub adoptable : (content new : Image) (survey : Survey) (newest : Newest) (replica : Replica) (seats : List Seat) (number : ℕ) → IsDrawn survey newest replica seats number → IsWrittenTo (λ hand of. WritesTo content new hand.seats) newest replica seats number → IsAdoptable survey newest
+adoptable content new survey newest replica seats number drawn written = record {
+  replica = replica;
+  seats = seats;
+  number = number;
+  drawn = drawn;
+  written = record { hand = written.hand; identity_is = written.identity_is; number_is = written.number_is; seats_are = written.seats_are; wrote = tt };
+}
+
 pub adopts_of : (calls : Outcomes) (host : Host) (content new : Image) (up : Drives) {e : BootEnd} (survey : Survey) (o : Opened) → IsReadOf calls host content up e survey → IsAdopted calls (λ hand of. WritesTo content new hand.seats) host.site survey o → Adopts host.drives host.site content o.table
 adopts_of calls host content new up survey o read a = record {
   calm = read.calm;
@@ -129,7 +164,7 @@ adopts_of calls host content new up survey o read a = record {
   survey_is = read.survey_is;
   of = read.of;
   newest = a.newest;
-  by = record { replica = a.replica; seats = a.seats; number = a.number; drawn = a.drawn; written = record { hand = a.written.hand; identity_is = a.written.identity_is; number_is = a.written.number_is; seats_are = a.written.seats_are; wrote = tt } };
+  by = adoptable content new survey a.newest a.replica a.seats a.number a.drawn a.written;
   is_table = sym (ap (λ (x : Opened). x.table) a.is);
 }
 
@@ -251,23 +286,95 @@ module _ (g : Geometry) (key : Key) (all : List Database) (t : Tale) (sound : Is
       let w = (stand.worlds (last t) (last_image t)).worlds d (current_in key all d current.current) in
       (w.0, subst (λ (i : Identity). IsWorld (Spells g) site i d.log w.0 (last t)) current.as_begun (subst (λ (k : Key). IsWorld (Spells g) (site_of g k) d.identity d.log w.0 (last t)) (current_key key all d current.current) w.1))
 
+  abbrev image : Image
+  image = last t
+
+  is_image : IsImage began image
+  is_image = subst (λ (i : Image). IsImage began i) (begun_last image []) (last_image began)
+
+  -- what was read of it, where the drives stand with it
+  look : Turned (Spells g) site a.written.hand.identity d.log world.0 image (IsLook (spots_seen to.seen)) (λ v. HaveRead (Spells g) site a.written.hand.identity (tables_of d.log.family) v image to.seen)
+  look = looks (Spells g) site a.written.hand.identity d.log world.0 image world.1 to.seen (to.read.own image is_image)
+
+  abbrev w : Core
+  w = after_all world.0 look.events
+
   -- and the version of its log that has this mark is found
   pub adopted_found : IsFoundBy g (log_of all key) newest.table
   adopted_found =
-      let image : Image = last t in
-      let is = subst (λ (i : Image). IsImage began i) (begun_last image []) (last_image began) in
       let read = to.read in
-      let look = looks (Spells g) site a.written.hand.identity d.log world.0 image world.1 to.seen (read.own image is) in
-      let w = after_all world.0 look.events in
       let found = finds (Spells g) site a.written.hand.identity d.log w image look.world to.seen look.known to.s to.slot to.mark read.chosen in
       let v = found.version in
       let same : v.table ≡ newest.table =
-      (shows_one (Spells g) (reads_one (read_of g)) (place_on to.s.line to.s.first.blocks to.s.first.count to.s.number) (image to.s.line.at.drive.0) to.s.head to.slot to.mark to.mark v.table newest.table found.shows (read.shows image is)).1 in
+      (shows_one (Spells g) (reads_one (read_of g)) (place_on to.s.line to.s.first.blocks to.s.first.count to.s.number) (image to.s.line.at.drive.0) to.s.head to.slot to.mark to.mark v.table newest.table found.shows (read.shows image is_image)).1 in
       let small : greatest_seen to.seen + 1 < 2 ^ 63 = subst (λ (n : ℕ). n < 2 ^ 63) (sym (a.written.number_is) ∙ to.number_is) a.drawn.small in
       let holds = found_holds (Spells g) g site a.written.hand.identity d.log w image to.seen to.s to.slot v (site_is g key sound) (stand.logs d (current_in key all d current.current)) look.world look.known
       (subst (λ (m : Mark). IsChosen to.seen to.s to.slot m) (sym found.is.marked) read.chosen) found.is.one_of
       (subst (λ (u : Table). covers (is_majority (is_in (spots_seen to.seen))) (spots_of site u.plan.lists) ≡ true) (sym same) read.quorum) small in
       subst (λ (lg : Log). IsFoundBy g lg newest.table) (sym same_log) (record { version = v; one_of = found.is.one_of; number = greatest_seen to.seen + 1; holds = holds; is_table = same })
+
+  -- each place that the table lists has its replica
+  its_place : (p : Place) → Contains (places_of newest.table.plan.lists) p → HasPlace (Spells g) site a.written.hand.identity image p
+  its_place p has =
+      let found = adopted_found in
+      let own = to.read.own image is_image to.s to.read.chosen.one_of in
+      let voted = chosen_voted (Spells g) site a.written.hand.identity (tables_of d.log.family) w image to.seen look.known to.s to.slot to.mark to.read.chosen in
+      let have : HavePlaces (Spells g) site a.written.hand.identity d.log image =
+      ⊎_elim (λ have. have)
+      (λ none. absurd (none.none (spot_seen to.s) voted.number (record { holds = (look.world.shows.each to.s.line to.s.number to.s.first to.s.head own).holds; newest = voted.newest }))) look.world.listed in
+      have found.version p (subst (λ (lg : Log). Contains lg.family found.version) same_log found.one_of) (subst (λ (u : Table). Contains (places_of u.plan.lists) p) (sym found.is_table) has)
+
+  -- whose slots have room for the text
+  fits : (p : Place) → Contains (places_of newest.table.plan.lists) p → text ≤ slot_blocks p.blocks
+  fits p has =
+      let places = places_of newest.table.plan.lists in
+      let identity = a.replica.head.master.identity in
+      let least = room_least (seats_of replicas identity text places) (seat_for replicas identity text p) (mapped (seat_for replicas identity text) places p has) in
+      let room = ap least_room (seats_places replicas identity text places) in
+      let bytes = length-record_text newest.table in
+      omega (arith, least, room, spelled.1.in_room, bytes)
+
+  -- So each such place has it in hand, if it lies on a drive that passes a test, and each of a slice's that passes it answers.
+  module _ (on : ℕ → Bool) (answer : (line : SliceLine) → Contains site.lines line → on line.at.drive.0 ≡ true → answers_in calm survey.failed line.at.drive ≡ true) where
+    abbrev on_place : Place → Bool
+    on_place place = is_on on (slice_at site.lines place.slice)
+
+    abbrev seated : Place → Replica → Bool
+    seated p r = is_seated a.replica.head.master.identity p text r
+
+    on_line : (line : SliceLine) (p : Place) → Contains site.lines line → line.name ≡ p.slice → on_place p ≡ on line.at.drive.0
+    on_line line p has same = ap (λ (n : SliceName). is_on on (slice_at site.lines n)) (sym same) ∙ ap (is_on on) (line_found g sound key line has)
+
+    there : (p : Place) → Contains (places_of newest.table.plan.lists) p → on_place p ≡ true → (r : Replica) × Contains replicas r × (seated p r ≡ true)
+    there p has is =
+        let h = its_place p has in
+        let r : Replica = record { line = h.line; number = h.number; first = h.first; head = h.head } in
+        let same : h.line.name ≡ p.slice = ap (λ (q : Place). q.slice) (sym h.is) in
+        let found = of.all r h.own.found (answer h.line h.own.found.one_of (sym (on_line h.line p h.own.found.one_of same) ∙ is)) in
+        let lies : place_of r ≡ p = lies_at site r (survey_is.each r found).seated ∙ sym h.is in
+        let room = subst (λ (n : ℕ). nat_le text (slot_blocks n) ≡ true) (ap (λ (q : Place). q.blocks) h.is) (le-leb text (slot_blocks p.blocks) (fits p has)) in
+        let of_it = subst (λ (i : Identity). same_identity i a.replica.head.master.identity ≡ true) (sym its ∙ sym h.own.of_identity) (same_identity_self a.replica.head.master.identity) in (
+          r,
+          found,
+          and_from (is_of a.replica.head.master.identity r) (same_place (place_of r) p && nat_le text (slot_blocks r.first.blocks)) of_it
+              (and_from (same_place (place_of r) p) (nat_le text (slot_blocks r.first.blocks)) ((same_place-true (place_of r) p).1 lies) room),
+        )
+
+    pub seat_has : (s : Seat) → Contains a.seats s → on_place s.place ≡ true → (r : Replica) × (s.replica ≡ Some r) × (on r.line.at.drive.0 ≡ true)
+    seat_has s has is =
+        let at = unmapped (seat_for replicas a.replica.head.master.identity text) (places_of newest.table.plan.lists) s (subst (λ (l : List Seat). Contains l s) a.drawn.hand.seats_are has) in
+        let one = there at.0 at.1 (ap (λ (x : Seat). on_place x.place) at.2 ∙ is) in
+        let found = found_one (seated at.0) replicas one.0 one.1 one.2 in
+        let lies = seated_place site a.replica.head.master.identity at.0 text found.0 (survey_is.each found.0 found.2).seated found.3 in
+        let drive = on_line found.0.line at.0 (of.each found.0 found.2).one_of (ap (λ (q : Place). q.slice) lies) in
+        (found.0, ap (λ (x : Seat). x.replica) (sym at.2) ∙ found.1, sym drive ∙ ap (λ (x : Seat). on_place x.place) at.2 ∙ is)
+
+  -- and where each table that a boot may find lists these places, so do those in hand
+  pub seats_list : (list : List Place) → ((v : Version) → MayBeFound (log_of all key).family v → v.table.plan.lists ≡ One list) → map (λ (s : Seat). s.place) a.seats ≡ list
+  seats_list list lists =
+      let found = adopted_found in
+      let same : newest.table.plan.lists ≡ One list = ap (λ (u : Table). u.plan.lists) (sym found.is_table) ∙ lists found.version (found.one_of, found.holds.not_older) in
+      ap (map (λ (s : Seat). s.place)) a.drawn.hand.seats_are ∙ seats_places replicas a.replica.head.master.identity text (places_of newest.table.plan.lists) ∙ ap places_of same
 
 -- So a table that a boot may adopt of drives that stand with a history is one of its versions.
 pub adopts_found : (host : Host) → IsSound host.drives → SeesOwn host → (h : History) (t : Tale) → StandsAt host h t → (content : Image) → IsSame content (contents t) → (table : Table) → Adopts host.drives host.site content table → IsFoundBy host.drives (log_of h.databases (key_of host)) table

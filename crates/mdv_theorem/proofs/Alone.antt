@@ -113,7 +113,7 @@ module _ (host : Host) (sound : IsSound host.drives) (site : host.site ≡ site_
 
       never_few : length slices < 2 * count_by chosen slices → (readable needed : ℕ) → IsShort survey readable needed → ⊥
       never_few most readable needed short =
-          let up = most_up host sound site slices places chosen (answers_on read.calm survey) made most (λ slice place is_chosen has. on_calm slice place is_chosen has (has_drive read.calm place.drive) refl) in
+          let up = most_up host sound site slices places chosen (answers_on read.calm survey) made (λ slice place is_chosen has. on_calm slice place is_chosen has (has_drive read.calm place.drive) refl) most in
           never_short host.drives history.databases (key_of host) read.calm survey at sound stands.databases is of lasting.firm places (λ v may. lasting.all v may)
           (subst (λ (x : Site). length places < 2 * count_by (λ (place : Place). is_on (answers_on read.calm survey) (slice_at x.lines place.slice)) places) site up) readable needed short
 

@@ -1,5 +1,5 @@
--- No run of a life is over because fewer than half of its database's places are active, where no call failed on the drives of more than half of the slices on which a line of it, or of an earlier run, made the database.
-use Rattle.std.proofs.Common.{◌≡◌, inl, inr, ℕ, ◌+◌, ◌-◌, ◌^◌, ◌≤◌, min, Bool, true, false, List, [], ◌++◌, Option, Some, Contains, length, refl, sym, ◌∙◌, ap, subst, arith, ◌∷◌, None, append-nil, append_assoc}
+-- No run of a life is over because fewer than half of its database's places are active, where no call failed on the drives of half of the slices or more on which a line of it, or of an earlier run, made the database.
+use Rattle.std.proofs.Common.{◌≡◌, inl, inr, ℕ, ◌+◌, ◌-◌, ◌^◌, ◌<◌, ◌≤◌, ◌⊎◌, min, Bool, true, false, List, [], ◌++◌, Option, Some, Contains, length, refl, sym, ◌∙◌, ap, subst, arith, ◌∷◌, None, append-nil, append_assoc}
 use Rattle.std.proofs.lemmas.Bool.{cases_lt, lt-ltb, ltb-true}
 use Rattle.std.proofs.lemmas.List.{append_cancel_left}
 use Rattle.std.proofs.lemmas.List.Elements.{Contains-append_cases, Contains-append_left}
@@ -16,6 +16,7 @@ use Rattle.mdv_engine_law.specs.declared.answer.Answer.TheVariants.{Said, Over a
 use Rattle.mdv_engine_law.specs.declared.answer.Outcome.TheVariants as outcome
 use Rattle.mdv_engine_law.specs.declared.host.Host.{Host}
 use Rattle.mdv_name.specs.declared.geometry.Geometry.{Geometry}
+use Rattle.mdv_name.specs.declared.slice_lines.SliceLine.{SliceLine}
 use Rattle.mdv_port.specs.Script.{Script, at_end, line, spent, too_long}
 use Rattle.mdv_run_law.specs.Lives.{Ran, host_of}
 use Rattle.mdv_run_law.specs.Run.{At, Counts, EndsAs, IsAnswered, IsSaid, LinesTold, NextLine, Over, Progress, RoseTo, RunsFrom, Stretch, behind_boot, broken, drive_failures, ended, no_line, one_more, started, unread}
@@ -28,7 +29,7 @@ use Rattle.mdv_shelf.specs.Tale.{told}
 use Rattle.mdv_status.specs.Telling.{Said as SaidBytes, replies_in}
 use Rattle.mdv_table.specs.Slices.{IsSound}
 use Rattle.mdv_theorem.specs.Exchanges.{Exchange, IsTold, exchanges, exchanges_by, exchanges_of}
-use Rattle.mdv_theorem.specs.Observed.{IsCalmOn, MostLieOn, RunsKeepEnough}
+use Rattle.mdv_theorem.specs.Observed.{EnoughStay, HalfLieOn, IsCalmOn, MostLieOn, RunsKeepEnough}
 use Rattle.mdv_theorem.specs.Running.{LivesOn}
 use Rattle.mdv_theorem.specs.Words.{IsMadeOn}
 use Rattle.mdv_theorem.proofs.Borne.{Bears, IsBorneBy, answered_borne, boot_borne, lost_never, made_bears, memory_bears, said_bears, told_bears}
@@ -48,6 +49,10 @@ never_both now top calm rose = (let less = ltb-true now top calm in omega (arith
 calm_where : (now top : ℕ) → (top ≤ now → ⊥) → nat_lt now top ≡ true
 calm_where now top never = elim (cases_lt now top) [ inl less ↦ lt-ltb now top less | inr rose ↦ absurd (never rose) ]
 
+-- below its type's end a count that stayed didn't rise
+never_same : (now later close top : ℕ) → later ≤ close → close < top → later ≡ now → later ≡ min (now + 1) top → ⊥
+never_same now later close top high below same once = omega (arith, high, below, same, once)
+
 -- A line in work has no reply.
 untold : (script : Script) (one : Exchange) (reply : List ℕ) → Contains (exchanges script []) one → IsTold one reply → ⊥
 untold at_end one reply has is = never_in one has
@@ -57,7 +62,7 @@ untold (line text more) one reply has is = (let none : None ≡ one.reply = ap (
 
 module _ (drives : Geometry) (name : List ℕ) (made : Image) (before : List Ran) (fresh : ℕ) (script : Script) (stretch : Stretch) (start close : Counts) (s : Story) (of_table : Contains drives.hosts name) (old : stretch.old ≡ Some s)
     (each : AtEach (LivesOn drives name made before fresh script stretch start) stretch.old stretch.before stretch.new stretch.after) (more : List ℕ) (slices : List SliceName) (is_made : IsMadeOn slices (exchanges_by name before ++ exchanges_of script more))
-    (most : MostLieOn drives name (IsCalmOn start close) slices) where
+    (enough : EnoughStay drives name start close slices) where
   abbrev host : Host
   host = host_of drives name fresh
 
@@ -65,8 +70,28 @@ module _ (drives : Geometry) (name : List ℕ) (made : Image) (before : List Ran
   abbrev calm : ℕ → Bool
   calm drive = is_calm (start.drives drive) (close.drives drive)
 
-  most_calm : MostLieOn drives name (λ (drive : DriveNo). calm drive.0 ≡ true) slices
-  most_calm = record { chosen = most.chosen; most = most.most; each = λ slice at is has. calm_where (close.drives at.drive.0) (min (start.drives at.drive.0 + 1) (2 ^ 64 - 1)) (most.each slice at is has) }
+  is_calm_on : (drive : DriveNo) → IsCalmOn start close drive → calm drive.0 ≡ true
+  is_calm_on drive never = calm_where (close.drives drive.0) (min (start.drives drive.0 + 1) (2 ^ 64 - 1)) never
+
+  abbrev MostCalm : Type 0
+  MostCalm = MostLieOn drives name (λ (drive : DriveNo). calm drive.0 ≡ true) slices
+
+  most_calm : MostLieOn drives name (IsCalmOn start close) slices → MostCalm
+  most_calm most = record { chosen = most.chosen; most = most.most; each = λ slice at is has. is_calm_on at.drive (most.each slice at is has) }
+
+  half_calm : HalfLieOn drives name (λ (drive : DriveNo). calm drive.0 ≡ true) slices
+  half_calm = elim enough [
+    | inl most ↦ record { chosen = most.chosen; half = (let more = most.most in omega (arith, more)); each = λ slice at is has. is_calm_on at.drive (most.each slice at is has) }
+    | inr half ↦ record { chosen = half.0.chosen; half = half.0.half; each = λ slice at is has. is_calm_on at.drive (half.0.each slice at is has) }
+  ]
+
+  -- more than half are calm, or of each drive with lines of the host's it is told whether a call failed on it
+  most_or_told : (now later : Counts) → ((drive : ℕ) → later.drives drive ≤ close.drives drive)
+      → MostCalm ⊎ ((line : SliceLine) → Contains host.site.lines line → (drive_failures now later line.at.drive.0).none → (drive_failures now later line.at.drive.0).some → ⊥)
+  most_or_told now later high = elim enough [
+    | inl most ↦ inl (most_calm most)
+    | inr half ↦ inr (λ line has same once. never_same (now.drives line.at.drive.0) (later.drives line.at.drive.0) (close.drives line.at.drive.0) (2 ^ 64 - 1) (high line.at.drive.0) (half.1 line has) same once)
+  ]
 
   unfailed : (now later : Counts) → RoseTo start now → ((drive : ℕ) → later.drives drive ≤ close.drives drive) → (drive : ℕ) → calm drive ≡ true → (drive_failures now later drive).some → ⊥
   unfailed now later low high drive is once =
@@ -85,7 +110,7 @@ module _ (drives : Geometry) (name : List ℕ) (made : Image) (before : List Ran
       let same : at.bytes ≡ said = append_cancel_left (told (tale_of s)) at.bytes said (sym at.is_told ∙ is_told) in
       let its_lines = at.lines ∙ ap (λ (x : List ℕ). exchanges_by name before ++ exchanges_of script x) same in
       let was = made_there drives name made before fresh script of_table (tale_of s) (tale_of (marked s marks)) at slices (exchanges_by name before ++ exchanges_of script more) is_made (subst (λ (x : List Exchange). Contains x is_made.made) (sym its_lines) has) in
-      boot_borne calm (drive_failures now later) (unfailed now later low high) drives name fresh at.sound slices most_calm at.ran (tale_of (marked s marks)) was kept next answer reads boots
+      boot_borne calm (drive_failures now later) (unfailed now later low high) drives name fresh at.sound slices half_calm (most_or_told now later high) at.ran (tale_of (marked s marks)) was kept next answer reads boots
 
   -- A point between two lines of the run, by which this was told: behind these lines, and with such places open where that line is among them, or among those of earlier runs.
   record IsThere (said : List ℕ) (at : At) : Type 0 where
@@ -132,7 +157,7 @@ module _ (drives : Geometry) (name : List ℕ) (made : Image) (before : List Ran
     splits = λ replies. ap (λ (x : Script). record { text = text; reply = Some (text_of answer) } ∷ exchanges x replies) (sym is.0);
     bears = λ has.
         let same = the_only (record { text = text; reply = Some (text_of answer) }) is_made.made has in
-        made_bears calm (drive_failures now.counts later) (unfailed now.counts later low high) drives name fresh sound slices most_calm now.kept next is_made.made answer
+        made_bears calm (drive_failures now.counts later) (unfailed now.counts later low high) drives name fresh sound slices half_calm now.kept next is_made.made answer
         (subst (λ (e : Exchange). IsAnswered (drive_failures now.counts later) host now.kept e.text answer next) same is.2) said (ap (λ (e : Exchange). e.reply) (sym same)) is_made.force is_made.count is_made.blocks is_made.asks is_made.told;
   }
 
@@ -252,11 +277,11 @@ module _ (drives : Geometry) (name : List ℕ) (made : Image) (before : List Ran
       (first_borne now kept (Ends over) boots (λ drive. (let same = ap (λ (c : Counts). c.drives drive) runs.0 in omega arith)) booted.marks (runs.1.quiet ∙ booted.is) has)
 
 pub runs_keep_enough : RunsKeepEnough
-runs_keep_enough drives name made before fresh script stretch start close s of_table old each tale end_status whole slices is_made most active listed panic =
+runs_keep_enough drives name made before fresh script stretch start close s of_table old each tale end_status whole slices is_made enough active listed panic =
     let run = whole.runs in
     let to = run.point.in_time.drives 0 s old in
     let low : RoseTo start run.booted = record { drives = run.rose.drives; source = (let same = run.rose.source in omega arith); replies = (let same = run.rose.replies in omega arith) } in
-    runs_never drives name made before fresh script stretch start close s of_table old each whole.more slices is_made most run.answer run.booted run.by run.kept end_status whole.last active listed (record {
+    runs_never drives name made before fresh script stretch start close s of_table old each whole.more slices is_made enough run.answer run.booted run.by run.kept end_status whole.last active listed (record {
       marks = to.0;
       is = to.1;
       is_told = run.point.quiet s (marked s to.0) old to.1 ∙ sym (append-nil (told (tale_of s)));

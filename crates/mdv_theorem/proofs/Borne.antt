@@ -1,29 +1,30 @@
--- Where more than half of the slices on which a database was made are on drives on which no call fails: a boot finds a place at each of these, a creation makes it, and it stays active. So no boot and no line tells that
--- places were lost.
+-- Where half of the slices on which a database was made, or more, are on drives on which no call fails: a boot that adopts its table finds a place at each of these, a creation makes it, and it stays active. So no boot and no
+-- line tells that places were lost. Where no more than half are, a boot may find nothing: then no creation is taken, since a call failed in it.
 use Rattle.std.proofs.Common.{◌≡◌, ◌⊎◌, inl, inr, ℕ, ◌*◌, ◌≤◌, ◌<◌, Bool, true, false, cond, List, [], ◌∷◌, Option, None, Some, MatchOption, Contains, length, refl, sym, ◌∙◌, ap, subst, arith, ◌+◌}
 use Rattle.std.proofs.lemmas.Bool.{false≢true, leb-false}
 use Rattle.std.proofs.lemmas.List.{length-map}
 use Rattle.std.specs.List.{cons_option}
+use Rattle.std.specs.Bool.{MatchBool}
 use Rattle.std.specs.Prelude.{count_by, not, ◌&&◌}
 use Rattle.mdv_base.specs.DriveSet.{Drives, has_drive}
 use Rattle.mdv_base.specs.declared.drive.DriveNo.{DriveNo}
 use Rattle.mdv_base.specs.declared.drive.SliceName.{SliceName}
 use Rattle.mdv_base.specs.declared.place.Place.{Place}
-use Rattle.mdv_databases.proofs.Finding.{most_borne}
 use Rattle.mdv_databases.proofs.Meeting.{databases_meet}
-use Rattle.mdv_databases.specs.Meeting.{MostOn, answers_on, is_on}
-use Rattle.mdv_engine_law.proofs.Allowed.{allowed_none}
+use Rattle.mdv_databases.specs.Meeting.{MostOn, is_on}
+use Rattle.mdv_engine_law.proofs.Allowed.{allowed_clean, allowed_none}
 use Rattle.mdv_engine_law.specs.Answers.{accepted, refusing}
 use Rattle.mdv_engine_law.specs.Commands as came
 use Rattle.mdv_engine_law.specs.Commands.{CameTo, ComesTo, Effect, Fault, GivesUp, IsAllowed, KeepsTab, Wanting, case_of}
 use Rattle.mdv_engine_law.specs.Hosts.{identity_of, key_of, lines_asked}
-use Rattle.mdv_engine_law.specs.Line.{IsReadOf, IsRebooted, IsSame, Kept, Memory, WritesTo, answered_by, booted_with, contents, opened_by}
+use Rattle.mdv_engine_law.specs.Line.{IsReadOf, IsRebooted, IsSame, IsUpBy, Kept, Memory, WritesTo, answered_by, booted_with, contents, opened_by}
 use Rattle.mdv_engine_law.specs.Replies.{ok_line, text_of}
 use Rattle.mdv_engine_law.specs.declared.answer.Answer.{Answer}
 use Rattle.mdv_engine_law.specs.declared.answer.Answer.TheVariants.{Said, Over as Ends}
 use Rattle.mdv_engine_law.specs.declared.answer.Ended.{Ended}
 use Rattle.mdv_engine_law.specs.declared.answer.Ended.TheVariants as stop
 use Rattle.mdv_engine_law.specs.declared.host.Host.{Host}
+use Rattle.mdv_home.specs.View.{own_view}
 use Rattle.mdv_look.proofs.Bringing.{count_cons}
 use Rattle.mdv_look.proofs.Looks.{count_length}
 use Rattle.mdv_name.specs.SliceIndex.{HasSlice, slice_at}
@@ -44,7 +45,7 @@ use Rattle.mdv_shown.specs.Sites.{is_line_of, site_of}
 use Rattle.mdv_store.proofs.Seated.{seat_is}
 use Rattle.mdv_store.proofs.Sitting.{contains_behind, contains_first, left_count, replica_of}
 use Rattle.mdv_store.proofs.Spotting.{line_found}
-use Rattle.mdv_store.specs.Boot.{IsEndBy, IsInHand, TakesBoth, TakesClaimOrBoth, is_memory}
+use Rattle.mdv_store.specs.Boot.{IsEndBy, TakesBoth, TakesClaimOrBoth, is_memory}
 use Rattle.mdv_store.specs.Create.{replica_on, seats_asked}
 use Rattle.mdv_store.specs.Opened.{Opened}
 use Rattle.mdv_store.specs.Seats.{AreLeft, TakesSlot, active_of, drive_of, is_half_active, replicas_of}
@@ -53,7 +54,7 @@ use Rattle.mdv_store.specs.declared.booting.BootEnd.TheVariants as end
 use Rattle.mdv_store.specs.declared.seats.Seat.{Seat}
 use Rattle.mdv_survey.specs.Choice.{IsChoice}
 use Rattle.mdv_survey.specs.Replica.{IsFoundIn}
-use Rattle.mdv_survey.specs.Survey.{IsSurveyOf}
+use Rattle.mdv_survey.specs.Survey.{IsSurveyOf, answers_in}
 use Rattle.mdv_survey.specs.declared.choosing.Choice.TheVariants as chosen
 use Rattle.mdv_survey.specs.declared.replica.Newest.{Newest}
 use Rattle.mdv_survey.specs.declared.replica.Replica.{Replica}
@@ -67,9 +68,9 @@ use Rattle.mdv_words.specs.declared.command.Command.{Command}
 use Rattle.mdv_words.specs.declared.command.Command.TheVariants as command
 use Rattle.mdv_words.specs.declared.command.Command.TheVariants.{Create, Print, Read, Write}
 use Rattle.mdv_theorem.specs.Exchanges.{Asks, Exchange, IsTold}
-use Rattle.mdv_theorem.specs.Observed.{MostLieOn}
-use Rattle.mdv_theorem.proofs.Adopted.{IsBlind, blind_boot}
-use Rattle.mdv_theorem.proofs.Counting.{made_on, most_up, places_in}
+use Rattle.mdv_theorem.specs.Observed.{HalfLieOn, MostLieOn}
+use Rattle.mdv_theorem.proofs.Adopted.{IsAdoptable, IsBlind, adoptable, blind_bare, blind_boot, firm_shows, seat_has, seats_list}
+use Rattle.mdv_theorem.proofs.Counting.{half_up, made_on, most_up, places_in}
 use Rattle.mdv_theorem.proofs.Founded.{WasMade}
 use Rattle.mdv_theorem.proofs.Tables.{granted_done}
 
@@ -78,9 +79,9 @@ module _ (calm : ℕ → Bool) where
   abbrev pub is_borne : Replica → Bool
   is_borne r = calm (drive_of r)
 
-  -- more than half of the places have replicas on such drives
+  -- half of the places, or more, have replicas on such drives
   abbrev pub AreBorne : List Seat → Type 0
-  AreBorne seats = length seats < 2 * count_by is_borne (replicas_of seats)
+  AreBorne seats = length seats ≤ 2 * count_by is_borne (replicas_of seats)
 
   borne_half : (seats : List Seat) → AreBorne seats → is_half_active seats ≡ false → ⊥
   borne_half seats borne few =
@@ -107,10 +108,18 @@ module _ (calm : ℕ → Bool) where
       by false isnt (Some r) some rest = omega (arith, rest, count_cons is_borne r (replicas_of seats))
 
   -- what is open, of which that is so
-  pub record Bears (kept : Kept) : Type 0 where
+  pub record IsOpen (kept : Kept) : Type 0 where
     pub o : Opened
     pub opened : kept.memory.opened ≡ Some o
     pub borne : AreBorne o.seats
+
+  -- nothing is, behind a boot in which a call failed
+  pub record IsShut (kept : Kept) : Type 0 where
+    pub none : kept.memory.opened ≡ None
+    pub unclean : kept.memory.clean ≡ false
+
+  abbrev pub Bears : Kept → Type 0
+  Bears kept = IsOpen kept ⊎ IsShut kept
 
   -- it isn't the end of a run whose places were lost
   abbrev pub IsNoLoss : Ended → Type 0
@@ -160,33 +169,42 @@ module _ (calm : ℕ → Bool) where
 
     -- What a line comes to where that is so.
     module _ (host : Host) (kept next : Kept) (answer : Answer) where
-      opened_bears : Bears kept → next.memory.opened ≡ kept.memory.opened → Bears next
-      opened_bears b same = record { o = b.o; opened = same ∙ b.opened; borne = b.borne }
+      opened_bears : Bears kept → next.memory.opened ≡ kept.memory.opened → next.memory.clean ≡ kept.memory.clean → Bears next
+      opened_bears (inl b) same clean = inl (record { o = b.o; opened = same ∙ b.opened; borne = b.borne })
+      opened_bears (inr b) same clean = inr (record { none = same ∙ b.none; unclean = clean ∙ b.unclean })
 
       pub memory_bears : Bears kept → next.memory ≡ kept.memory → Bears next
-      memory_bears b same = opened_bears b (ap (λ (m : Memory). m.opened) same)
+      memory_bears b same = opened_bears b (ap (λ (m : Memory). m.opened) same) (ap (λ (m : Memory). m.clean) same)
+
+      -- a creation is taken only where nothing is open, and no call failed in the last boot
+      never_free : (slices : List SliceName) (force : Bool) (count blocks : ℕ) → IsAllowed (case_of host kept) (Create slices force count blocks) → Bears kept → ⊥
+      never_free slices force count blocks free (inl b) = never_shut kept.memory.opened b.o (allowed_none (case_of host kept) slices force count blocks free) b.opened
+      never_free slices force count blocks free (inr b) = false≢true (sym b.unclean ∙ allowed_clean (case_of host kept) slices force count blocks free)
+
+      -- what is open there is so
+      its_borne : Bears kept → (o : Opened) → kept.memory.opened ≡ Some o → AreBorne o.seats
+      its_borne (inl b) o opened = subst (λ (x : Opened). AreBorne x.seats) (opened_twice kept.memory.opened o b.o opened b.opened) b.borne
+      its_borne (inr b) o opened = absurd (never_shut kept.memory.opened o b.none opened)
 
       pub told_bears : (r : _) → answer ≡ refusing r → Bears next → IsBorneBy answer next
       told_bears r is b = subst (λ (a : Answer). IsBorneBy a next) (sym is) b
 
       effect_borne : (cmd : Command) → IsAllowed (case_of host kept) cmd → Bears kept → Effect calls host kept cmd answer next → IsBorneBy answer next
-      effect_borne (Create slices force count blocks) free b is = absurd (never_shut kept.memory.opened b.o (allowed_none (case_of host kept) slices force count blocks free) b.opened)
-      effect_borne (command.MakeStripe volume slice) free b is =
-          let its = subst (λ (o : Opened). AreBorne o.seats) (opened_twice kept.memory.opened is.1 b.o is.2 b.opened) b.borne in
-          subst (λ (a : Answer). IsBorneBy a next) (sym is.0) (record {
-            o = is.3.opened;
-            opened = ap (λ (m : Memory). m.opened) is.3.memory;
-            borne = left_borne (TakesSlot _ _) (λ r n took. ap (λ (x : Replica). x.line) took.2) is.1.seats is.3.opened.seats is.3.committed.tried.left its;
-          })
+      effect_borne (Create slices force count blocks) free b is = absurd (never_free slices force count blocks free b)
+      effect_borne (command.MakeStripe volume slice) free b is = subst (λ (a : Answer). IsBorneBy a next) (sym is.0) (inl (record {
+        o = is.3.opened;
+        opened = ap (λ (m : Memory). m.opened) is.3.memory;
+        borne = left_borne (TakesSlot _ _) (λ r n took. ap (λ (x : Replica). x.line) took.2) is.1.seats is.3.opened.seats is.3.committed.tried.left (its_borne b is.1 is.2);
+      }))
       effect_borne (Read volume at count) free b is = subst (λ (a : Answer). IsBorneBy a next) (sym is.3) (memory_bears b is.4.memory)
       effect_borne (Write volume at block) free b is = subst (λ (a : Answer). IsBorneBy a next) (sym is.3) (memory_bears b is.4)
       effect_borne (Print names) free b is = subst (λ (a : Answer). IsBorneBy a next) (sym is.3) (memory_bears b is.4.memory)
 
       gives_borne : (cmd : Command) (over : Ended) → IsAllowed (case_of host kept) cmd → Bears kept → GivesUp calls host kept cmd over next → IsNoLoss over
-      gives_borne (Create slices force count blocks) (stop.Lost active listed) free b gives = never_shut kept.memory.opened b.o (allowed_none (case_of host kept) slices force count blocks free) b.opened
+      gives_borne (Create slices force count blocks) (stop.Lost active listed) free b gives = never_free slices force count blocks free b
       gives_borne (command.MakeStripe volume slice) (stop.Lost active listed) free b gives =
-          let its = subst (λ (o : Opened). AreBorne o.seats) (opened_twice kept.memory.opened gives.0 b.o gives.1 b.opened) b.borne in
-          borne_half gives.2.lost.new.seats (left_borne (TakesSlot _ _) (λ r n took. ap (λ (x : Replica). x.line) took.2) gives.0.seats gives.2.lost.new.seats gives.2.lost.lost.tried.left its) gives.2.lost.lost.few
+          let left = left_borne (TakesSlot _ _) (λ r n took. ap (λ (x : Replica). x.line) took.2) gives.0.seats gives.2.lost.new.seats gives.2.lost.lost.tried.left (its_borne b gives.0 gives.1) in
+          borne_half gives.2.lost.new.seats left gives.2.lost.lost.few
       gives_borne (Read volume at count) (stop.Lost active listed) free b gives = gives
       gives_borne (Write volume at block) (stop.Lost active listed) free b gives = gives
       gives_borne (Print names) (stop.Lost active listed) free b gives = gives
@@ -196,14 +214,14 @@ module _ (calm : ℕ → Bool) where
       gives_borne cmd stop.Memory free b gives = tt
 
       wanting_bears : (cmd : Command) → Bears kept → Wanting host kept cmd next → Bears next
-      wanting_bears (Create slices force count blocks) b left = opened_bears b (ap (λ (m : Memory). m.opened) left.1.memory)
+      wanting_bears (Create slices force count blocks) b left = opened_bears b (ap (λ (m : Memory). m.opened) left.1.memory) (ap (λ (m : Memory). m.clean) left.1.memory)
       wanting_bears (command.MakeStripe volume slice) b left = memory_bears b left.1.memory
       wanting_bears (Read volume at count) b left = memory_bears b left.1.memory
       wanting_bears (Write volume at block) b left = absurd left
       wanting_bears (Print names) b left = memory_bears b left.1.memory
 
       fault_bears : (cmd : Command) → Bears kept → Fault calls host kept cmd next → Bears next
-      fault_bears (Create slices force count blocks) b is = opened_bears b (ap (λ (m : Memory). m.opened) is.memory)
+      fault_bears (Create slices force count blocks) b is = opened_bears b (ap (λ (m : Memory). m.opened) is.memory) (ap (λ (m : Memory). m.clean) is.memory)
       fault_bears (command.MakeStripe volume slice) b is = absurd is
       fault_bears (Read volume at count) b is = memory_bears b is.3.memory
       fault_bears (Write volume at block) b is = memory_bears b is.3
@@ -217,7 +235,7 @@ module _ (calm : ℕ → Bool) where
       came_borne cmd b (came.over over free is gives) = subst (λ (a : Answer). IsBorneBy a next) (sym is) (gives_borne cmd over free b gives)
 
       tab_borne : (lines : List ℕ) → Bears kept → KeepsTab calls kept lines answer next → IsBorneBy answer next
-      tab_borne lines b (came.entered quiet entries tab is memory same) = subst (λ (a : Answer). IsBorneBy a next) (sym is) (opened_bears b (ap (λ (m : Memory). m.opened) memory))
+      tab_borne lines b (came.entered quiet entries tab is memory same) = subst (λ (a : Answer). IsBorneBy a next) (sym is) (opened_bears b (ap (λ (m : Memory). m.opened) memory) (ap (λ (m : Memory). m.clean) memory))
       tab_borne lines b (came.unfit quiet r why left) = told_bears r left.0 (memory_bears b left.1.memory)
       tab_borne lines b (came.unread quiet is left) = told_bears _ is (memory_bears b left.memory)
 
@@ -232,13 +250,13 @@ module _ (calm : ℕ → Bool) where
         answered_borne text b (inr (inl (spelled, is, comes))) = line_borne spelled b comes
         answered_borne text b (inr (inr (quiet, refused))) = told_bears _ refused.0 (memory_bears b refused.1.memory)
 
-    -- Where more than half of these slices are on such drives.
-    module _ (drives : Geometry) (name : List ℕ) (fresh : ℕ) (sound : IsSound (host_of drives name fresh).drives) (slices : List SliceName) (most : MostLieOn drives name (λ (drive : DriveNo). calm drive.0 ≡ true) slices) where
+    -- Where half of these slices, or more, are on such drives.
+    module _ (drives : Geometry) (name : List ℕ) (fresh : ℕ) (sound : IsSound (host_of drives name fresh).drives) (slices : List SliceName) (half : HalfLieOn drives name (λ (drive : DriveNo). calm drive.0 ≡ true) slices) where
       abbrev host : Host
       host = host_of drives name fresh
 
-      lies_calm : (slice : SliceName) (at : SliceAt) → most.chosen slice ≡ true → HasSlice host.site.lines slice at → calm at.drive.0 ≡ true
-      lies_calm slice at is has = most.each slice at is (in_filter (is_line_of host.drives (key_of host)) host.drives.slices (record { name = slice; at = at }) has).0
+      lies_calm : (chosen : SliceName → Bool) → ((slice : SliceName) (at : SliceAt) → chosen slice ≡ true → HasSlice (own_view drives name).slices slice at → calm at.drive.0 ≡ true) → (slice : SliceName) (at : SliceAt) → chosen slice ≡ true → HasSlice host.site.lines slice at → calm at.drive.0 ≡ true
+      lies_calm chosen each slice at is has = each slice at is (in_filter (is_line_of host.drives (key_of host)) host.drives.slices (record { name = slice; at = at }) has).0
 
       -- a creation on them that was told `ok`
       pub made_bears : (kept next : Kept) (one : Exchange) (answer : Answer) → IsAnswered calls host kept one.text answer next → IsSaid answer → IsTold one (text_of answer)
@@ -251,7 +269,7 @@ module _ (calm : ℕ → Bool) where
           let seats = seats_asked (key_of host) identity (lines_asked host slices) count blocks in
           let own : (r : Replica) → Contains (replicas_of seats) r → Contains host.site.lines r.line = λ r has. (is.formed r has).1.found.one_of in
           let made = made_on host sound refl (key_of host) identity kept.memory slices force count blocks form.1.0 done.0 own in
-          let up = most_up host sound refl slices (places_in seats) most.chosen calm made most.most lies_calm in
+          let up = half_up host sound refl slices (places_in seats) half.chosen calm made (lies_calm half.chosen half.each) half.half in
           let least = seats_least (λ (place : Place). is_on calm (slice_at host.site.lines place.slice)) seats (λ s has on.
           let at = seat_is (key_of host) identity count blocks (lines_asked host slices) s has in
           let r = replica_on (key_of host) identity at.line count blocks at.number in
@@ -259,42 +277,50 @@ module _ (calm : ℕ → Bool) where
           let found = line_found host.drives sound (key_of host) at.line (own r (replica_of seats s r has some)) in
           (r, some, sym (ap (λ (x : Seat). is_on calm (slice_at host.site.lines x.place.slice)) at.is ∙ ap (is_on calm) found) ∙ on)) in
           let long = length-map seats (λ (s : Seat). s.place) in
-          record {
+          inl (record {
             o = is.opened;
             opened = ap (λ (m : Memory). m.opened) is.memory;
             borne = left_borne (TakesSlot _ _) (λ r n took. ap (λ (x : Replica). x.line) took.2) seats is.opened.seats is.made.tried (omega (arith, up, least, long));
-          }
+          })
 
-      -- A boot of drives on which the database was made on them.
-      module _ (ran : List Ran) (t : Tale) (was : WasMade drives name ran slices t) (kept next : Kept) (answer : Answer) (reads : IsSame kept.content (contents t)) where
+      -- of each drive with lines of the host's one of both is told, that a call failed on it or that none did
+      abbrev pub AreApart : Type 0
+      AreApart = (line : SliceLine) → Contains host.site.lines line → (calls line.at.drive.0).none → (calls line.at.drive.0).some → ⊥
+
+      -- A boot of drives on which the database was made on them: it finds something, or whether it is clean can be told.
+      module _ (more : MostLieOn drives name (λ (drive : DriveNo). calm drive.0 ≡ true) slices ⊎ AreApart) (ran : List Ran) (t : Tale) (was : WasMade drives name ran slices t) (kept next : Kept) (answer : Answer) (reads : IsSame kept.content (contents t)) where
         same : kept.content ≡ last t
         same = λ i drive block. sym (reads drive block) i
 
-        most_calm : MostOn host.drives (key_of host) calm was.places
-        most_calm = most_up host sound refl slices was.places most.chosen calm was.made most.most lies_calm
+        abbrev on : Place → Bool
+        on place = is_on calm (slice_at host.site.lines place.slice)
+
+        half_calm : length was.places ≤ 2 * count_by on was.places
+        half_calm = half_up host sound refl slices was.places half.chosen calm was.made (lies_calm half.chosen half.each) half.half
 
         module _ (up : Drives) {e : BootEnd} (survey : Survey) (read : IsReadOf calls host kept.content up e survey) where
           of : IsSurveyOf host.drives (site_of host.drives (key_of host)) read.calm (last t) survey
           of = subst (λ (c : Image). IsSurveyOf host.drives host.site read.calm c survey) same read.of
 
-          answered : (lies : SliceLine) → Contains host.site.lines lies → calm lies.at.drive.0 ≡ true → answers_on read.calm survey lies.at.drive.0 ≡ true
+          answered : (lies : SliceLine) → Contains host.site.lines lies → calm lies.at.drive.0 ≡ true → answers_in read.calm survey.failed lies.at.drive ≡ true
           answered lies has is = by (has_drive read.calm lies.at.drive) refl where
-            by : (b : Bool) → has_drive read.calm lies.at.drive ≡ b → answers_on read.calm survey lies.at.drive.0 ≡ true
+            by : (b : Bool) → has_drive read.calm lies.at.drive ≡ b → answers_in read.calm survey.failed lies.at.drive ≡ true
             by true on = λ i. on i && not (read.none lies.at.drive on i)
             by false off = absurd (unfailed lies.at.drive.0 is (read.failed lies.at.drive (law_sites.brought host.drives (key_of host) lies has) off))
 
-          most_answer : MostOn host.drives (key_of host) (answers_on read.calm survey) was.places
-          most_answer = most_up host sound refl slices was.places most.chosen (answers_on read.calm survey) was.made most.most (λ slice at is has. answered (record { name = slice; at = at }) has (lies_calm slice at is has))
+          -- so is what it has in hand and writes anew
+          in_hand_borne : (newest : Newest) (a : IsAdoptable survey newest) → AreBorne a.seats
+          in_hand_borne newest a =
+              let least = seats_least on a.seats (λ s has there. seat_has host.drives (key_of host) was.history.databases t sound was.stands.databases read.calm survey read.survey_is of newest a calm answered s has there) in
+              let are = seats_list host.drives (key_of host) was.history.databases t sound was.stands.databases read.calm survey read.survey_is of newest a was.places (λ v may. was.lasting.all v may) in
+              let long = length-map a.seats (λ (s : Seat). s.place) in
+              omega (arith, half_calm, least, long, ap length are, ap (count_by on) are)
 
-          -- so is what it has in hand
-          in_hand_borne : (newest : Newest) (replica : Replica) (seats : List Seat) → IsInHand survey newest replica seats → AreBorne seats
-          in_hand_borne newest replica seats hand = subst AreBorne (sym hand.seats_are)
-              (most_borne host.drives was.history.databases (key_of host) read.calm survey t sound was.stands.databases read.survey_is of was.lasting.firm was.places (λ v may. was.lasting.all v may) most_answer calm answered most_calm newest hand.newest_is replica hand.the)
-
-          -- and there is something
-          never_empty : IsChoice survey chosen.Empty → ⊥
-          never_empty empty =
+          -- it finds something, where more than half of them are on such drives
+          never_empty : MostLieOn drives name (λ (drive : DriveNo). calm drive.0 ≡ true) slices → IsChoice survey chosen.Empty → ⊥
+          never_empty most empty =
               let blind = blind_boot calls host kept.content up survey read empty in
+              let most_calm : MostOn host.drives (key_of host) calm was.places = most_up host sound refl slices was.places most.chosen calm was.made (lies_calm most.chosen most.each) most.most in
               let found = databases_meet host.drives was.history.databases (key_of host) was.places calm t was.stands.databases was.lasting.firm (λ v may. was.lasting.all v may) most_calm in
               sees blind found.0 (subst (λ (c : Image). IsFoundIn host.drives host.site c found.0) (sym same) found.1) found.2 found.3 (blind.up found.0.line.at.drive.0) refl
             where
@@ -302,29 +328,44 @@ module _ (calm : ℕ → Bool) where
               sees blind r found is shown true on = false≢true (sym (blind.none r found on) ∙ shown)
               sees blind r found is shown false off = unfailed r.line.at.drive.0 is (blind.failed r.line.at.drive (law_sites.brought host.drives (key_of host) r.line found.one_of) off)
 
+          -- or a call failed in it, since some replica shows a table
+          never_calm : AreApart → IsChoice survey chosen.Empty → ((drive : DriveNo) → (calls drive.0).none) → ⊥
+          never_calm apart empty calm_all = elim (blind_bare host refl calls kept.content (blind_boot calls host kept.content up survey read empty)) [
+            | inl bare ↦ firm_shows host was.history t was.stands was.lasting.firm kept.content reads bare
+            | inr fallen ↦ apart fallen.0 fallen.1 (calm_all fallen.0.at.drive) fallen.2
+          ]
+
+          -- so one that finds nothing isn't clean
+          empty_unclean : (clean : Bool) → MatchBool clean ((drive : DriveNo) → (calls drive.0).none) ((is_memory e ≡ true) ⊎ ((drive : DriveNo) × Contains host.site.drives drive × (calls drive.0).some)) → IsChoice survey chosen.Empty → clean ≡ false
+          empty_unclean false why empty = refl
+          empty_unclean true calm_all empty = elim more [ inl most ↦ absurd (never_empty most empty) | inr apart ↦ absurd (never_calm apart empty calm_all) ]
+
         abbrev EndsBy : BootEnd → Drives → Type 0
         EndsBy e up = (is_memory e ≡ true) ⊎ ((survey : Survey) × IsReadOf calls host kept.content up e survey × IsEndBy calls (λ hand table. WritesTo kept.content next.content hand.seats) host.site survey e)
 
-        end_borne : (e : BootEnd) (up : Drives) (clean : Bool) → EndsBy e up → answer ≡ answered_by e → (answer ≡ accepted → next.memory ≡ booted_with (opened_by e) up clean kept.memory.begun) → IsBorneBy answer next
-        end_borne (end.Adopted o) up clean (inl never) is memory = absurd (false≢true never)
-        end_borne (end.Adopted o) up clean (inr (survey, read, a)) is memory = subst (λ (x : Answer). IsBorneBy x next) (sym is) (record {
+        end_borne : (e : BootEnd) (up : Drives) (clean : Bool) → IsUpBy calls host e up clean → EndsBy e up → answer ≡ answered_by e → (answer ≡ accepted → next.memory ≡ booted_with (opened_by e) up clean kept.memory.begun) → IsBorneBy answer next
+        end_borne (end.Adopted o) up clean by_calls (inl never) is memory = absurd (false≢true never)
+        end_borne (end.Adopted o) up clean by_calls (inr (survey, read, a)) is memory = subst (λ (x : Answer). IsBorneBy x next) (sym is) (inl (record {
           o = o;
           opened = ap (λ (m : Memory). m.opened) (memory is);
-          borne = left_borne (TakesBoth _ _) (λ r n took. ap (λ (x : Replica). x.line) took.2) a.seats o.seats a.left (in_hand_borne up survey read a.newest a.replica a.seats a.drawn.hand);
-        })
-        end_borne end.Empty up clean (inl never) is memory = absurd (false≢true never)
-        end_borne end.Empty up clean (inr (survey, read, empty)) is memory = absurd (never_empty up survey read empty)
-        end_borne (end.TwoDatabases one other) up clean by is memory = subst (λ (x : Answer). IsBorneBy x next) (sym is) tt
-        end_borne (end.NoQuorum readable needed) up clean by is memory = subst (λ (x : Answer). IsBorneBy x next) (sym is) tt
-        end_borne (end.Lost active listed) up clean (inl never) is memory = absurd (false≢true never)
-        end_borne (end.Lost active listed) up clean (inr (survey, read, lost)) is memory =
-            absurd (borne_half lost.now (left_borne (TakesClaimOrBoth _ _) claimed lost.seats lost.now lost.left (in_hand_borne up survey read lost.newest lost.replica lost.seats lost.drawn.hand)) lost.few)
+          borne = left_borne (TakesBoth _ _) (λ r n took. ap (λ (x : Replica). x.line) took.2) a.seats o.seats a.left (in_hand_borne up survey read a.newest (adoptable kept.content next.content survey a.newest a.replica a.seats a.number a.drawn a.written));
+        }))
+        end_borne end.Empty up clean by_calls (inl never) is memory = absurd (false≢true never)
+        end_borne end.Empty up clean by_calls (inr (survey, read, empty)) is memory = subst (λ (x : Answer). IsBorneBy x next) (sym is) (inr (record {
+          none = ap (λ (m : Memory). m.opened) (memory is);
+          unclean = ap (λ (m : Memory). m.clean) (memory is) ∙ empty_unclean up survey read clean by_calls.calm empty;
+        }))
+        end_borne (end.TwoDatabases one other) up clean by_calls by is memory = subst (λ (x : Answer). IsBorneBy x next) (sym is) tt
+        end_borne (end.NoQuorum readable needed) up clean by_calls by is memory = subst (λ (x : Answer). IsBorneBy x next) (sym is) tt
+        end_borne (end.Lost active listed) up clean by_calls (inl never) is memory = absurd (false≢true never)
+        end_borne (end.Lost active listed) up clean by_calls (inr (survey, read, lost)) is memory =
+            absurd (borne_half lost.now (left_borne (TakesClaimOrBoth _ _) claimed lost.seats lost.now lost.left (in_hand_borne up survey read lost.newest (adoptable kept.content next.content survey lost.newest lost.replica lost.seats lost.number lost.drawn lost.written))) lost.few)
           where
             claimed : (r n : Replica) → TakesClaimOrBoth lost.number (length (record_text lost.newest.table)) r n → n.line ≡ r.line
             claimed r n (inl one) = ap (λ (x : Replica). x.line) one
             claimed r n (inr both) = ap (λ (x : Replica). x.line) both.2
-        end_borne end.Spent up clean by is memory = subst (λ (x : Answer). IsBorneBy x next) (sym is) tt
-        end_borne end.Memory up clean by is memory = subst (λ (x : Answer). IsBorneBy x next) (sym is) tt
+        end_borne end.Spent up clean by_calls by is memory = subst (λ (x : Answer). IsBorneBy x next) (sym is) tt
+        end_borne end.Memory up clean by_calls by is memory = subst (λ (x : Answer). IsBorneBy x next) (sym is) tt
 
         pub boot_borne : IsRebooted calls host kept answer next → IsBorneBy answer next
-        boot_borne boots = end_borne boots.end boots.up boots.clean boots.by boots.answer_is boots.memory
+        boot_borne boots = end_borne boots.end boots.up boots.clean boots.up_by boots.by boots.answer_is boots.memory

@@ -1,4 +1,4 @@
--- The places that a creation's first table lists: as many on each of its slices. So where more than half of the slices pass a test, more than half of the places do.
+-- The places that a creation's first table lists: as many on each of its slices. So where more than half of the slices pass a test, or half, so do more than half of the places, or half.
 use Rattle.std.proofs.Common.{◌≡◌, ℕ, zero, suc, ◌+◌, ◌*◌, ◌≤◌, ◌<◌, Bool, true, false, cond, List, [], ◌∷◌, ◌++◌, length, map, Option, Some, None, Contains, refl, sym, ◌∙◌, ap, subst, arith, inl, inr}
 use Rattle.std.specs.Prelude.{count_by, is_some}
 use Rattle.std.proofs.lemmas.List.{length-map, map-append}
@@ -81,17 +81,26 @@ module _ (t : SliceName → Bool) (key : Key) (identity : Identity) (count block
         count_more slice (slice_at host.drives.slices slice) here.0 slices here.1 (count_all slices (λ other has. there other (contains_behind slice other slices has)))
         ∙ ap (λ (n : ℕ). n * count) (sym (count_cons t slice slices))
 
--- so many times as many are fewer than twice as many
+-- so many times as many are fewer than twice as many, and no more where they aren't
 half_times : (n c count : ℕ) → n < 2 * c → 1 ≤ count → n * count < 2 * (c * count)
 half_times n c count less some =
     let all = mul-le (1 + n) count (2 * c) count (omega (arith, less)) (omega arith) in
     let same = mul_assoc 2 c count in
     omega (arith, all, same, some)
 
--- places that were made on these slices, which are some of these lines
+no_more_times : (n c count : ℕ) → n ≤ 2 * c → n * count ≤ 2 * (c * count)
+no_more_times n c count less =
+    let all = mul-le n count (2 * c) count less (omega arith) in
+    let same = mul_assoc 2 c count in
+    omega (arith, all, same)
+
+-- places that were made on these slices, which are some of these lines: as many on each
 pub record AreMadeOn (lines : List SliceLine) (slices : List SliceName) (places : List Place) : Type 0 where
   pub there : (slice : SliceName) → Contains slices slice → (at : SliceAt) × HasSlice lines slice at
-  pub most : (t : SliceName → Bool) → length slices < 2 * count_by t slices → length places < 2 * count_by (λ (place : Place). t place.slice) places
+  pub count : ℕ
+  pub some : 1 ≤ count
+  pub long : length places ≡ length slices * count
+  pub each : (t : SliceName → Bool) → count_by (λ (place : Place). t place.slice) places ≡ count_by t slices * count
 
 -- the first place on each slice
 module _ (key : Key) (identity : Identity) (count blocks : ℕ) where
@@ -151,13 +160,10 @@ module _ (host : Host) (sound : IsSound host.drives) (sees : SeesOwn host) where
     pub made_on : AreMadeOn host.site.lines slices (places_in (seats_asked key identity lines count blocks))
     made_on = record {
       there = in_site;
-      most = λ t less.
-          let all = count_all t key identity count blocks host slices lies_there in
-          let long = length-map (seats_asked key identity lines count blocks) (λ (s : Seat). s.place) in
-          let seats = asked_seats key identity count blocks lines in
-          let as_many = asked_length host slices is_there in
-          let half = half_times (length slices) (count_by t slices) count less some in
-          subst (λ (n : ℕ). n < 2 * count_by (λ (place : Place). t place.slice) (places_in (seats_asked key identity lines count blocks))) (sym (long ∙ seats ∙ ap (λ (n : ℕ). n * count) as_many)) (subst (λ (n : ℕ). length slices * count < 2 * n) (sym all) half);
+      count = count;
+      some = some;
+      long = length-map (seats_asked key identity lines count blocks) (λ (s : Seat). s.place) ∙ asked_seats key identity count blocks lines ∙ ap (λ (n : ℕ). n * count) (asked_length host slices is_there);
+      each = λ t. count_all t key identity count blocks host slices lies_there;
     }
 
   -- such a slice is on a drive that passes the test, if each line with its name is
@@ -171,10 +177,22 @@ module _ (host : Host) (sound : IsSound host.drives) (sees : SeesOwn host) where
       | inr behind ↦ rest behind
     ]
 
-  -- So of places made on slices more than half lie on such drives, where more than half of the slices do.
-  pub most_up : (slices : List SliceName) (places : List Place) (chosen : SliceName → Bool) (up : ℕ → Bool) → AreMadeOn host.site.lines slices places → length slices < 2 * count_by chosen slices
-      → ((slice : SliceName) (at : SliceAt) → chosen slice ≡ true → HasSlice host.site.lines slice at → up at.drive.0 ≡ true) → length places < 2 * count_by (λ (place : Place). is_on up (slice_at host.site.lines place.slice)) places
-  most_up slices places chosen up made most each = made.most (λ slice. is_on up (slice_at host.site.lines slice)) (omega (arith, most, counted)) where
-    counted : count_by chosen slices ≤ count_by (λ (slice : SliceName). is_on up (slice_at host.site.lines slice)) slices
-    counted = count_weaker chosen (λ (slice : SliceName). is_on up (slice_at host.site.lines slice)) slices (λ slice has is.
-        (let there = made.there slice has in on_here up host.site.lines slice there.0 there.1 (λ other also. each slice other is also)))
+  -- Of places made on slices as many lie on such drives, slice by slice, as these do.
+  module _ (slices : List SliceName) (places : List Place) (chosen : SliceName → Bool) (up : ℕ → Bool) (made : AreMadeOn host.site.lines slices places) (each : (slice : SliceName) (at : SliceAt) → chosen slice ≡ true → HasSlice host.site.lines slice at → up at.drive.0 ≡ true) where
+    abbrev on : SliceName → Bool
+    on slice = is_on up (slice_at host.site.lines slice)
+
+    counted : count_by chosen slices ≤ count_by on slices
+    counted = count_weaker chosen on slices (λ slice has is. (let there = made.there slice has in on_here up host.site.lines slice there.0 there.1 (λ other also. each slice other is also)))
+
+    -- so where more than half of the slices do more than half of the places do
+    pub most_up : length slices < 2 * count_by chosen slices → length places < 2 * count_by (λ (place : Place). on place.slice) places
+    most_up most =
+        let times = half_times (length slices) (count_by on slices) made.count (omega (arith, most, counted)) made.some in
+        omega (arith, times, made.long, made.each on)
+
+    -- and half of them where half do
+    pub half_up : length slices ≤ 2 * count_by chosen slices → length places ≤ 2 * count_by (λ (place : Place). on place.slice) places
+    half_up half =
+        let times = no_more_times (length slices) (count_by on slices) made.count (omega (arith, half, counted)) in
+        omega (arith, times, made.long, made.each on)

@@ -1,9 +1,10 @@
 -- The theorem in a user's words: of scripts, replies and drives that answer, with no word of replicas, numbers or histories.
-use Rattle.std.specs.Prelude.{◌≡◌, ◌≢◌, ◌⊎◌, ◌↔◌, ◌+◌, ◌*◌, ◌≤◌, ◌<◌, ℕ, Bool, None, List, [], ◌∷◌, ◌++◌, length, map, flat_map, Option, Contains, AllPairs, false, true, count_by, Some}
+use Rattle.std.specs.Prelude.{◌≡◌, ◌≢◌, ◌⊎◌, ◌↔◌, ◌+◌, ◌-◌, ◌*◌, ◌^◌, ◌≤◌, ◌<◌, ℕ, Bool, None, List, [], ◌∷◌, ◌++◌, length, map, flat_map, Option, Contains, AllPairs, false, true, count_by, Some}
 use Rattle.mdv_base.specs.Causes.{Rose}
 use Rattle.mdv_base.specs.declared.drive.DriveNo.{DriveNo}
 use Rattle.mdv_base.specs.declared.drive.SliceName.{SliceName}
 use Rattle.mdv_base.specs.declared.mark.Identity.{Identity}
+use Rattle.mdv_base.specs.declared.name.Key.TheVariants.{Local}
 use Rattle.mdv_base.specs.declared.name.Named.TheVariants as named
 use Rattle.mdv_base.specs.declared.name.VolId.{VolId}
 use Rattle.mdv_base.specs.declared.refusal.Refusal.{Refusal}
@@ -14,6 +15,7 @@ use Rattle.mdv_home.specs.View.{own_view}
 use Rattle.mdv_name.specs.SliceIndex.{HasSlice}
 use Rattle.mdv_name.specs.declared.geometry.Geometry.{Geometry}
 use Rattle.mdv_name.specs.declared.slice_lines.SliceAt.{SliceAt}
+use Rattle.mdv_name.specs.declared.slice_lines.SliceLine.{SliceLine}
 use Rattle.mdv_port.specs.Script.{Script}
 use Rattle.mdv_run_law.specs.Lives.{IsNewWord, Ran, host_of}
 use Rattle.mdv_run_law.specs.Run.{Counts, IsOfTable, IsWholeRun, Stretch, replies_failed, site_failed, source_failed}
@@ -23,6 +25,7 @@ use Rattle.mdv_run_law.specs.Standing.{RunMoment}
 use Rattle.mdv_shelf.specs.Everywhere.{Image}
 use Rattle.mdv_shelf.specs.Story.{AtEach, OfTales, Story, tale_of}
 use Rattle.mdv_shelf.specs.Tale.{Tale}
+use Rattle.mdv_shown.specs.Sites.{site_of}
 use Rattle.mdv_status.specs.Telling.{replies_in}
 use Rattle.mdv_status.specs.Values.{printed_reply, values_reply}
 use Rattle.mdv_words.specs.declared.command.Command.{Command}
@@ -78,13 +81,27 @@ RunsFindEnough =
     → site_failed (host_of drives name fresh) start end
     × ((slices : List SliceName) → IsMadeOn slices (exchanges_by name before ++ exchanges_of script whole.more) → MostLieOn drives name (IsCalmOn start end) slices → ⊥)
 
--- Nor does it end because fewer than half of the places are active, where lines of it, or of earlier runs, made the database on some slices, and no call failed on the drives of more than half of these.
+-- half of these slices, or more, lie on such drives
+pub record HalfLieOn (drives : Geometry) (name : List ℕ) (Is : DriveNo → Type 0) (slices : List SliceName) : Type 0 where
+  pub chosen : SliceName → Bool
+  pub half : length slices ≤ 2 * count_by chosen slices
+  pub each : (slice : SliceName) (at : SliceAt) → chosen slice ≡ true → HasSlice (own_view drives name).slices slice at → Is at.drive
+
+-- no drive on which replicas may lie has failed so often that its count stands at its type's end, where a failed call leaves it as one that is answered does
+abbrev pub CanAllRise : Geometry → List ℕ → Counts → Type 0
+CanAllRise drives name end = (line : SliceLine) → Contains (site_of (own_view drives name) (Local name)).lines line → end.drives line.at.drive.0 < 2 ^ 64 - 1
+
+-- Drives enough for these slices' places to stay: no call failed on those of more than half of the slices, or of half of them, as long as the counts tell each failed call.
+abbrev pub EnoughStay : Geometry → List ℕ → Counts → Counts → List SliceName → Type 0
+EnoughStay drives name start end slices = MostLieOn drives name (IsCalmOn start end) slices ⊎ (HalfLieOn drives name (IsCalmOn start end) slices × CanAllRise drives name end)
+
+-- Nor does it end because fewer than half of the places are active, where lines of it, or of earlier runs, made the database on some slices, and no call failed on the drives of half of these or more.
 abbrev pub RunsKeepEnough : Type 0
 RunsKeepEnough =
     (drives : Geometry) (name : List ℕ) (made : Image) (before : List Ran) (fresh : ℕ) (script : Script) (stretch : Stretch) (start end : Counts) (s : Story) → Contains drives.hosts name → stretch.old ≡ Some s
     → AtEach (LivesOn drives name made before fresh script stretch start) stretch.old stretch.before stretch.new stretch.after
     → (tale : Option Tale) (status : RunStatus) (whole : IsWholeRun (host_of drives name fresh) stretch start end (tale_of s) script tale status)
-    → (slices : List SliceName) → IsMadeOn slices (exchanges_by name before ++ exchanges_of script whole.more) → MostLieOn drives name (IsCalmOn start end) slices → (active listed : ℕ) → status ≡ Panic active listed → ⊥
+    → (slices : List SliceName) → IsMadeOn slices (exchanges_by name before ++ exchanges_of script whole.more) → EnoughStay drives name start end slices → (active listed : ℕ) → status ≡ Panic active listed → ⊥
 
 -- A line of a run under way that was answered, behind other lines of it and those of earlier runs.
 pub record Answered {drives : Geometry} {name : List ℕ} {before : List Ran} {script : Script} (run : Running drives name before script) (one : Exchange) (earlier : List Exchange) : Type 0 where

@@ -22,8 +22,8 @@ pub fn blocks_keep_their_values()
 
 /// A database that a line was told to have made, or to have been done with, in this run or an earlier one, stays: no line is told that there is none, nor a creation that one was
 /// made, as long as enough drives answer for it. And no run that begins on what earlier ones led to ends because two databases are there; nor because too few places are readable, unless a
-/// call failed on a drive on which replicas may lie, and not even then where none did on the drives of more than half of the slices that a creation named which was told `ok`; nor then
-/// because fewer than half of the places are active.
+/// call failed on a drive on which replicas may lie, and not even then where none did on the drives of more than half of the slices that a creation named which was told `ok`; nor, where
+/// none did on the drives of half of these slices or more, because fewer than half of the places are active.
 pub fn databases_stay()
     ensures stay { DatabasesStay }
     ensures one { RunsFindOne }
