@@ -8,13 +8,13 @@ use Rattle.mdv_votes.proofs.Quorums.{covers_at, none_is, lists_at}
 use Rattle.mdv_quorum.specs.declared.machine.Core.{Core}
 use Rattle.mdv_quorum.specs.declared.machine.Stage.{Stage}
 use Rattle.mdv_quorum.specs.declared.machine.Stage.TheVariants.{Reading, Creating, Claiming, Writing, Ready}
-use Rattle.mdv_quorum.specs.World.{formatted_at, formatted_place, formatted_seat, formatted_next, wiped_at, without, given_up, raised, last_table}
-use Rattle.mdv_quorum.specs.May.{may_format, may_format_place, may_format_next, may_wipe, is_firm_in, is_clean_but, is_only_place, is_only, is_single}
+use Rattle.mdv_quorum.specs.World.{formatted_at, formatted_place, formatted_seat, formatted_next, wiped_at, without, given_up, last_table}
+use Rattle.mdv_quorum.specs.May.{may_format, may_format_place, may_format_next, may_wipe, is_firm_in, is_only_place, is_only, is_single}
 use Rattle.mdv_quorum.proofs.More.{boots_rise, none_some}
 use Rattle.mdv_quorum.proofs.Written.{some_same}
-use Rattle.mdv_quorum.proofs.Changes.{leaves_ok, leaves_to, wipe_leaves, wipe_taken, wipe_shows, wipe_claims, wipe_gone}
+use Rattle.mdv_quorum.proofs.Changes.{leaves_ok, leaves_to, wipe_leaves, wipe_taken, wipe_claims, wipe_gone}
 use Rattle.mdv_quorum.proofs.Format.{format_places, seat_places}
-use Rattle.mdv_quorum.proofs.Invariant.{holds, since, boot_at, Base, Inv, StageOk, NextOk}
+use Rattle.mdv_quorum.proofs.Invariant.{holds, boot_at, Base, Inv, StageOk, NextOk}
 
 -- the firm table doesn't name it
 firm_free : (family : List Version) (firm : Option ℕ) (p : Spot) → is_firm_in family firm p ≡ false → (f : ℕ) → firm ≡ Some f → is_named (lists_at family f) p ≡ false
@@ -24,15 +24,14 @@ firm_free family firm p free f e = sym (ap (λ (o : Option ℕ). is_firm_in fami
 format_ok : (w : Core) (p : Spot) (next : Version) → Base w → w.deleted ≡ None → ((u : ℕ) → u < length w.family → boot_at w.family u ≤ next.mark.boot)
     → may_format_place w p next.lists ≡ true → Base (formatted_place w p next)
 format_ok w p next b there high may =
-    let m = and_parts (not p.mediator) ((is_named next.lists p && not (is_firm_in w.family w.firm p)) && is_clean_but p (raised w.floor (since w.places p)) w.lost w.places) may in
-    let n = and_parts (is_named next.lists p && not (is_firm_in w.family w.firm p)) (is_clean_but p (raised w.floor (since w.places p)) w.lost w.places) m.1 in
-    let free = not-true (is_firm_in w.family w.firm p) (and_parts (is_named next.lists p) (not (is_firm_in w.family w.firm p)) n.0).1 in
+    let m = and_parts (not p.mediator) (is_named next.lists p && not (is_firm_in w.family w.firm p)) may in
+    let free = not-true (is_firm_in w.family w.firm p) (and_parts (is_named next.lists p) (not (is_firm_in w.family w.firm p)) m.1).1 in
     record {
       tables = b.tables;
       common = b.common;
       plans = b.plans;
-      places = format_places w.family w.firm w.places w.floor w.lost w.deleted p next.mark.boot w.set b.tables b.places there (not-true p.mediator m.0) high
-          (firm_free w.family w.firm p free) n.1;
+      places = format_places w.family w.firm w.places w.deleted p next.mark.boot w.set b.tables b.places there (not-true p.mediator m.0) high
+          (firm_free w.family w.firm p free);
     }
 
 format_next : (w : Core) (p : Spot) (next : Option Version) → w.stage ≡ Ready next → Base w → StageOk w (Ready next) → may_format_next w p next ≡ true → Inv (formatted_next w p next)
@@ -53,7 +52,7 @@ format_seat w p next b ok seat may =
         tables = b.tables;
         common = b.common;
         plans = b.plans;
-        places = seat_places w.family w.firm w.places w.floor w.lost w.deleted p (last_table w).mark.boot w.set b.tables b.places ok.there seat ok.some
+        places = seat_places w.family w.firm w.places w.deleted p (last_table w).mark.boot w.set b.tables b.places ok.there seat ok.some
             (λ u hu. boots_rise w.set w.family b.tables u (length w.family - 1) (omega (arith, hu)) (omega (arith, some)))
             (firm_free w.family w.firm p (not-true (is_firm_in w.family w.firm p) may));
       };
@@ -82,17 +81,14 @@ wipe_base w p b free = record {
   tables = b.tables;
   common = b.common;
   plans = b.plans;
-  places = leaves_ok w.family w.firm w.places (change_at w.places p wiped) w.floor w.lost w.deleted b.places
+  places = leaves_ok w.family w.firm w.places (change_at w.places p wiped) w.deleted b.places
       (wipe_leaves w.family w.firm w.deleted w.places p (λ f e there. firm_free w.family w.firm p free f e));
 }
 
 wipe_reading : (w : Core) (p : Spot) (places : List Spot) → w.stage ≡ Reading places → Base w → StageOk w (Reading places) → is_firm_in w.family w.firm p ≡ false → Inv (without w p)
 wipe_reading w p places e b ok free = record {
   base = wipe_base w p b free;
-  stage = subst (λ (s : Stage). StageOk (without w p) s) (sym e) (record {
-    clean = λ q j has place shows. ok.clean q j has place (sym (wipe_shows w.places p q) ∙ shows);
-    gone = ok.gone;
-  });
+  stage = subst (λ (s : Stage). StageOk (without w p) s) (sym e) (record { gone = ok.gone });
 }
 
 wipe_creating : (w : Core) (p : Spot) (next : Version) → w.stage ≡ Creating next → Base w → StageOk w (Creating next) → Inv (without w p)
@@ -103,7 +99,7 @@ wipe_creating w p next e b ok =
         tables = b.tables;
         common = b.common;
         plans = b.plans;
-        places = leaves_ok w.family w.firm w.places (change_at w.places p wiped) w.floor w.lost w.deleted b.places
+        places = leaves_ok w.family w.firm w.places (change_at w.places p wiped) w.deleted b.places
             (wipe_leaves w.family w.firm w.deleted w.places p (λ f ef there. (let h = b.places.firm_in f ef in absurd (omega (arith, h, none)))));
       };
       stage = subst (λ (s : Stage). StageOk (without w p) s) (sym e) (record { first = ok.first; there = ok.there; fits = ok.fits });
@@ -179,7 +175,7 @@ wipe_last w p next b ok place only = record {
     tables = b.tables;
     common = b.common;
     plans = b.plans;
-    places = leaves_to w.family w.firm w.places (change_at w.places p wiped) w.floor w.lost w.deleted (Some p) b.places
+    places = leaves_to w.family w.firm w.places (change_at w.places p wiped) w.deleted (Some p) b.places
         (wipe_leaves w.family w.firm (Some p) w.places p (λ f e there. absurd (none_some p (sym there))))
         (λ f e there. absurd (none_some p (sym there)))
         (λ q e.
@@ -192,7 +188,7 @@ wipe_last w p next b ok place only = record {
           needed = λ read knows reads. subst (λ (s : Spot). read s ≡ true) same (only_needed (last_table w) p read knows only reads);
         });
   };
-  stage = record { clean = λ q j has place shows. absurd (false≢true has); gone = λ q e has. false≢true has };
+  stage = record { gone = λ q e has. false≢true has };
 }
 
 pub wiped_ok : (w : Core) (p : Spot) (s : Stage) → w.stage ≡ s → Base w → StageOk w s → may_wipe w p s ≡ true → Inv (wiped_at w p s)

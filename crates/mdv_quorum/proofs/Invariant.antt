@@ -1,13 +1,14 @@
 -- What every event keeps, in named facts over an arbitrary place.
-use Rattle.std.proofs.Common.{◌≡◌, ◌<◌, ◌≤◌, ◌-◌, ℕ, Bool, true, false, List, [], ◌++◌, length, ◌⊎◌, Option, None, Some}
+use Rattle.std.proofs.Common.{◌≡◌, ◌<◌, ◌≤◌, ◌-◌, ℕ, Bool, true, false, sym, ◌∙◌, subst, List, [], ◌++◌, length, ◌⊎◌, inl, inr, Option, None, Some, refl, arith}
+use Rattle.std.proofs.lemmas.Bool.{cases_lt}
 use Rattle.std.specs.Prelude.{Contains, option_to_list}
-use Rattle.mdv_quorum.specs.Below.{DriveNo, Spot, SpotLists, Version, SpotState, Since, Never, Listed, Dropped, is_in, is_named, last_list, is_read, is_written, table_at, place_at, boot_of, mark_below}
+use Rattle.mdv_quorum.specs.Below.{Spot, SpotLists, Version, SpotState, Since, Never, Listed, Dropped, is_in, is_named, last_list, is_read, is_written, table_at, place_at, raised, boot_of, mark_below}
 use Rattle.mdv_votes.specs.Laws.{HasList}
 use Rattle.mdv_votes.proofs.Quorums.{lists_at, IsCommon}
 use Rattle.mdv_quorum.specs.declared.machine.Core.{Core}
 use Rattle.mdv_quorum.specs.declared.machine.Stage.{Stage}
 use Rattle.mdv_quorum.specs.declared.machine.Stage.TheVariants.{Reading, Creating, Claiming, Writing, Ready}
-use Rattle.mdv_quorum.specs.May.{is_up, is_distinct}
+use Rattle.mdv_quorum.specs.May.{is_distinct}
 
 abbrev pub newest : List SpotState → Spot → Option ℕ
 newest places p = (place_at places p).newest
@@ -20,6 +21,9 @@ holds places p = (place_at places p).holds
 
 abbrev pub since : List SpotState → Spot → Since
 since places p = (place_at places p).since
+
+abbrev pub floor : List SpotState → Spot → ℕ
+floor places p = (place_at places p).floor
 
 abbrev pub boot_at : List Version → ℕ → ℕ
 boot_at family i = (table_at family i).mark.boot
@@ -78,16 +82,44 @@ pub record PlansOk (family : List Version) (firm : Option ℕ) (log told : List 
   pub descends : (f i : ℕ) → firm ≡ Some f → f ≤ i → i < length family → IsPrefix (plan_at family f) (plan_at family i)
   pub nothing : firm ≡ None → told ≡ []
 
--- of what was read this place shows a table above, or this mediator, which didn't say so, knows one
-pub record IsBeater (places : List SpotState) (i : ℕ) (read knows : Spot → Bool) : Type 0 where
+-- shows a table above this one, or is a place that shows none and was formatted again since one above dropped it
+abbrev pub Outdoes : Spot → SpotState → ℕ → Type 0
+Outdoes p x i = Above x.newest i ⊎ ((p.mediator ≡ false) × (x.newest ≡ None) × (i < x.floor))
+
+pub outdoes_as : (p : Spot) (x y : SpotState) (i : ℕ) → y.newest ≡ x.newest → y.floor ≡ x.floor → Outdoes p x i → Outdoes p y i
+outdoes_as p x y i newest floor h =
+    elim h [
+      | inl above ↦ inl (subst (λ (o : Option ℕ). Above o i) (sym newest) above)
+      | inr stale ↦ inr (stale.0, newest ∙ stale.1, subst (λ (n : ℕ). i < n) (sym floor) stale.2)
+    ]
+
+-- the firm table is above this one, or is it
+abbrev pub Reaches : Option ℕ → ℕ → Type 0
+Reaches firm i = (f : ℕ) × (firm ≡ Some f) × (i ≤ f)
+
+pub raised_low : (firm : Option ℕ) (n : ℕ) (s : Since) → (0 < n → Reaches firm n) → ((m : ℕ) → s ≡ Dropped m → Reaches firm m) → 0 < raised n s → Reaches firm (raised n s)
+raised_low firm n Never low dropped some = low some
+raised_low firm n Listed low dropped some = low some
+raised_low firm n (Dropped m) low dropped some =
+    elim (cases_lt n m) [
+      | inl less ↦ let d = dropped m refl in (d.0, d.1, omega (arith, less, d.2))
+      | inr more ↦ elim (cases_lt 0 n) [
+        | inl up ↦ let l = low up in (l.0, l.1, omega (arith, more, l.2))
+        | inr none ↦ absurd (omega (arith, more, none, some))
+      ]
+    ]
+
+-- of what was read this place, which the table names, outdoes it, or this mediator, which didn't say so, knows a table above
+pub record IsBeater (family : List Version) (places : List SpotState) (i : ℕ) (read knows : Spot → Bool) : Type 0 where
   pub place : Spot
   pub was_read : read place ≡ true
+  pub named : is_named (lists_at family i) place ≡ true
   pub late : ((place.mediator ≡ false) × Late (since places place) i) ⊎ ((place.mediator ≡ true) × (knows place ≡ false))
-  pub above : Above (newest places place) i
+  pub above : Outdoes place (place_at places place) i
 
 -- each read quorum of a table below the firm one is beaten
 abbrev pub Beats : List Version → List SpotState → ℕ → Type 0
-Beats family places i = (read knows : Spot → Bool) → is_read (table_at family i) read knows ≡ true → IsBeater places i read knows
+Beats family places i = (read knows : Spot → Bool) → is_read (table_at family i) read knows ≡ true → IsBeater family places i read knows
 
 abbrev pub KnownIn : List Version → List SpotState → (Spot → Bool) → ℕ → Type 0
 KnownIn family places read b = (p : Spot) × (read p ≡ true) × Knows family places p b
@@ -116,16 +148,15 @@ pub record IsGone (family : List Version) (firm : Option ℕ) (places : List Spo
   pub wiped : holds places p ≡ false
   pub needed : (read knows : Spot → Bool) → is_read (table_at family (length family - 1)) read knows ≡ true → read p ≡ true
 
-pub record PlacesOk (family : List Version) (firm : Option ℕ) (places : List SpotState) (floor : ℕ) (lost : List DriveNo) (deleted : Option Spot) : Type 0 where
+pub record PlacesOk (family : List Version) (firm : Option ℕ) (places : List SpotState) (deleted : Option Spot) : Type 0 where
   pub firm_in : (f : ℕ) → firm ≡ Some f → f < length family
   pub shows : (p : Spot) (j : ℕ) → newest places p ≡ Some j → j < length family
-  pub beaten : (f i : ℕ) → firm ≡ Some f → i < f → (i < floor) ⊎ Beats family places i
+  pub beaten : (f i : ℕ) → firm ≡ Some f → i < f → Beats family places i
   pub numbers : NumbersOk family firm places
-  pub clean : (p : Spot) (j : ℕ) → p.mediator ≡ false → holds places p ≡ true → is_up lost p ≡ true → newest places p ≡ Some j → floor ≤ j
   pub listed : (f : ℕ) (p : Spot) → firm ≡ Some f → is_in (last_list (lists_at family f)) p ≡ true → holds places p ≡ true → since places p ≡ Listed
   pub listed_in : (p : Spot) → since places p ≡ Listed → (f : ℕ) × (firm ≡ Some f) × (is_in (last_list (lists_at family f)) p ≡ true)
-  pub dropped : (p : Spot) (m : ℕ) → since places p ≡ Dropped m → m ≤ length family - 1
-  pub low : floor ≤ length family - 1
+  pub dropped : (p : Spot) (m : ℕ) → since places p ≡ Dropped m → Reaches firm m
+  pub low : (p : Spot) → 0 < floor places p → Reaches firm (floor places p)
   pub covered : (f : ℕ) → firm ≡ Some f → deleted ≡ None → IsCovered family places f
   pub gone : (p : Spot) → deleted ≡ Some p → IsGone family firm places p
   pub unused : length places ≡ 0 → length family ≡ 0
@@ -148,8 +179,7 @@ pub record Fits (set : Bool) (family : List Version) (firm : Option ℕ) (log to
   pub descends : (f : ℕ) → firm ≡ Some f → IsPrefix (plan_at family f) next.plan
   pub alone : IsAlone family firm next
 
-pub record ReadingOk (places : List SpotState) (floor : ℕ) (deleted : Option Spot) (read : List Spot) : Type 0 where
-  pub clean : (p : Spot) (j : ℕ) → is_in read p ≡ true → p.mediator ≡ false → newest places p ≡ Some j → floor ≤ j
+pub record ReadingOk (deleted : Option Spot) (read : List Spot) : Type 0 where
   pub gone : (p : Spot) → deleted ≡ Some p → is_in read p ≡ true → ⊥
 
 pub record CreatingOk (set : Bool) (family : List Version) (firm : Option ℕ) (deleted : Option Spot) (log told : List ℕ) (next : Version) : Type 0 where
@@ -211,7 +241,7 @@ pub record ReadyOk (set : Bool) (family : List Version) (firm : Option ℕ) (del
   pub in_hand : NextOk set family firm log told next
 
 abbrev pub StageOk : Core → Stage → Type 0
-StageOk w (Reading read) = ReadingOk w.places w.floor w.deleted read
+StageOk w (Reading read) = ReadingOk w.deleted read
 StageOk w (Creating next) = CreatingOk w.set w.family w.firm w.deleted w.log w.told next
 StageOk w (Claiming adopted next claimed) = ClaimingOk w.set w.family w.firm w.places w.deleted w.log w.told adopted next claimed
 StageOk w (Writing boot took) = WritingOk w.family w.firm w.places w.deleted w.log w.told boot took
@@ -222,7 +252,7 @@ pub record Base (w : Core) : Type 0 where
   pub tables : TablesOk w.set w.family
   pub common : AllCommon w.family w.firm
   pub plans : PlansOk w.family w.firm w.log w.told
-  pub places : PlacesOk w.family w.firm w.places w.floor w.lost w.deleted
+  pub places : PlacesOk w.family w.firm w.places w.deleted
 
 pub record Inv (w : Core) : Type 0 where
   pub base : Base w

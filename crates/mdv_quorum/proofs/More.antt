@@ -3,7 +3,7 @@ use Rattle.std.proofs.Common.{◌≡◌, ◌<◌, ◌≤◌, ◌+◌, ℕ, Bool,
 use Rattle.std.proofs.lemmas.List.{get_or_append_left, get_or_push}
 use Rattle.std.proofs.lemmas.Bool.{or_cases, and_parts, ltb-true, eqb-true, cases_eq}
 use Rattle.std.specs.Prelude.{option_to_list, nat_lt, ◌==◌}
-use Rattle.mdv_quorum.specs.Below.{DriveNo, Mark, Spot, SpotLists, Version, SpotState, is_in, is_named, last_list, is_read, is_written, table_at, no_table, boot_of, mark_below}
+use Rattle.mdv_quorum.specs.Below.{Mark, Spot, SpotLists, Version, SpotState, is_in, is_named, last_list, is_read, is_written, table_at, no_table, boot_of, mark_below}
 use Rattle.mdv_votes.proofs.Quorums.{lists_at, IsCommon}
 use Rattle.mdv_quorum.proofs.Invariant.{newest, boot_at, plan_at, Knows, KnownIn, PlacesOk, IsLive, MadeFrom, TablesOk, ListsOk, AllCommon, PlansOk, Fits, IsPrefix, HasAll}
 
@@ -125,22 +125,26 @@ module _ (set : Bool) (family : List Version) (next : Version) where
     nothing = ok.nothing;
   }
 
-  pub places_more : (firm : Option ℕ) (places : List SpotState) (floor : ℕ) (lost : List DriveNo) (deleted : Option Spot) (log told : List ℕ)
-      → TablesOk set family → PlacesOk family firm places floor lost deleted → Fits set family firm log told next → deleted ≡ None → (length places ≡ 0 → ⊥)
+  pub places_more : (firm : Option ℕ) (places : List SpotState) (deleted : Option Spot) (log told : List ℕ)
+      → TablesOk set family → PlacesOk family firm places deleted → Fits set family firm log told next → deleted ≡ None → (length places ≡ 0 → ⊥)
       → ((i : ℕ) (read knows : Spot → Bool) → i < length family → IsLive firm i → is_read (table_at family i) read knows ≡ true
       → (next.mark.boot ≤ boot_at family i) ⊎ KnownIn family places read next.mark.boot)
-      → PlacesOk (family ++ next ∷ []) firm places floor lost deleted
-  places_more firm places floor lost deleted log told tables ok fits there used numbers =
+      → PlacesOk (family ++ next ∷ []) firm places deleted
+  places_more firm places deleted log told tables ok fits there used numbers =
       let firm_old : (f : ℕ) → firm ≡ Some f → table_at (family ++ next ∷ []) f ≡ table_at family f = λ f e. old_table f (ok.firm_in f e) in
       record {
         firm_in = λ f e. let h = ok.firm_in f e in omega (arith, longer, h);
         shows = λ p j e. let h = ok.shows p j e in omega (arith, longer, h);
-        beaten = λ f i e h. elim (ok.beaten f i e h) [
-          | inl below ↦ inl below
-          | inr beats ↦
-              let hi : i < length family = let hf = ok.firm_in f e in omega (arith, h, hf) in
-              inr (λ read knows r. beats read knows (subst (λ (t : Version). is_read t read knows ≡ true) (old_table i hi) r))
-        ];
+        beaten = λ f i e h read knows r.
+            let hi : i < length family = let hf = ok.firm_in f e in omega (arith, h, hf) in
+            let b = ok.beaten f i e h read knows (subst (λ (t : Version). is_read t read knows ≡ true) (old_table i hi) r) in
+            record {
+              place = b.place;
+              was_read = b.was_read;
+              named = subst (λ (t : Version). is_named t.lists b.place ≡ true) (sym (old_table i hi)) b.named;
+              late = b.late;
+              above = b.above;
+            };
         numbers = λ i u read knows hi hu live r. elim (which i hi) [
           | inl oi ↦
               let reads = subst (λ (t : Version). is_read t read knows ≡ true) (old_table i oi) r in
@@ -168,13 +172,12 @@ module _ (set : Bool) (family : List Version) (next : Version) where
                 | inr eu ↦ let bu = ap (λ (t : Version). t.mark.boot) (new_at u eu) in inl (omega (arith, bi, bu))
               ]
         ];
-        clean = ok.clean;
         listed = λ f p e has held. ok.listed f p e (subst (λ (t : Version). is_in (last_list t.lists) p ≡ true) (firm_old f e) has) held;
         listed_in = λ p e.
             let l = ok.listed_in p e in
             (l.0, l.1, subst (λ (t : Version). is_in (last_list t.lists) p ≡ true) (sym (firm_old l.0 l.1)) l.2);
-        dropped = λ p m e. let h = ok.dropped p m e in omega (arith, longer, h);
-        low = let h = ok.low in omega (arith, longer, h);
+        dropped = ok.dropped;
+        low = ok.low;
         covered = λ f e still.
             let c = ok.covered f e still in (
               c.0,

@@ -1,6 +1,6 @@
 -- The invariant gives standing.
 use Rattle.std.proofs.Common.{◌≡◌, ◌<◌, ◌≤◌, ◌-◌, ℕ, Bool, true, sym, ◌∙◌, List, length, inl, inr, Option, None, Some, arith, ◌&&◌}
-use Rattle.std.proofs.lemmas.Bool.{and_parts, or_cases, ltb-true, eqb-true, false≢true}
+use Rattle.std.proofs.lemmas.Bool.{cases_Bool, and_parts, and_from, or_cases, ltb-true, eqb-true, false≢true}
 use Rattle.std.specs.Prelude.{nat_lt, ◌==◌}
 use Rattle.mdv_quorum.specs.Below.{Mark, IsBelow, Spot, table_at, mark_below, knows_above}
 use Rattle.mdv_quorum.specs.declared.event.Event.{Event}
@@ -8,15 +8,15 @@ use Rattle.mdv_quorum.specs.declared.machine.Core.{Core}
 use Rattle.mdv_quorum.specs.declared.machine.Stage.{Stage}
 use Rattle.mdv_quorum.specs.declared.machine.Stage.TheVariants.{Reading, Creating, Claiming, Writing, Ready}
 use Rattle.mdv_quorum.specs.World.{start, after_all}
-use Rattle.mdv_quorum.specs.May.{IsReady}
+use Rattle.mdv_quorum.specs.May.{is_up, IsReady}
 use Rattle.mdv_quorum.specs.Standing.{Standing, IsMade, Reads, KnowsNumbers, AdoptsOf, BootsAt, IsLastFirm, StandsAlways}
 use Rattle.mdv_votes.proofs.Quorums.{reads_have_one}
 use Rattle.mdv_quorum.proofs.Adopt.{above_known}
 use Rattle.mdv_quorum.proofs.More.{boots_rise}
-use Rattle.mdv_quorum.proofs.Boots.{above_some}
+use Rattle.mdv_quorum.proofs.Boots.{above_some, stale_below, stale_vote}
 use Rattle.mdv_quorum.proofs.Written.{some_same}
 use Rattle.mdv_quorum.proofs.Steps.{reached_ok}
-use Rattle.mdv_quorum.proofs.Invariant.{newest, boot_at, MadeFrom, Base, Inv, StageOk, BootOk, IsLive}
+use Rattle.mdv_quorum.proofs.Invariant.{newest, holds, boot_at, MadeFrom, Base, Inv, StageOk, BootOk, IsLive}
 
 below_is : (a b : Mark) → mark_below a b ≡ true → IsBelow a b
 below_is a b h =
@@ -93,20 +93,35 @@ stands w i =
       held = λ f e there.
           let c = b.places.covered f e there in
           (c.0, c.1, λ p took. (let k = c.2 p took in record { formed = k.held; table = k.table; shows = k.shows; above = k.above }));
-      beaten = λ f j p read e below readable shows reads. elim (b.places.beaten f j e below) [
-        | inl low ↦ (let high = b.places.clean p j readable.place readable.formed readable.up shows in absurd (omega (arith, low, high)))
-        | inr beats ↦
-            let x = beats read (knows_above w.family w.places (table_at w.family j)) reads in
-            record {
+      placed = b.places.listed_in;
+      beaten = λ f j read e below reads.
+          let x = b.places.beaten f j e below read (knows_above w.family w.places (table_at w.family j)) reads in
+          elim x.above [
+            | inl above ↦ inl (record {
               place = x.place;
               kind = elim x.late [
                 | inl late ↦ late.0
-                | inr seat ↦ absurd (false≢true (sym seat.1 ∙ above_known w.set w.family w.places j x.place b.tables (b.places.shows x.place) x.above))
+                | inr seat ↦ absurd (false≢true (sym seat.1 ∙ above_known w.set w.family w.places j x.place b.tables (b.places.shows x.place) above))
               ];
               was_read = x.was_read;
-              shows = λ r. above_some (newest w.places x.place) j x.above;
-            }
-      ];
+              shows = λ r. above_some (newest w.places x.place) j above;
+            })
+            | inr stale ↦ elim (cases_Bool (holds w.places x.place && is_up w.lost x.place)) [
+              | inl is ↦
+                  let parts = and_parts (holds w.places x.place) (is_up w.lost x.place) is in
+                  inr (x.place, x.was_read, record { place = stale.0; formed = parts.0; up = parts.1 }, stale_vote w j x.place x.named stale.1 stale.2)
+              | inr isnt ↦ inl (record {
+                place = x.place;
+                kind = stale.0;
+                was_read = x.was_read;
+                shows = λ r. absurd (false≢true (sym isnt ∙ and_from (holds w.places x.place) (is_up w.lost x.place) r.formed r.up));
+              })
+            ]
+          ];
+      stale = λ j q vote.
+          let below = stale_below w j q vote in
+          let low = b.places.low q (omega (arith, below)) in
+          (low.0, low.1, omega (arith, below, low.2));
       numbers = λ f j read e le hj reads. numbers_at w j read b hj (firm_live w.firm f j e le) reads;
       boots = boots_at w w.stage b i.stage;
       ready = ready_at w w.stage i.stage;

@@ -33,7 +33,7 @@ base_after w p Holds boot took b t = record {
   tables = b.tables;
   common = b.common;
   plans = b.plans;
-  places = write_places w.family w.firm w.places w.floor w.lost w.deleted p w.set b.tables b.places t.some t.there;
+  places = write_places w.family w.firm w.places w.deleted p w.set b.tables b.places t.some t.there;
 }
 
 taking_after : (w : Core) (p : Spot) (end : SlotEnd) (boot : Option ℕ) (took : List Spot) → TakingOk w.family w.firm w.places w.deleted w.log w.told boot took
@@ -73,7 +73,7 @@ settled_ok v boot took true b t e = record {
     tables = b.tables;
     common = settle_common v.family t.some;
     plans = settle_plans v.family v.firm v.log v.told t.some b.places.firm_in b.plans;
-    places = settle_places v.family v.firm v.places v.floor v.lost v.deleted (is_in took) v.set b.tables b.common b.places t.some t.there t.taken e t.alone;
+    places = settle_places v.family v.firm v.places v.deleted (is_in took) v.set b.tables b.common b.places t.some t.there t.taken e t.alone;
   };
   stage = record {
     taking = record {
@@ -113,7 +113,7 @@ first_ok w p end boot next b fits there made numbers target =
       tables = tables_more w.set w.family next w.firm w.log w.told b.tables fits;
       common = all_common_more w.set w.family next w.firm w.log w.told b.places.firm_in b.common fits;
       plans = plans_more w.set w.family next w.firm w.log w.told b.places.firm_in b.plans fits;
-      places = places_more w.set w.family next w.firm w.places w.floor w.lost w.deleted w.log w.told b.tables b.places fits there used numbers;
+      places = places_more w.set w.family next w.firm w.places w.deleted w.log w.told b.tables b.places fits there used numbers;
     })
     (record {
       there = there;

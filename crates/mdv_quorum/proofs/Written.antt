@@ -1,11 +1,12 @@
 -- A place takes the last table, and that table becomes firm.
-use Rattle.std.proofs.Common.{◌≡◌, ◌<◌, ◌≤◌, ◌-◌, ℕ, Bool, true, false, refl, ap, sym, ◌∙◌, subst, List, [], length, inl, inr, ◌⊎◌, Option, None, Some, arith, map, append-nil}
-use Rattle.std.proofs.lemmas.Bool.{false≢true, cases_lt}
-use Rattle.mdv_quorum.specs.Below.{DriveNo, Spot, SpotLists, Version, SpotState, Since, Never, Listed, Dropped, is_in, last_list, is_written, table_at, boot_of, put_at, with_newest, with_since, since_after}
+use Rattle.std.proofs.Common.{◌≡◌, ◌<◌, ◌≤◌, ◌-◌, ℕ, Bool, true, false, refl, ap, sym, ◌∙◌, subst, List, [], length, inl, inr, ◌⊎◌, Option, None, Some, arith, map, append-nil, cond, ◌||◌}
+use Rattle.std.proofs.lemmas.Bool.{false≢true, cases_lt, or_left, or_right}
+use Rattle.mdv_quorum.specs.Below.{Spot, SpotLists, Version, SpotState, Since, Never, Listed, Dropped, in_second, is_in, is_named, last_list, is_written, place_at, table_at, boot_of, put_at, with_newest, with_since, since_after}
+use Rattle.mdv_votes.specs.Laws.{HasList}
 use Rattle.mdv_votes.proofs.Quorums.{writes_meet_reads, lists_at, IsCommon, last_in, seats_itself}
 use Rattle.mdv_votes.proofs.PlacesAt.{put_cases, put_used, map_at, map_used, spot_at}
 use Rattle.mdv_quorum.proofs.More.{boots_rise, none_some}
-use Rattle.mdv_quorum.proofs.Invariant.{newest, claim, holds, since, boot_at, plan_at, Above, Late, IsCovered, PlacesOk, IsLive, TablesOk, AllCommon, PlansOk, IsPrefix, HasTaken, IsAlone}
+use Rattle.mdv_quorum.proofs.Invariant.{newest, claim, holds, since, floor, Reaches, outdoes_as, boot_at, plan_at, Above, Late, IsCovered, PlacesOk, IsLive, TablesOk, AllCommon, PlansOk, IsPrefix, HasTaken, IsAlone}
 
 pub some_same : {A : Type 0} (a b : A) → Some a ≡ Some b → a ≡ b
 some_same a b e = cc
@@ -17,15 +18,28 @@ live_or_below None i = inl (λ f e. absurd (none_is f e))
     none_is f e = cc
 live_or_below (Some f) i = elim (cases_lt i f) [ inl less ↦ inr (f, refl, less) | inr more ↦ inl (λ g e. subst (λ (k : ℕ). k ≤ i) (some_same f g e) more) ]
 
-pub write_places : (family : List Version) (firm : Option ℕ) (places : List SpotState) (floor : ℕ) (lost : List DriveNo) (deleted : Option Spot) (p : Spot) (set : Bool)
-    → TablesOk set family → PlacesOk family firm places floor lost deleted → 0 < length family → deleted ≡ None
-    → PlacesOk family firm (put_at places p (with_newest (length family - 1))) floor lost deleted
-write_places family firm places floor lost deleted p set tables ok some there =
+-- a table names each place of its lists, and each of its mediators
+pub named_on : (lists : SpotLists) (list : List Spot) (p : Spot) → HasList lists list → p.mediator ≡ false → is_in list p ≡ true → is_named lists p ≡ true
+named_on lists list p has place on =
+    let either : (is_in lists.first p || in_second lists.second p) ≡ true = elim has [
+      | inl first ↦ or_left (is_in lists.first p) (in_second lists.second p) (subst (λ (l : List Spot). is_in l p ≡ true) (sym first) on)
+      | inr second ↦ or_right (is_in lists.first p) (in_second lists.second p) (ap (λ (o : Option (List Spot)). in_second o p) second ∙ on)
+    ] in
+    ap (λ (b : Bool). cond b (is_in lists.mediators p) (is_in lists.first p || in_second lists.second p)) place ∙ either
+
+named_seat : (lists : SpotLists) (p : Spot) → p.mediator ≡ true → is_in lists.mediators p ≡ true → is_named lists p ≡ true
+named_seat lists p seat on = ap (λ (b : Bool). cond b (is_in lists.mediators p) (is_in lists.first p || in_second lists.second p)) seat ∙ on
+
+pub write_places : (family : List Version) (firm : Option ℕ) (places : List SpotState) (deleted : Option Spot) (p : Spot) (set : Bool)
+    → TablesOk set family → PlacesOk family firm places deleted → 0 < length family → deleted ≡ None
+    → PlacesOk family firm (put_at places p (with_newest (length family - 1))) deleted
+write_places family firm places deleted p set tables ok some there =
     let m = length family - 1 in
     let new = put_at places p (with_newest m) in
     let cases = λ (q : Spot). put_cases places p q (with_newest m) (λ x. refl) in
     let held = λ (q : Spot). elim (cases q) as (λ c. holds new q ≡ holds places q) [ inl a ↦ ap (λ (x : SpotState). x.holds) a.1 | inr b ↦ ap (λ (x : SpotState). x.holds) b.1 ] in
     let stands = λ (q : Spot). elim (cases q) as (λ c. since new q ≡ since places q) [ inl a ↦ ap (λ (x : SpotState). x.since) a.1 | inr b ↦ ap (λ (x : SpotState). x.since) b.1 ] in
+    let floors = λ (q : Spot). elim (cases q) as (λ c. floor new q ≡ floor places q) [ inl a ↦ ap (λ (x : SpotState). x.floor) a.1 | inr b ↦ ap (λ (x : SpotState). x.floor) b.1 ] in
     let shows = λ (q : Spot). elim (cases q) as (λ c. (newest new q ≡ Some m) ⊎ (newest new q ≡ newest places q)) [ inl a ↦ inl (ap (λ (x : SpotState). x.newest) a.1) | inr b ↦ inr (ap (λ (x : SpotState). x.newest) b.1) ] in
     let claims = λ (q : Spot). elim (cases q) as (λ c. claim new q ≡ claim places q) [ inl a ↦ ap (λ (x : SpotState). x.claim) a.1 | inr b ↦ ap (λ (x : SpotState). x.claim) b.1 ] in
     record {
@@ -34,21 +48,19 @@ write_places family firm places floor lost deleted p set tables ok some there =
         | inl a ↦ let same : m ≡ j = some_same m j (sym a ∙ e) in omega (arith, same, some)
         | inr b ↦ ok.shows q j (sym b ∙ e)
       ];
-      beaten = λ f i e h. elim (ok.beaten f i e h) [
-        | inl below ↦ inl below
-        | inr beats ↦ inr (λ read knows r.
-            let b = beats read knows r in
-            let hf = ok.firm_in f e in
-            record {
-              place = b.place;
-              was_read = b.was_read;
-              late = elim b.late [ inl a ↦ inl (a.0, subst (λ (s : Since). Late s i) (sym (stands b.place)) a.1) | inr seat ↦ inr seat ];
-              above = elim (shows b.place) [
-                | inl a ↦ subst (λ (o : Option ℕ). Above o i) (sym a) (omega (arith, h, hf))
-                | inr same ↦ subst (λ (o : Option ℕ). Above o i) (sym same) b.above
-              ];
-            })
-      ];
+      beaten = λ f i e h read knows r.
+          let b = ok.beaten f i e h read knows r in
+          let hf = ok.firm_in f e in
+          record {
+            place = b.place;
+            was_read = b.was_read;
+            named = b.named;
+            late = elim b.late [ inl a ↦ inl (a.0, subst (λ (s : Since). Late s i) (sym (stands b.place)) a.1) | inr seat ↦ inr seat ];
+            above = elim (shows b.place) [
+              | inl a ↦ inl (subst (λ (o : Option ℕ). Above o i) (sym a) (omega (arith, h, hf)))
+              | inr same ↦ outdoes_as b.place (place_at places b.place) (place_at new b.place) i same (floors b.place) b.above
+            ];
+          };
       numbers = λ i u read knows hi hu live r. elim (ok.numbers i u read knows hi hu live r) [
         | inl less ↦ inl less
         | inr known ↦ inr (
@@ -62,14 +74,10 @@ write_places family firm places floor lost deleted p set tables ok some there =
           ],
         )
       ];
-      clean = λ q j place there up e. elim (shows q) [
-        | inl a ↦ let same : m ≡ j = some_same m j (sym a ∙ e) in let low = ok.low in omega (arith, same, low)
-        | inr b ↦ ok.clean q j place (sym (held q) ∙ there) up (sym b ∙ e)
-      ];
       listed = λ f q e has h. stands q ∙ ok.listed f q e has (sym (held q) ∙ h);
       listed_in = λ q e. ok.listed_in q (sym (stands q) ∙ e);
       dropped = λ q k e. ok.dropped q k (sym (stands q) ∙ e);
-      low = ok.low;
+      low = λ q. subst (λ (n : ℕ). 0 < n → Reaches firm n) (sym (floors q)) (ok.low q);
       covered = λ f e still.
           let c = ok.covered f e still in (
             c.0,
@@ -118,11 +126,11 @@ dropped_cases m k false Listed e = inl (same (sym e))
 dropped_cases m k false (Dropped j) e = inr e
 
 -- the last table is firm now
-pub settle_places : (family : List Version) (firm : Option ℕ) (places : List SpotState) (floor : ℕ) (lost : List DriveNo) (deleted : Option Spot) (took : Spot → Bool) (set : Bool)
-    → TablesOk set family → AllCommon family firm → PlacesOk family firm places floor lost deleted → 0 < length family → deleted ≡ None
+pub settle_places : (family : List Version) (firm : Option ℕ) (places : List SpotState) (deleted : Option Spot) (took : Spot → Bool) (set : Bool)
+    → TablesOk set family → AllCommon family firm → PlacesOk family firm places deleted → 0 < length family → deleted ≡ None
     → ((p : Spot) → took p ≡ true → HasTaken family places p) → is_written (table_at family (length family - 1)) took ≡ true
-    → IsAlone family firm (table_at family (length family - 1)) → PlacesOk family (Some (length family - 1)) (map (with_since (length family - 1) (last_list (lists_at family (length family - 1)))) places) floor lost deleted
-settle_places family firm places floor lost deleted took set tables common ok some there taken written alone =
+    → IsAlone family firm (table_at family (length family - 1)) → PlacesOk family (Some (length family - 1)) (map (with_since (length family - 1) (last_list (lists_at family (length family - 1)))) places) deleted
+settle_places family firm places deleted took set tables common ok some there taken written alone =
     let m = length family - 1 in
     let hm : m < length family = omega (arith, some) in
     let list = last_list (lists_at family m) in
@@ -130,12 +138,14 @@ settle_places family firm places floor lost deleted took set tables common ok so
     let cases = λ (q : Spot). map_at places q (with_since m list) (λ x. refl) in
     let held = λ (q : Spot). elim (cases q) as (λ c. holds new q ≡ holds places q) [ inl a ↦ ap (λ (x : SpotState). x.holds) a | inr b ↦ ap (λ (x : SpotState). x.holds) b.0 ∙ sym (ap (λ (x : SpotState). x.holds) b.1) ] in
     let shows = λ (q : Spot). elim (cases q) as (λ c. newest new q ≡ newest places q) [ inl a ↦ ap (λ (x : SpotState). x.newest) a | inr b ↦ ap (λ (x : SpotState). x.newest) b.0 ∙ sym (ap (λ (x : SpotState). x.newest) b.1) ] in
+    let floors = λ (q : Spot). elim (cases q) as (λ c. floor new q ≡ floor places q) [ inl a ↦ ap (λ (x : SpotState). x.floor) a | inr b ↦ ap (λ (x : SpotState). x.floor) b.0 ∙ sym (ap (λ (x : SpotState). x.floor) b.1) ] in
     let stands = λ (q : Spot). elim (cases q) as (λ c. (since new q ≡ since_after m (is_in list q) (since places q)) ⊎ ((since new q ≡ Never) × (since places q ≡ Never) × (holds places q ≡ false))) [
       | inl a ↦ inl (ap (λ (x : SpotState). x.since) a ∙ ap (λ (s : Spot). since_after m (is_in list s) (since places q)) (spot_at places q))
       | inr b ↦ inr (ap (λ (x : SpotState). x.since) b.0, ap (λ (x : SpotState). x.since) b.1, ap (λ (x : SpotState). x.holds) b.1)
     ] in
     let is_m = λ (f : ℕ) (e : Some m ≡ Some f). some_same m f e in
     let live_m : IsLive firm m = λ f e. (let hf = ok.firm_in f e in omega (arith, hf)) in
+    let reaches_last : (k : ℕ) → Reaches firm k → Reaches (Some m) k = λ k r. (let hf = ok.firm_in r.0 r.1 in (m, refl, omega (arith, hf, r.2))) in
     record {
       firm_in = λ f e. let same = is_m f e in omega (arith, same, hm);
       shows = λ q j e. ok.shows q j (sym (shows q) ∙ e);
@@ -143,7 +153,7 @@ settle_places family firm places floor lost deleted took set tables common ok so
           let him : i < m = (let same = is_m f e in omega (arith, same, h)) in
           let hi : i < length family = omega (arith, him, hm) in
           elim (live_or_below firm i) [
-            | inl live ↦ inr (λ read knows r.
+            | inl live ↦ λ read knows r.
                 let c = common i m hi hm live live_m in
                 let found = writes_meet_reads (table_at family i) (table_at family m) took read knows c.shared (λ half nobody. alone half nobody i hi live) written r in
                 let q = found.0 in
@@ -161,30 +171,31 @@ settle_places family firm places floor lost deleted took set tables common ok so
                 record {
                   place = q;
                   was_read = found.2;
+                  named = elim found.3 [
+                    | inl on ↦ named_on (lists_at family i) c.shared.list q c.shared.in_a ((tables.lists i hi).places c.shared.list q c.shared.in_a on) on
+                    | inr seat ↦ named_seat (lists_at family i) q ((tables.lists i hi).seats q seat.0) seat.0
+                  ];
                   late = elim found.3 [
                     | inl on ↦ inl ((tables.lists i hi).places c.shared.list q c.shared.in_a on, late on)
                     | inr seat ↦ inr ((tables.lists i hi).seats q seat.0, seat.1)
                   ];
-                  above = subst (λ (o : Option ℕ). Above o i) (sym (shows q ∙ t.shows)) him;
-                })
-            | inr below ↦ elim (ok.beaten below.0 i below.1 below.2) [
-              | inl low ↦ inl low
-              | inr beats ↦ inr (λ read knows r.
-                  let b = beats read knows r in
-                  let late : Late (since places b.place) i → Late (since new b.place) i = λ was. elim (stands b.place) [
-                    | inl s ↦ subst (λ (z : Since). Late z i) (sym s) (late_after m i (is_in list b.place) (since places b.place) him was)
-                    | inr blank ↦ absurd (subst (λ (z : Since). Late z i) blank.1 was)
-                  ] in
-                  record {
-                    place = b.place;
-                    was_read = b.was_read;
-                    late = elim b.late [ inl a ↦ inl (a.0, late a.1) | inr seat ↦ inr seat ];
-                    above = subst (λ (o : Option ℕ). Above o i) (sym (shows b.place)) b.above;
-                  })
-            ]
+                  above = inl (subst (λ (o : Option ℕ). Above o i) (sym (shows q ∙ t.shows)) him);
+                }
+            | inr below ↦ λ read knows r.
+                let b = ok.beaten below.0 i below.1 below.2 read knows r in
+                let late : Late (since places b.place) i → Late (since new b.place) i = λ was. elim (stands b.place) [
+                  | inl s ↦ subst (λ (z : Since). Late z i) (sym s) (late_after m i (is_in list b.place) (since places b.place) him was)
+                  | inr blank ↦ absurd (subst (λ (z : Since). Late z i) blank.1 was)
+                ] in
+                record {
+                  place = b.place;
+                  was_read = b.was_read;
+                  named = b.named;
+                  late = elim b.late [ inl a ↦ inl (a.0, late a.1) | inr seat ↦ inr seat ];
+                  above = outdoes_as b.place (place_at places b.place) (place_at new b.place) i (shows b.place) (floors b.place) b.above;
+                }
           ];
       numbers = λ i u read knows hi hu live r. inl (boots_rise set family tables u i (let up = live m refl in omega (arith, up, hu)) hi);
-      clean = λ q j place h up e. ok.clean q j place (sym (held q) ∙ h) up (sym (shows q) ∙ e);
       listed = λ f q e has h. elim (stands q) [
         | inl s ↦ s ∙ ap (λ (b : Bool). since_after m b (since places q)) (subst (λ (k : ℕ). is_in (last_list (lists_at family k)) q ≡ true) (sym (is_m f e)) has)
         | inr blank ↦ absurd (false≢true (sym blank.2 ∙ sym (held q) ∙ h))
@@ -194,10 +205,10 @@ settle_places family firm places floor lost deleted took set tables common ok so
         | inr blank ↦ absurd (not_listed (sym blank.0 ∙ e))
       ];
       dropped = λ q k e. elim (stands q) [
-        | inl s ↦ elim (dropped_cases m k (is_in list q) (since places q) (sym s ∙ e)) [ inl same ↦ omega (arith, same) | inr old ↦ ok.dropped q k old ]
+        | inl s ↦ elim (dropped_cases m k (is_in list q) (since places q) (sym s ∙ e)) [ inl same ↦ (m, refl, omega (arith, same)) | inr old ↦ reaches_last k (ok.dropped q k old) ]
         | inr blank ↦ absurd (not_dropped k (sym blank.0 ∙ e))
       ];
-      low = ok.low;
+      low = λ q some_floor. subst (Reaches (Some m)) (sym (floors q)) (reaches_last (floor places q) (ok.low q (subst (λ (n : ℕ). 0 < n) (floors q) some_floor)));
       covered = λ f e still.
           subst (λ (k : ℕ). IsCovered family new k) (is_m f e) (
             took,

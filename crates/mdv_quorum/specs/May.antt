@@ -1,13 +1,13 @@
 -- When each event may happen.
 use Rattle.std.specs.Prelude.{◌≡◌, ℕ, ◌+◌, ◌^◌, ◌++◌, ◌&&◌, ◌||◌, ◌==◌, not, Bool, true, false, List, [], ◌∷◌, Option, None, Some, length, nat_lt, nat_le, cond, IsTrue}
 use Rattle.std.specs.List.{list_any, list_all}
-use Rattle.mdv_quorum.specs.Below.{DriveNo, Spot, SpotLists, Version, SpotState, same_spot, is_in, is_named, is_none, same_spots, is_written, is_claimed, is_read, table_at, place_at, newest_of, greatest_of, knows_above}
+use Rattle.mdv_quorum.specs.Below.{DriveNo, Spot, SpotLists, Version, same_spot, is_in, is_named, is_none, same_spots, is_written, is_claimed, is_read, table_at, place_at, newest_of, greatest_of, knows_above}
 use Rattle.mdv_quorum.specs.declared.event.Event.{Event}
 use Rattle.mdv_quorum.specs.declared.event.Event.TheVariants.{Read, Claimed, Slotted, Formatted, Wiped, Lists, Told, Crash, Lose, Back}
 use Rattle.mdv_quorum.specs.declared.machine.Core.{Core}
 use Rattle.mdv_quorum.specs.declared.machine.Stage.{Stage}
 use Rattle.mdv_quorum.specs.declared.machine.Stage.TheVariants.{Reading, Creating, Claiming, Writing, Ready}
-use Rattle.mdv_quorum.specs.World.{last_table, happens, after_all, raised, without_drive, rewritten}
+use Rattle.mdv_quorum.specs.World.{last_table, happens, after_all, rewritten}
 
 abbrev pub is_up : List DriveNo → Spot → Bool
 is_up lost p = not (list_any (λ (d : DriveNo). d.0 == p.drive.0) lost)
@@ -30,12 +30,26 @@ may_adopt w t places p =
     is_read t (is_in places) (knows_above w.family w.places t)
     && (is_target w t.lists p && nat_lt (greatest_of w.family w.places 0 places + 1) (2 ^ 63))
 
+abbrev pub shows_none : Option ℕ → Bool
+shows_none None = true
+shows_none (Some i) = false
+
+-- A place that the table of this number names shows none, and a later one dropped it before it was
+-- formatted again: it is readable, and its vote is no vote for this table.
+abbrev pub is_stale_vote : Core → ℕ → Spot → Bool
+is_stale_vote w i q = is_named (table_at w.family i).lists q && (shows_none (place_at w.places q).newest && nat_lt i (place_at w.places q).floor)
+
+-- Clean re-use: none of what a boot read is a stale vote for the table that it chooses.
+abbrev pub is_fair : Core → ℕ → List Spot → Bool
+is_fair w i places = list_all (λ (q : Spot). not (is_stale_vote w i q)) places
+
 abbrev pub may_choose : Core → Spot → List Spot → Option ℕ → Bool
 may_choose w p places None = false
 may_choose w p places (Some i) =
     let t = table_at w.family i in
-    is_read t (is_in places) (knows_above w.family w.places t)
-    && (is_target w t.lists p && nat_lt (rewritten w places i).mark.boot (2 ^ 63))
+    (is_read t (is_in places) (knows_above w.family w.places t)
+    && (is_target w t.lists p && nat_lt (rewritten w places i).mark.boot (2 ^ 63)))
+    && is_fair w i places
 
 abbrev pub is_boot : Option ℕ → Bool
 is_boot None = false
@@ -66,28 +80,9 @@ abbrev pub is_firm_in : List Version → Option ℕ → Spot → Bool
 is_firm_in family None p = false
 is_firm_in family (Some i) p = is_named (table_at family i).lists p
 
-abbrev pub shows_below : ℕ → Option ℕ → Bool
-shows_below floor None = false
-shows_below floor (Some i) = nat_lt i floor
-
--- this replica isn't readable, or shows no table below the floor
-abbrev pub is_clean_at : ℕ → List DriveNo → SpotState → Bool
-is_clean_at floor lost x = not (x.holds && is_up lost x.spot) || (x.spot.mediator || not (shows_below floor x.newest))
-
--- Clean re-use: no readable replica shows a table older than the one that dropped a place which was
--- formatted again.
-abbrev pub is_clean : ℕ → List DriveNo → List SpotState → Bool
-is_clean floor lost places = list_all (is_clean_at floor lost) places
-
-abbrev pub is_clean_but : Spot → ℕ → List DriveNo → List SpotState → Bool
-is_clean_but p floor lost places = list_all (λ (x : SpotState). same_spot x.spot p || is_clean_at floor lost x) places
-
 -- a replica's place that the table in hand names and the firm one doesn't
 abbrev pub may_format_place : Core → Spot → SpotLists → Bool
-may_format_place w p lists =
-    not p.mediator
-    && ((is_named lists p && not (is_firm_in w.family w.firm p))
-    && is_clean_but p (raised w.floor (place_at w.places p).since) w.lost w.places)
+may_format_place w p lists = not p.mediator && (is_named lists p && not (is_firm_in w.family w.firm p))
 
 abbrev pub may_format_next : Core → Spot → Option Version → Bool
 may_format_next w p None = false
@@ -186,9 +181,6 @@ may_tell w (Ready next) = false
 abbrev pub is_lost : List DriveNo → ℕ → Bool
 is_lost lost d = list_any (λ (x : DriveNo). x.0 == d) lost
 
-abbrev pub may_come_back : Core → ℕ → Bool
-may_come_back w d = is_lost w.lost d && is_clean w.floor (without_drive w.lost d) w.places
-
 abbrev pub IsReady : Stage → Type 0
 IsReady (Reading places) = ⊥
 IsReady (Creating next) = ⊥
@@ -206,7 +198,7 @@ may w (Lists lists) = may_list w lists w.stage
 may w Told = may_tell w w.stage
 may w Crash = true
 may w (Lose d) = not (is_lost w.lost d.0)
-may w (Back d) = may_come_back w d.0
+may w (Back d) = is_lost w.lost d.0
 
 -- each event of the list may happen where it happens
 abbrev pub MayAll : Core → List Event → Type 0

@@ -1,13 +1,13 @@
 -- What holds of the replicas and mediators of one database after every list of events.
 use Rattle.std.specs.Prelude.{◌≡◌, ℕ, ◌-◌, ◌<◌, ◌≤◌, ◌⊎◌, Bool, false, List, [], ◌∷◌, ◌++◌, Option, None, Some, length, option_to_list, Contains, IsTrue}
-use Rattle.mdv_quorum.specs.Below.{IsBelow, Spot, Version, is_written, is_read, table_at, place_at, boot_of, knows_above}
+use Rattle.mdv_quorum.specs.Below.{IsBelow, Spot, Version, Listed, is_in, last_list, is_written, is_read, table_at, place_at, boot_of, knows_above}
 use Rattle.mdv_quorum.specs.declared.event.Event.{Event}
 use Rattle.mdv_quorum.specs.declared.event.Event.TheVariants.{Told}
 use Rattle.mdv_quorum.specs.declared.machine.Core.{Core}
 use Rattle.mdv_quorum.specs.declared.machine.Stage.{Stage}
 use Rattle.mdv_quorum.specs.declared.machine.Stage.TheVariants.{Reading, Creating, Claiming, Writing, Ready}
 use Rattle.mdv_quorum.specs.World.{start, after_all}
-use Rattle.mdv_quorum.specs.May.{is_up, IsReady, MayAll}
+use Rattle.mdv_quorum.specs.May.{is_up, is_stale_vote, IsReady, MayAll}
 
 abbrev pub newest_at : Core → Spot → Option ℕ
 newest_at w p = (place_at w.places p).newest
@@ -70,10 +70,13 @@ pub record IsBeaten (w : Core) (i : ℕ) (read : Spot → Bool) : Type 0 where
   pub was_read : IsTrue (read place)
   pub shows : IsReadable w place → (j : ℕ) × (newest_at w place ≡ Some j) × (i < j)
 
--- a table below the firm one that a readable place shows is beaten in each of its read quorums
+-- what was read has a stale vote for this table
+abbrev pub HasStaleVote : Core → ℕ → (Spot → Bool) → Type 0
+HasStaleVote w i read = (q : Spot) × IsTrue (read q) × IsReadable w q × IsTrue (is_stale_vote w i q)
+
+-- a table below the firm one is beaten in each of its read quorums that has no stale vote
 abbrev pub AreBeaten : Core → Type 0
-AreBeaten w =
-    (f i : ℕ) (p : Spot) (read : Spot → Bool) → w.firm ≡ Some f → i < f → IsReadable w p → newest_at w p ≡ Some i → Reads w i read → IsBeaten w i read
+AreBeaten w = (f i : ℕ) (read : Spot → Bool) → w.firm ≡ Some f → i < f → Reads w i read → IsBeaten w i read ⊎ HasStaleVote w i read
 
 -- its claim or newest boot number is at least each boot number of the family above that of this table
 abbrev pub KnowsNumbers : Core → ℕ → Spot → Type 0
@@ -113,12 +116,22 @@ BootsAt w (Ready next) = w.deleted ≡ None
 abbrev pub IsLastFirm : Core → Type 0
 IsLastFirm w = (0 < length w.family) × (w.firm ≡ Some (length w.family - 1))
 
+-- a stale vote is one for a table below the firm one: no boot that chooses another is kept from it
+abbrev pub AreLow : Core → Type 0
+AreLow w = (i : ℕ) (q : Spot) → IsTrue (is_stale_vote w i q) → (f : ℕ) × (w.firm ≡ Some f) × (i < f)
+
+-- a place that is said to be listed is one of the firm table's last list
+abbrev pub ArePlaced : Core → Type 0
+ArePlaced w = (p : Spot) → (place_at w.places p).since ≡ Listed → (f : ℕ) × (w.firm ≡ Some f) × IsTrue (is_in (last_list (table_of w f).lists) p)
+
 -- all of it
 pub record Standing (w : Core) : Type 0 where
   pub family : IsFamily w
   pub descent : IsDescended w
   pub held : (f : ℕ) → w.firm ≡ Some f → w.deleted ≡ None → IsHeld w f
+  pub placed : ArePlaced w
   pub beaten : AreBeaten w
+  pub stale : AreLow w
   pub numbers : AreNumbersKnown w
   -- what a boot adopts; once the database is deleted none goes past reading
   pub boots : BootsAt w w.stage

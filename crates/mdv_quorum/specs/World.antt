@@ -1,6 +1,6 @@
 -- What each event does to the replicas and mediators of one database.
-use Rattle.std.specs.Prelude.{ℕ, ◌+◌, ◌-◌, ◌&&◌, ◌==◌, not, Bool, true, false, List, [], ◌∷◌, ◌++◌, Option, None, Some, length, max, cond, map, filter, option_to_list}
-use Rattle.mdv_quorum.specs.Below.{DriveNo, Mark, Spot, SpotLists, Version, SpotState, Since, Never, Listed, Dropped, is_in, is_none, is_named, last_list, same_spots, is_written, table_at, place_at, change_at, put_at, with_claim, with_newest, with_since, wiped, formatted, newest_of, greatest_of}
+use Rattle.std.specs.Prelude.{ℕ, ◌+◌, ◌-◌, ◌&&◌, ◌==◌, not, Bool, true, false, List, [], ◌∷◌, ◌++◌, Option, None, Some, length, cond, map, filter, option_to_list}
+use Rattle.mdv_quorum.specs.Below.{DriveNo, Mark, Spot, SpotLists, Version, SpotState, is_in, is_none, is_named, last_list, same_spots, is_written, table_at, change_at, put_at, with_claim, with_newest, with_since, wiped, formatted, newest_of, greatest_of}
 use Rattle.mdv_quorum.specs.declared.event.SlotEnd.{SlotEnd}
 use Rattle.mdv_quorum.specs.declared.event.SlotEnd.TheVariants.{Closed, Holds}
 use Rattle.mdv_quorum.specs.declared.event.Event.{Event}
@@ -17,7 +17,6 @@ start set = record {
   lost = [];
   family = [];
   firm = None;
-  floor = 0;
   deleted = None;
   stage = Reading [];
   adopted = None;
@@ -111,20 +110,9 @@ slotted w p end (Claiming adopted next claimed) = wrote (with_table w next) p en
 slotted w p end (Writing boot took) = wrote w p end boot took
 slotted w p end (Ready next) = slotted_next w p end next
 
--- Below this table no readable replica may show one, once the place is formatted again: that is the
--- first firm table whose last list no longer had the place.
-abbrev pub raised : ℕ → Since → ℕ
-raised floor Never = floor
-raised floor Listed = floor
-raised floor (Dropped i) = max floor i
-
 -- a replica's place is formatted under this boot's number
 abbrev pub formatted_under : Core → Spot → ℕ → Core
-formatted_under w p boot =
-    record w {
-      places = put_at w.places p (formatted boot None);
-      floor = raised w.floor (place_at w.places p).since;
-    }
+formatted_under w p boot = record w { places = put_at w.places p (formatted boot None) }
 
 -- a replica's place is formatted for the table in hand
 abbrev pub formatted_place : Core → Spot → Version → Core

@@ -39,7 +39,6 @@ pub struct Core {
     pub(crate) lost: Row<DriveNo>,
     pub(crate) family: Row<Version>,
     pub(crate) firm: Option<usize>,
-    pub(crate) floor: usize,
     /// The place whose blanking ended the database.
     pub(crate) deleted: Option<Spot>,
     pub(crate) stage: Stage,
@@ -62,7 +61,6 @@ impl Core {
             lost: Row::new(alloc),
             family: Row::new(alloc),
             firm: None,
-            floor: 0,
             deleted: None,
             stage: Stage::Reading {
                 read: Row::new(alloc),

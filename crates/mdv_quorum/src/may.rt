@@ -6,16 +6,14 @@ ghost use Rattle.mdv_votes.specs.Spots.{is_in as spec_is_in, is_none as spec_is_
 ghost use Rattle.mdv_votes.specs.declared.spot.Spot.{Spot};
 ghost use Rattle.mdv_votes.specs.Quorum.{is_written as spec_is_written, is_claimed as spec_is_claimed, is_read as spec_is_read};
 ghost use Rattle.mdv_votes.specs.Family.{knows_above as spec_knows_above};
-ghost use Rattle.mdv_quorum.specs.World.{without_drive};
-ghost use Rattle.mdv_quorum.specs.May.{is_place, all_second, shows_below as spec_shows_below, is_up as spec_is_up, is_clean_at as spec_is_clean_at, is_clean as spec_is_clean, is_clean_but as spec_is_clean_but, is_only_place as spec_is_only_place, is_lists as spec_is_lists, is_distinct as spec_is_distinct, is_one_more as spec_is_one_more, may_follow as spec_may_follow, is_lost as spec_is_lost, moves_on as spec_moves_on, same_second as spec_same_second};
+ghost use Rattle.mdv_quorum.specs.May.{is_place, all_second, is_up as spec_is_up, shows_none as spec_shows_none, is_only_place as spec_is_only_place, is_lists as spec_is_lists, is_distinct as spec_is_distinct, is_one_more as spec_is_one_more, may_follow as spec_may_follow, is_lost as spec_is_lost, moves_on as spec_moves_on, same_second as spec_same_second};
 
 use crate::Event;
 use crate::machine::{Core, Stage};
-use crate::step::raised;
 use mdv_base::{DriveNo, NUMBER_LIMIT};
 use mdv_votes::{
-    Spot, SpotLists, SpotState, Version, greatest_of, is_claimed, is_in, is_named, is_read,
-    is_written, newest_of, no_table, place_at, same_spot, same_spots, table_at,
+    Spot, SpotLists, Version, greatest_of, is_claimed, is_in, is_named, is_read, is_written,
+    newest_of, no_table, place_at, same_spot, same_spots, table_at,
 };
 use std::alloc::Global;
 
@@ -31,54 +29,13 @@ fn is_up(lost: &[DriveNo], p: Spot) -> bool
     !is_lost(lost, p.drive)
 }
 
-/// Whether a drive is up once this one is back.
-fn is_up_back(lost: &[DriveNo], drive: DriveNo, p: Spot) -> bool
-    ensures { result ≡ spec_is_up (without_drive lost.now drive.0) p }
-{
-    p.drive.0 == drive.0 || is_up(lost, p)
-}
-
-fn shows_below(floor: usize, newest: Option<usize>) -> bool
-    ensures { result ≡ spec_shows_below floor newest }
+fn shows_none(newest: Option<usize>) -> bool
+    ensures { result ≡ spec_shows_none newest }
 {
     match newest {
-        Some(number) => number < floor,
-        None => false,
+        Some(_) => false,
+        None => true,
     }
-}
-
-/// Whether this replica isn't readable, or shows no table below the floor.
-fn is_clean_where(floor: usize, up: bool, place: SpotState) -> bool
-    ensures { result ≡ (not (place.holds && up) || (place.spot.mediator || not (spec_shows_below floor place.newest))) }
-{
-    !(place.holds && up) || place.spot.mediator || !shows_below(floor, place.newest)
-}
-
-fn is_clean_at(floor: usize, lost: &[DriveNo], place: SpotState) -> bool
-    ensures { result ≡ spec_is_clean_at floor lost.now place }
-{
-    is_clean_where(floor, is_up(lost, place.spot), place)
-}
-
-/// The same of a replica once a lost drive is back.
-fn is_clean_back(floor: usize, lost: &[DriveNo], drive: DriveNo, place: SpotState) -> bool
-    ensures { result ≡ spec_is_clean_at floor (without_drive lost.now drive.0) place }
-{
-    is_clean_where(floor, is_up_back(lost, drive, place.spot), place)
-}
-
-fn all_clean_back(floor: usize, lost: &[DriveNo], drive: DriveNo, places: &[SpotState]) -> bool
-    ensures { result ≡ spec_is_clean floor (without_drive lost.now drive.0) places.now }
-{
-    places.iter().all(|x| is_clean_back(floor, lost, drive, *x))
-}
-
-fn is_clean_but(p: Spot, floor: usize, lost: &[DriveNo], places: &[SpotState]) -> bool
-    ensures { result ≡ spec_is_clean_but p floor lost.now places.now }
-{
-    places
-        .iter()
-        .all(|x| same_spot(x.spot, p) || is_clean_at(floor, lost, *x))
 }
 
 /// Whether the table has one list, of this place alone.
@@ -186,10 +143,10 @@ fn may_follow(old: &SpotLists, new: &SpotLists) -> bool
 }
 
 impl Core {
-    ghost use Rattle.std.specs.Prelude.{None, nat_lt, ◌+◌, ◌^◌};
+    ghost use Rattle.std.specs.Prelude.{None, Some, nat_lt, ◌+◌, ◌^◌};
     ghost use Rattle.mdv_votes.specs.Family.{newest_of as spec_newest_of, greatest_of as spec_greatest_of};
     ghost use Rattle.mdv_quorum.specs.World.{last_table as spec_last_table};
-    ghost use Rattle.mdv_quorum.specs.May.{may as spec_may, has_room as spec_has_room, may_read as spec_may_read, may_adopt as spec_may_adopt, may_choose as spec_may_choose, may_commit as spec_may_commit, may_come_back as spec_may_come_back, is_target as spec_is_target, may_claim as spec_may_claim, may_slot as spec_may_slot, is_firm_in, may_format_place as spec_may_format_place, may_format as spec_may_format, may_wipe as spec_may_wipe, may_list as spec_may_list, may_tell as spec_may_tell};
+    ghost use Rattle.mdv_quorum.specs.May.{may as spec_may, has_room as spec_has_room, may_read as spec_may_read, may_adopt as spec_may_adopt, may_choose as spec_may_choose, is_stale_vote as spec_is_stale_vote, is_fair as spec_is_fair, may_commit as spec_may_commit, is_target as spec_is_target, may_claim as spec_may_claim, may_slot as spec_may_slot, is_firm_in, may_format_place as spec_may_format_place, may_format as spec_may_format, may_wipe as spec_may_wipe, may_list as spec_may_list, may_tell as spec_may_tell};
 
     fn may_read(&self, p: Spot) -> bool
         ensures { result ≡ spec_may_read self.now p self.now.stage }
@@ -212,14 +169,40 @@ impl Core {
     fn may_choose(&self, alloc: Global, p: Spot, read: &[Spot]) -> bool
         ensures { result ≡ spec_may_choose self.now p read.now (spec_newest_of self.now.family self.now.places None read.now) }
     {
-        let family = self.family.as_slice();
-        let places = self.places.as_slice();
-        let Some(number) = newest_of(family, places, read) else {
-            return false;
-        };
+        match newest_of(self.family.as_slice(), self.places.as_slice(), read) {
+            Some(number) => self.may_choose_table(alloc, number, p, read),
+            None => false,
+        }
+    }
+
+    /// Whether a boot that read these places may choose the table of this number.
+    fn may_choose_table(&self, alloc: Global, number: usize, p: Spot, read: &[Spot]) -> bool
+        ensures { result ≡ spec_may_choose self.now p read.now (Some number) }
+    {
         let none = no_table(alloc);
-        let table = table_at(family, number, &none);
-        self.may_adopt(table, read, p)
+        let table = table_at(self.family.as_slice(), number, &none);
+        if !self.may_adopt(table, read, p) {
+            return false;
+        }
+        self.is_fair(alloc, number, read)
+    }
+
+    /// Whether this place shows none, though the table of this number names it, and was formatted
+    /// again since a later one dropped it.
+    fn is_stale_vote(&self, alloc: Global, number: usize, q: Spot) -> bool
+        ensures { result ≡ spec_is_stale_vote self.now number q }
+    {
+        let none = no_table(alloc);
+        let table = table_at(self.family.as_slice(), number, &none);
+        let place = place_at(self.places.as_slice(), q);
+        is_named(&table.lists, q) && (shows_none(place.newest) && number < place.floor)
+    }
+
+    /// Whether no vote among these for the table of this number is a stale one.
+    fn is_fair(&self, alloc: Global, number: usize, read: &[Spot]) -> bool
+        ensures { result ≡ spec_is_fair self.now number read.now }
+    {
+        read.iter().all(|q| !self.is_stale_vote(alloc, number, *q))
     }
 
     fn may_adopt(&self, table: &Version, read: &[Spot], p: Spot) -> bool
@@ -294,10 +277,7 @@ impl Core {
     fn may_format_place(&self, alloc: Global, p: Spot, lists: &SpotLists) -> bool
         ensures { result ≡ spec_may_format_place self.now p lists.now }
     {
-        let places = self.places.as_slice();
-        let floor = raised(self.floor, place_at(places, p).since);
-        let clean = is_clean_but(p, floor, self.lost.as_slice(), places);
-        !p.mediator && ((is_named(lists, p) && !self.is_in_firm(alloc, p)) && clean)
+        !p.mediator && (is_named(lists, p) && !self.is_in_firm(alloc, p))
     }
 
     fn may_format(&self, alloc: Global, p: Spot) -> bool
@@ -375,14 +355,6 @@ impl Core {
         is_written(table, took)
     }
 
-    fn may_come_back(&self, drive: DriveNo) -> bool
-        ensures { result ≡ spec_may_come_back self.now drive.0 }
-    {
-        let lost = self.lost.as_slice();
-        let clean = all_clean_back(self.floor, lost, drive, self.places.as_slice());
-        is_lost(lost, drive) && clean
-    }
-
     /// Whether the change that the event issues has a number: there are 2^63. Only `Lists` issues one.
     pub fn has_room(&self, event: &Event) -> bool
         ensures { result ≡ spec_has_room self.now event.now }
@@ -415,7 +387,7 @@ impl Core {
             Event::Told => self.may_tell(alloc),
             Event::Crash => true,
             Event::Lose(drive) => !is_lost(self.lost.as_slice(), *drive),
-            Event::Back(drive) => self.may_come_back(*drive),
+            Event::Back(drive) => is_lost(self.lost.as_slice(), *drive),
         }
     }
 }

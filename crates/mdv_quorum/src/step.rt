@@ -2,15 +2,15 @@
 
 ghost use Rattle.std.specs.Prelude.{◌≡◌, ◌^◌, ◌<◌, IfOk, IsTrue};
 ghost use Rattle.mdv_votes.specs.Family.{place_at as spec_place_at};
-ghost use Rattle.mdv_quorum.specs.World.{rewritten_of, taken_after, places_after, raised as spec_raised, without_drive as spec_without_drive};
+ghost use Rattle.mdv_quorum.specs.World.{rewritten_of, taken_after, places_after, without_drive as spec_without_drive};
 
 use crate::machine::{Core, Stage};
 use crate::{Event, SlotEnd};
 use mdv_base::{DriveNo, Mark};
 use mdv_votes::{
-    Row, Since, Spot, SpotLists, SpotState, Version, format_spot, greatest_of, is_named,
-    is_written, last_list, newest_of, no_table, note_list, place_at, same_spots, set_claim,
-    set_newest, table_at, wipe_spot,
+    Row, Spot, SpotLists, SpotState, Version, format_spot, greatest_of, is_named, is_written,
+    last_list, newest_of, no_table, note_list, same_spots, set_claim, set_newest, table_at,
+    wipe_spot,
 };
 use std::alloc::{AllocError, Global};
 
@@ -60,17 +60,6 @@ fn after_write(places: &mut Row<SpotState>, number: usize, p: Spot, end: SlotEnd
     match end {
         SlotEnd::Closed => {}
         SlotEnd::Holds => set_newest(places, p, number),
-    }
-}
-
-/// Below which table no readable replica may show one, once this place is formatted again.
-pub(crate) fn raised(floor: usize, since: Since) -> usize
-    ensures { result ≡ spec_raised floor since }
-{
-    match since {
-        Since::Dropped(table) => floor.max(table),
-        Since::Never => floor,
-        Since::Listed => floor,
     }
 }
 
@@ -329,10 +318,7 @@ impl Core {
         ensures ok { OnOk result (self.new ≡ formatted_under self.old p boot) }
         ensures err { OnErr result (self.new ≡ self.old) }
     {
-        let since = place_at(self.places.as_slice(), p).since;
-        format_spot(&mut self.places, p, boot, None)?;
-        self.floor = raised(self.floor, since);
-        Ok(())
+        format_spot(&mut self.places, p, boot, None)
     }
 
     /// A mediator's seat is written with the mark of the firm table.

@@ -264,8 +264,8 @@ const CASES: &[(bool, &[&str])] = &[
         no claim 1",
         ],
     ),
-    // A place isn't formatted again beside an older table.
-    // The places of drives 2 and 3 were dropped together and not blanked, and the last missed that.
+    // A place that was dropped and not blanked is formatted again beside an older table.
+    // The places of drives 2 and 3 were dropped together, and the last missed that.
     (
         false,
         &[
@@ -280,16 +280,25 @@ const CASES: &[(bool, &[&str])] = &[
         write 11
         tell",
             "move 11 111
-        no format 100
-        wipe 1000
+        format 100
+        crash
+        lose 0
+        read 1110
+        no claim 1110",
+            "crash
+        back 0
+        boot 11
+        adopts 1 2
+        move 11 111
         format 100
         write 111
         tell
         boot 111
-        adopts 1 3",
+        adopts 2 1",
         ],
     ),
-    // A drive that missed a drop stays lost behind a new use.
+    // A place that was formatted again has no vote for a table from before its drop.
+    // Drive 1 missed the drop. Until the place has a table, no boot goes on with these two alone.
     (
         false,
         &[
@@ -297,27 +306,60 @@ const CASES: &[(bool, &[&str])] = &[
             DROPPED,
             "move 11 111
         format 100
-        no back 1",
+        crash
+        lose 0
+        back 1
+        read 110
+        no claim 110",
+            "crash
+        back 0
+        read 111
+        claim 11
+        write 11
+        tell
+        adopts 1 2",
         ],
     ),
-    // A place is used again once each drive knows of its drop.
+    // The same, where the place has a table by then: it shows the greater one.
     (
         false,
         &[
             CREATED,
             DROPPED,
-            "back 1
-        move 11 111
-        no format 100
-        list 11
-        write 11
-        tell
-        move 11 111
+            "move 11 111
         format 100
-        write 111
-        tell
+        write 101
+        crash
+        lose 0
+        back 1
+        read 110
+        no claim 110",
+            "crash
+        back 0
         boot 111
-        adopts 1 4",
+        adopts 1 3",
+        ],
+    ),
+    // A dropped place may be formatted again while another replica is away that missed the drop, and
+    // is back for the next boot.
+    (
+        false,
+        &[
+            CREATED,
+            DROPPED,
+            "move 11 111
+        format 100
+        write 101
+        tell
+        list 111
+        write 101
+        tell",
+            "crash
+        back 1
+        boot 111
+        adopts 1 4
+        boot 110
+        adopts 2 0",
         ],
     ),
 ];

@@ -20,6 +20,8 @@ struct Disk {
     claim: u64,
     // Its newest table, by its number in the order of writing.
     shows: Option<usize>,
+    // The firm table that had dropped it when it was formatted last; 0 where none had.
+    anew: usize,
 }
 
 #[derive(Clone, Copy, PartialEq, Eq)]
@@ -37,6 +39,8 @@ pub(crate) struct World {
     formatted: Spots,
     lost: Spots,
     tables: Vec<Version>,
+    // Those that were written at enough places, the oldest first.
+    firm: Vec<usize>,
     stage: Stage,
     // What the boot in work has read and claimed, and what took the table in hand.
     read: Spots,
@@ -88,6 +92,7 @@ impl World {
         let disk = Disk {
             claim: 0,
             shows: None,
+            anew: 0,
         };
         Ok(World {
             set,
@@ -95,6 +100,7 @@ impl World {
             formatted: 0,
             lost: 0,
             tables: Vec::new(alloc),
+            firm: Vec::new(alloc),
             stage: Stage::Reading,
             read: 0,
             claimed: 0,
@@ -127,9 +133,30 @@ impl World {
     }
 
     fn set_disk(&mut self, index: u32, claim: u64, shows: Option<usize>) {
+        let anew = self.dropped_by(index);
         if let Some(disk) = self.disks.get_mut(index as usize) {
-            *disk = Disk { claim, shows };
+            let anew = disk.anew.max(anew);
+            *disk = Disk { claim, shows, anew };
         }
+    }
+
+    fn is_listed(&self, number: usize, index: u32) -> bool {
+        match self.tables.get(number) {
+            Some(table) => has(table.lists.second.unwrap_or(table.lists.first), index),
+            None => false,
+        }
+    }
+
+    // The first firm table that no longer lists the place; 0 where none ever did.
+    fn dropped_by(&self, index: u32) -> usize {
+        let mut first = 0;
+        for number in self.firm.iter().rev() {
+            if self.is_listed(*number, index) {
+                return first;
+            }
+            first = *number;
+        }
+        0
     }
 
     // What a boot finds.
@@ -169,6 +196,29 @@ impl World {
         suffices(self.read, table.lists, half)
     }
 
+    // Whether one of the places that were read and that this table names shows nothing, and a table
+    // behind this one had dropped it when it was formatted again.
+    fn has_stale_vote(&self, number: usize, table: &Version) -> bool {
+        let votes = self.read & PLACES & named(table.lists);
+        for (disk, index) in self.disks.iter().zip(0..32) {
+            if has(votes, index) && disk.shows.is_none() && number < disk.anew {
+                return true;
+            }
+        }
+        false
+    }
+
+    // Whether a boot read enough places for its newest table, but a stale vote is among them.
+    pub(crate) fn meets_stale_vote(&self) -> bool {
+        let Some(number) = self.newest() else {
+            return false;
+        };
+        match self.tables.get(number) {
+            Some(table) => self.is_read(table) && self.has_stale_vote(number, table),
+            None => false,
+        }
+    }
+
     // Whether the boot finds a replica there; a mediator it asks.
     pub(crate) fn may_read(&self, index: u32) -> bool {
         has((self.formatted | !PLACES) & !self.lost, index)
@@ -180,8 +230,15 @@ impl World {
 
     // Whether a boot that has read so much may claim this place.
     pub(crate) fn may_claim(&self, index: u32) -> bool {
-        match self.newest().and_then(|number| self.tables.get(number)) {
-            Some(table) => self.is_read(table) && has(self.formatted & named(table.lists), index),
+        let Some(number) = self.newest() else {
+            return false;
+        };
+        match self.tables.get(number) {
+            Some(table) => {
+                self.is_read(table)
+                    && !self.has_stale_vote(number, table)
+                    && has(self.formatted & named(table.lists), index)
+            }
             None => false,
         }
     }
@@ -191,10 +248,15 @@ impl World {
         let Some(table) = self.tables.last() else {
             return false;
         };
+        self.stage == Stage::Writing && self.is_written(table)
+    }
+
+    // Whether what took this table suffices.
+    fn is_written(&self, table: &Version) -> bool {
         let seats = table.lists.mediators;
         let agree = seats == 0 || is_majority(self.took, seats);
         let half = agree && !table.by_majority;
-        self.stage == Stage::Writing && suffices(self.took, table.lists, half)
+        suffices(self.took, table.lists, half)
     }
 
     pub(crate) fn is_claiming(&self) -> bool {

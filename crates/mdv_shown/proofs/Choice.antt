@@ -11,7 +11,7 @@ use Rattle.mdv_votes.specs.Spots.{same_spot}
 use Rattle.mdv_votes.proofs.Meeting.{same_is, same_self}
 use Rattle.mdv_votes.proofs.Newest.{greatest_is_newest, newest_is_greatest, none_is_shown}
 use Rattle.mdv_votes.proofs.PlacesAt.{spot_at}
-use Rattle.mdv_quorum.specs.May.{is_target, may_choose, may_claim}
+use Rattle.mdv_quorum.specs.May.{is_fair, is_target, may_choose, may_claim}
 use Rattle.mdv_quorum.specs.World.{rewritten}
 use Rattle.mdv_shown.specs.Site.{Site, place_on, size_on}
 use Rattle.mdv_shown.specs.Shown.{SlotShows, ShowsNone, HasNumber, NewestIs, IsPlaceWith}
@@ -317,9 +317,11 @@ module _ {Table : Type 0} (Spells : List ℕ → Table → Type 0) (site : Site)
       let below : nat_lt (rewritten w (spots_seen seen) i).mark.boot (2 ^ 63) ≡ true =
       lt-ltb (rewritten w (spots_seen seen) i).mark.boot (2 ^ 63) (subst (λ (n : ℕ). n + 1 < 2 ^ 63) (sym greatest_is) m.small) in
       let fits : may_choose w (spot_seen s) (spots_seen seen) (Some i) ≡ true =
-      and_from (is_read t (is_in (spots_seen seen)) (knows_above w.family w.places t)) (is_target w t.lists (spot_seen s) && nat_lt (rewritten w (spots_seen seen) i).mark.boot (2 ^ 63))
-      (enough (is_in (spots_seen seen)) t (knows_above w.family w.places t) m.read)
-      (and_from (is_target w t.lists (spot_seen s)) (nat_lt (rewritten w (spots_seen seen) i).mark.boot (2 ^ 63)) target below) in
+      let reads = is_read t (is_in (spots_seen seen)) (knows_above w.family w.places t) in
+      let adopts = is_target w t.lists (spot_seen s) && nat_lt (rewritten w (spots_seen seen) i).mark.boot (2 ^ 63) in
+      and_from (reads && adopts) (is_fair w i (spots_seen seen))
+      (and_from reads adopts (enough (is_in (spots_seen seen)) t (knows_above w.family w.places t) m.read)
+      (and_from (is_target w t.lists (spot_seen s)) (nat_lt (rewritten w (spots_seen seen) i).mark.boot (2 ^ 63)) target below)) m.fair in
       record {
         fits = subst (λ (g : Stage). may_claim w (spot_seen s) g ≡ true) (sym r.stage)
             (subst (λ (o : Option ℕ). may_choose w (spot_seen s) (spots_seen seen) o ≡ true) (sym voted) fits);

@@ -1,6 +1,7 @@
 -- What a boot chooses of the replicas that it read, and that it is what the votes choose.
 use Rattle.std.specs.Prelude.{◌≡◌, ◌↔◌, ℕ, ◌+◌, ◌<◌, ◌^◌, max, false, List, [], ◌∷◌, map, Option, None, Some, Contains, IsTrue}
 use Rattle.mdv_shown.specs.Below.{IsBelow, Identity, Mark, SliceLine, Master, Head, Slot, Open, gate_of, greatest, shows, Image, Core, Reading, IsFamily, covers, greatest_of, is_in, is_majority, is_named, newest_of, place_at, table_at, Spot}
+use Rattle.mdv_quorum.specs.May.{is_fair}
 use Rattle.mdv_shown.specs.Site.{Site, place_on, spot_on}
 use Rattle.mdv_shown.specs.Found.{IsOwn}
 use Rattle.mdv_shown.specs.Shown.{SlotShows, Shows}
@@ -59,11 +60,12 @@ pub record HasChosen (w : Core) (seen : List Seen) (number : ℕ) : Type 0 where
   pub chosen : IsChosen seen replica slot mark
   pub newest : (place_at w.places (spot_seen replica)).newest ≡ Some number
 
--- what was read is more than half of each of a table's lists, which name the place; the next number is in its limit
+-- what was read is more than half of each of a table's lists, which name the place, and has no stale vote for it; the next number is in its limit
 pub record MayAdopt (w : Core) (seen : List Seen) (number : ℕ) (s : Seen) : Type 0 where
   pub read : IsTrue (covers (is_majority (is_in (spots_seen seen))) (table_at w.family number).lists)
   pub one_of : Contains seen s
   pub named : IsTrue (is_named (table_at w.family number).lists (spot_seen s))
+  pub fair : IsTrue (is_fair w number (spots_seen seen))
   pub small : greatest_seen seen + 1 < 2 ^ 63
 
 -- What the marks say is what the votes say.

@@ -6,7 +6,7 @@ use Rattle.std.specs.Prelude.{nat_lt, reverse}
 use Rattle.mdv_votes.specs.Family.{put_at, with_claim}
 use Rattle.mdv_votes.specs.Spots.{same_spot}
 use Rattle.mdv_votes.proofs.Growing.{claims_grow}
-use Rattle.mdv_quorum.specs.May.{is_target, may, may_choose, may_claim, may_slot}
+use Rattle.mdv_quorum.specs.May.{is_fair, is_target, may, may_choose, may_claim, may_slot}
 use Rattle.mdv_quorum.specs.Standing.{Standing}
 use Rattle.mdv_quorum.specs.World.{chosen, claimed, happens, rewritten, slotted}
 use Rattle.mdv_shown.specs.Steps.{claim_at}
@@ -23,8 +23,8 @@ use Rattle.mdv_standing.proofs.Versions.{version_has}
 use Rattle.mdv_standing.proofs.Reaching.{reached_more, standing}
 use Rattle.mdv_standing.proofs.Listed.{claim_still, own_found, past_reading, places_still}
 use Rattle.mdv_standing.proofs.Beginning.{LeadsBy, begun_taking, begun_world, none_in}
-use Rattle.mdv_standing.proofs.Voting.{all_that, below, boots, in_log, lists_are, not_older, version_is}
-use Rattle.mdv_standing.proofs.Following.{Follows, matches_follow, one_more, since_put}
+use Rattle.mdv_standing.proofs.Voting.{all_that, below, boots, in_log, lists_are, none_stale, not_older, version_is}
+use Rattle.mdv_standing.proofs.Following.{Follows, floor_put, matches_follow, one_more, since_put}
 
 module _ (Spells : List ℕ → Table → Type 0) (site : Site) (identity : Identity) (log : Log) (w : Core) (image : Image) (world : IsWorld Spells site identity log w image) where
   stands : Standing w
@@ -90,7 +90,7 @@ module _ (Spells : List ℕ → Table → Type 0) (site : Site) (identity : Iden
     set = refl;
     family = refl;
     changes = refl;
-    floor = refl;
+    floors = λ q. floor_put w.places p q (with_claim n) (λ x. refl) (λ x. refl);
     deleted = refl;
     firm = λ f e. (f, e, omega arith);
     dropped = λ q j e. c.world.matches.dropped q j (sym (since_put w.places p q (with_claim n) (λ x. refl) (λ x. refl)) ∙ e);
@@ -102,10 +102,14 @@ module _ (Spells : List ℕ → Table → Type 0) (site : Site) (identity : Iden
         let lists = lists_are site log w c.world.reached c.world.matches a.table v a.known c.one_of a.marked in
         let next = rewritten w a.read a.table in
         let same : happens w (Claimed p) ≡ with next.mark.boot a.table next (p ∷ []) = ap (claimed w p) a.stage ∙ ap (chosen w p a.read) a.voted in
+        let reads = is_read (table_at w.family a.table) (is_in a.read) (knows_above w.family w.places (table_at w.family a.table)) in
+        let adopts = is_target w (table_at w.family a.table).lists p && nat_lt next.mark.boot (2 ^ 63) in
         let choose : may_choose w p a.read (Some a.table) ≡ true =
-        and_from (is_read (table_at w.family a.table) (is_in a.read) (knows_above w.family w.places (table_at w.family a.table))) (is_target w (table_at w.family a.table).lists p && nat_lt next.mark.boot (2 ^ 63)) a.quorum
+        and_from (reads && adopts) (is_fair w a.table a.read)
+        (and_from reads adopts a.quorum
         (and_from (is_target w (table_at w.family a.table).lists p) (nat_lt next.mark.boot (2 ^ 63)) (target (table_at w.family a.table).lists lists)
-        (lt-ltb next.mark.boot (2 ^ 63) (subst (λ (n : ℕ). n < 2 ^ 63) (sym a.drawn) c.small))) in
+        (lt-ltb next.mark.boot (2 ^ 63) (subst (λ (n : ℕ). n < 2 ^ 63) (sym a.drawn) c.small))))
+        (none_stale w a.table a.read c.world.matches.reused) in
         subst IsClaimed (sym same) (record {
           claimable = record {
             fits = subst (λ (g : Stage). may_claim w p g ≡ true) (sym a.stage) (subst (λ (o : Option ℕ). may_choose w p a.read o ≡ true) (sym a.voted) choose);

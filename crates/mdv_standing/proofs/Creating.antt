@@ -1,18 +1,18 @@
 -- What a creation does to the worlds and the log of its database.
-use Rattle.std.proofs.Common.{◌≡◌, inl, inr, ℕ, zero, suc, ◌+◌, ◌-◌, ◌*◌, ◌<◌, ◌≤◌, ◌&&◌, ◌||◌, Bool, true, false, List, [], ◌∷◌, length, refl, sym, ◌∙◌, ap, subst, Contains, Option, None, Some, arith}
+use Rattle.std.proofs.Common.{◌≡◌, inl, inr, ℕ, zero, suc, ◌+◌, ◌-◌, ◌*◌, ◌<◌, ◌≤◌, ◌&&◌, Bool, true, false, List, [], ◌∷◌, length, refl, sym, ◌∙◌, ap, subst, Contains, Option, None, Some, arith}
 use Rattle.std.proofs.lemmas.Bool.{and_from, cases_Bool, cases_lt, cond-false, cond-true, false≢true, false_from_ne_true, not_from_false, or_cases, or_left, or_right}
 use Rattle.std.proofs.lemmas.List.Elements.{All-nil}
 use Rattle.std.specs.Prelude.{filter, max, not, reverse}
 use Rattle.std.specs.List.{filter_map}
-use Rattle.mdv_votes.specs.Family.{change_at, formatted, put_at, wiped}
+use Rattle.mdv_votes.specs.Family.{change_at, formatted, put_at, raised, wiped}
 use Rattle.mdv_votes.specs.Spots.{same_spot}
 use Rattle.mdv_votes.specs.declared.version.Since.{Since}
 use Rattle.mdv_votes.specs.declared.version.Since.TheVariants.{Never, Listed, Dropped}
 use Rattle.mdv_votes.specs.declared.version.SpotState.{SpotState}
 use Rattle.mdv_votes.proofs.Meeting.{same_self}
-use Rattle.mdv_votes.proofs.PlacesAt.{put_cases, wipe_at, wiped_since}
-use Rattle.mdv_quorum.specs.May.{is_clean_at, is_clean_but, is_firm_in, is_lists, is_new, may, may_format, may_slot}
-use Rattle.mdv_quorum.specs.World.{created, formatted_at, formatted_place, happens, raised, slotted, wiped_at, without}
+use Rattle.mdv_votes.proofs.PlacesAt.{put_cases, wipe_at, wiped_floor, wiped_since}
+use Rattle.mdv_quorum.specs.May.{is_firm_in, is_lists, is_new, may, may_format, may_slot}
+use Rattle.mdv_quorum.specs.World.{created, formatted_at, formatted_place, happens, slotted, wiped_at, without}
 use Rattle.mdv_shown.specs.Formats.{IsFormattable, lost_beside, lost_with, next_number}
 use Rattle.mdv_shown.specs.Shown.{NewestIs, ShowsPlaces}
 use Rattle.mdv_shown.specs.Wipes.{spots_behind, wiped_all}
@@ -20,7 +20,7 @@ use Rattle.mdv_shown.proofs.Elsewhere.{places_step}
 use Rattle.mdv_shown.proofs.Formatting.{first_ends, first_goes, later_ends, later_goes}
 use Rattle.mdv_shown.proofs.Wiped.{IsFrom, IsWiped, all_wiped, in_from}
 use Rattle.mdv_store_law.specs.Log.{IsAbove as IsAboveAll}
-use Rattle.mdv_standing.specs.Below.{Core, Creating, DriveNo, FamilyTable, FirstIs, Formatted, Formats, Geometry, HasFirst, Head, Identity, Image, IsBelow, IsInChain, LeftClosed, Lists, Log, Mark, Master, MayFormat, MayHappen, NextLists, Shows, Site, SliceLine, Slotted, Spot, SpotLists, Stage, Table, Version, WritesLog, after_all, is_in, is_named, is_none, log_after, master_on, place_at, place_on, spot_on, start}
+use Rattle.mdv_standing.specs.Below.{Core, Creating, FamilyTable, FirstIs, Formatted, Formats, Geometry, HasFirst, Head, Identity, Image, IsBelow, IsInChain, LeftClosed, Lists, Log, Mark, Master, MayFormat, MayHappen, NextLists, Shows, Site, SliceLine, Slotted, Spot, SpotLists, Stage, Table, Version, WritesLog, after_all, is_in, is_named, is_none, log_after, master_on, place_at, place_on, spot_on, start}
 use Rattle.mdv_standing.specs.Laws.{HasNone}
 use Rattle.mdv_standing.specs.Matching.{IsVersionAt, Matches, is_set, spots_of, tables_of}
 use Rattle.mdv_standing.specs.Worlds.{IsNoneOr, IsTaking, IsWorld, Turned}
@@ -28,7 +28,6 @@ use Rattle.mdv_standing.specs.Creating.{AreAllPlaced, IsCreating, IsCreation, Is
 use Rattle.mdv_standing.proofs.Reaching.{reached_more, standing}
 use Rattle.mdv_standing.proofs.Following.{Follows, matches_follow, since_put}
 use Rattle.mdv_standing.proofs.Beginning.{LeadsBy, begun_taking, begun_world}
-use Rattle.mdv_standing.proofs.Looking.{clean_one}
 use Rattle.mdv_standing.proofs.Committing.{may_list_again}
 use Rattle.mdv_standing.proofs.Lawful.{matches_empty, world_none}
 use Rattle.mdv_standing.proofs.Listed.{places_none}
@@ -80,10 +79,9 @@ pub since_wiped : (spots : List Spot) (xs : List SpotState) (q : Spot) → (plac
 since_wiped [] xs q = refl
 since_wiped (p ∷ ps) xs q = since_wiped ps (change_at xs p wiped) q ∙ ap (λ (x : SpotState). x.since) (wipe_at xs p q) ∙ wiped_since p (place_at xs q)
 
-clean_but : (p : Spot) (lost : List DriveNo) (xs : List SpotState) → is_clean_but p 0 lost xs ≡ true
-clean_but p lost [] = refl
-clean_but p lost (x ∷ xs) =
-    and_from (same_spot x.spot p || is_clean_at 0 lost x) (is_clean_but p 0 lost xs) (or_right (same_spot x.spot p) (is_clean_at 0 lost x) (clean_one lost x)) (clean_but p lost xs)
+pub floor_wiped : (spots : List Spot) (xs : List SpotState) (q : Spot) → (place_at (wipe_each xs spots) q).floor ≡ (place_at xs q).floor
+floor_wiped [] xs q = refl
+floor_wiped (p ∷ ps) xs q = floor_wiped ps (change_at xs p wiped) q ∙ ap (λ (x : SpotState). x.floor) (wipe_at xs p q) ∙ wiped_floor p (place_at xs q)
 
 none_raised : (floor : ℕ) (s : Since) → floor ≡ 0 → ((i : ℕ) → s ≡ Dropped i → ⊥) → raised floor s ≡ 0
 none_raised floor Never e never = e
@@ -118,12 +116,8 @@ module _ (Spells : List ℕ → Table → Type 0) (site : Site) (identity : Iden
 
   format_fits : (spots : List Spot) → may_format (cut spots) p (Creating next) ≡ true
   format_fits spots =
-      let floor = raised w.floor (place_at (wipe_each w.places spots) p).since in
-      let none : floor ≡ 0 = none_raised w.floor (place_at (wipe_each w.places spots) p).since m.reused (λ i e. undropped p i (sym (since_wiped spots w.places p) ∙ e)) in
-      and_from (not p.mediator) ((is_named next.lists p && not (is_firm_in w.family w.firm p)) && is_clean_but p floor w.lost (wipe_each w.places spots)) (not_from_false p.mediator place)
-      (and_from (is_named next.lists p && not (is_firm_in w.family w.firm p)) (is_clean_but p floor w.lost (wipe_each w.places spots))
+      and_from (not p.mediator) (is_named next.lists p && not (is_firm_in w.family w.firm p)) (not_from_false p.mediator place)
       (and_from (is_named next.lists p) (not (is_firm_in w.family w.firm p)) (subst (λ (l : SpotLists). is_named l p ≡ true) (sym c.known.lists_are) named) (not_from_false (is_firm_in w.family w.firm p) not_firm))
-      (subst (λ (n : ℕ). is_clean_but p n w.lost (wipe_each w.places spots) ≡ true) (sym none) (clean_but p w.lost (wipe_each w.places spots))))
 
   pub formattable : (spots : List Spot) → IsFormattable (cut spots) p 1
   formattable spots = record {
@@ -199,7 +193,10 @@ module _ (Spells : List ℕ → Table → Type 0) (site : Site) (identity : Iden
     set = refl;
     family = refl;
     changes = refl;
-    floor = none_raised w.floor (place_at w.places p).since m.reused (undropped p) ∙ sym m.reused;
+    floors = λ q. elim (put_cases w.places p q (formatted next.mark.boot None) (λ x. refl)) [
+      | inl a ↦ ap (λ (x : SpotState). x.floor) a.1 ∙ none_raised (place_at w.places q).floor (place_at w.places q).since (m.reused q) (undropped q) ∙ sym (m.reused q)
+      | inr b ↦ ap (λ (x : SpotState). x.floor) b.1
+    ];
     deleted = refl;
     firm = λ f e. (f, e, omega arith);
     dropped = λ q i e. absurd (undropped q i (sym (since_put w.places p q (formatted next.mark.boot None) (λ x. refl) (λ x. refl)) ∙ e));
@@ -358,7 +355,7 @@ module _ (Spells : List ℕ → Table → Type 0) (site : Site) (identity : Iden
         may = (lists_fit, tt);
         world = record {
           reached = reached_more site from (NextLists spots ∷ []) world.reached (lists_fit, tt);
-          matches = matches_empty site (issued_log identity) (created from spots) refl refl refl refl refl refl;
+          matches = matches_empty site (issued_log identity) (created from spots) refl refl refl refl refl;
           shows = record { each = λ line k first head own. absurd (none line k first head own); only = λ p place holds. absurd (false≢true holds); seats = λ p seat holds. false≢true holds };
           listed = inl (places_none Spells site identity (issued_log identity) image refl);
         };

@@ -20,7 +20,7 @@ pub record Follows (site : Site) (log : Log) (w v : Core) : Type 0 where
   pub set : v.set ≡ w.set
   pub family : v.family ≡ w.family
   pub changes : v.changes ≡ w.changes
-  pub floor : v.floor ≡ w.floor
+  pub floors : (p : Spot) → (place_at v.places p).floor ≡ (place_at w.places p).floor
   pub deleted : v.deleted ≡ w.deleted
   pub firm : (f : ℕ) → w.firm ≡ Some f → (g : ℕ) × (v.firm ≡ Some g) × (f ≤ g)
   pub dropped : (p : Spot) (i : ℕ) → (place_at v.places p).since ≡ Dropped i → IsDroppedBy site log p i
@@ -39,7 +39,7 @@ matches_follow site log w v f m = record {
       let now = f.firm was.0 was.1 in
       (now.0, now.1, omega (arith, was.2, now.2));
   dropped = f.dropped;
-  reused = f.floor ∙ m.reused;
+  reused = λ p. f.floors p ∙ m.reused p;
   there = f.deleted ∙ m.there;
 }
 
@@ -56,6 +56,13 @@ since_put places p q f keeps same =
     elim (put_cases places p q f keeps) [
       | inl here ↦ ap (λ (x : SpotState). x.since) here.1 ∙ same (place_at places q)
       | inr other ↦ ap (λ (x : SpotState). x.since) other.1
+    ]
+
+pub floor_put : (places : List SpotState) (p q : Spot) (f : SpotState → SpotState) → KeepsSpot f → ((x : SpotState) → (f x).floor ≡ x.floor) → (place_at (put_at places p f) q).floor ≡ (place_at places q).floor
+floor_put places p q f keeps same =
+    elim (put_cases places p q f keeps) [
+      | inl here ↦ ap (λ (x : SpotState). x.floor) here.1 ∙ same (place_at places q)
+      | inr other ↦ ap (λ (x : SpotState). x.floor) other.1
     ]
 
 dropped_after : (i k : ℕ) (listed : Bool) (s : Since) → since_after i listed s ≡ Dropped k → (s ≡ Dropped k) ⊎ ((listed ≡ false) × (k ≡ i))
@@ -86,12 +93,15 @@ settled_family u t true = refl
 
 -- the last table is firm, where enough places took it
 pub settled_follows : (site : Site) (log : Log) (u : Core) (b : Bool) → Matches site log u → 0 < length u.family → ((f : ℕ) → u.firm ≡ Some f → f < length u.family) → Follows site log u (settled u (last_table u) b)
-settled_follows site log u false m some known = record { set = refl; family = refl; changes = refl; floor = refl; deleted = refl; firm = λ f e. (f, e, omega arith); dropped = m.dropped }
+settled_follows site log u false m some known = record { set = refl; family = refl; changes = refl; floors = λ p. refl; deleted = refl; firm = λ f e. (f, e, omega arith); dropped = m.dropped }
 settled_follows site log u true m some known = record {
   set = refl;
   family = refl;
   changes = refl;
-  floor = refl;
+  floors = λ p. elim (map_at u.places p (with_since (last_number u) (last_list (last_table u).lists)) (λ x. refl)) [
+    | inl a ↦ ap (λ (x : SpotState). x.floor) a
+    | inr b ↦ ap (λ (x : SpotState). x.floor) (b.0 ∙ sym b.1)
+  ];
   deleted = refl;
   firm = λ f e. (last_number u, refl, omega (arith, known f e, some));
   dropped = λ p i e. by p i (map_at u.places p (with_since (last_number u) (last_list (last_table u).lists)) (λ x. refl)) e;

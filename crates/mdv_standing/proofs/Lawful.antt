@@ -31,8 +31,8 @@ use Rattle.mdv_standing.proofs.Following.{matches_follow}
 use Rattle.mdv_standing.proofs.Adopting.{claim_is, draws}
 
 -- a database without a table, of which no place is known
-pub matches_empty : (site : Site) (log : Log) (w : Core) → log.family ≡ [] → w.set ≡ is_set site.key → w.family ≡ [] → w.places ≡ [] → w.floor ≡ 0 → w.deleted ≡ None → Matches site log w
-matches_empty site log w empty kind none places floor there =
+pub matches_empty : (site : Site) (log : Log) (w : Core) → log.family ≡ [] → w.set ≡ is_set site.key → w.family ≡ [] → w.places ≡ [] → w.deleted ≡ None → Matches site log w
+matches_empty site log w empty kind none places there =
     let long : length w.family ≡ 0 = ap length none in
     record {
       kind = kind;
@@ -41,7 +41,7 @@ matches_empty site log w empty kind none places floor there =
       each = λ i known. absurd (omega (arith, known, long));
       answered = λ i known written. absurd (omega (arith, known, long));
       dropped = λ p i e. absurd (never p i (ap (λ (xs : List SpotState). (place_at xs p).since) (sym places) ∙ e));
-      reused = floor;
+      reused = λ p. ap (λ (xs : List SpotState). (place_at xs p).floor) places;
       there = there;
     }
   where
@@ -69,7 +69,7 @@ module _ (Spells : List ℕ → Table → Type 0) (site : Site) (identity : Iden
   pub world_none : (log : Log) → log.family ≡ [] → (image : Image) → HasNone Spells site identity image → IsWorld Spells site identity log (start (is_set site.key)) image
   world_none log empty image none = record {
     reached = ([], tt, refl);
-    matches = matches_empty site log (start (is_set site.key)) empty refl refl refl refl refl;
+    matches = matches_empty site log (start (is_set site.key)) empty refl refl refl refl;
     shows = record {
       each = λ line k first head own. absurd (none line k first head own);
       only = λ p place holds. absurd (false≢true holds);

@@ -1,11 +1,9 @@
 -- A boot begins: it crashed, drives are back, and replicas are read.
-use Rattle.std.proofs.Common.{◌≡◌, inl, inr, ⊎_elim, ℕ, zero, suc, ◌<◌, ◌==◌, ◌&&◌, ◌||◌, Bool, true, false, List, [], ◌∷◌, ◌++◌, length, refl, sym, ◌∙◌, ap, subst, map, cond, Contains, Option, None, Some, append_assoc, append-nil, arith}
-use Rattle.std.proofs.lemmas.Bool.{cases_Bool, and_from, or_left, or_right, or_parts, or_from, cond-true, cond-false, not_from_false}
-use Rattle.std.proofs.lemmas.Bool.Decides.{nat_tests}
-use Rattle.std.specs.Prelude.{not, nat_lt, slice_index_or}
+use Rattle.std.proofs.Common.{◌≡◌, inl, inr, ⊎_elim, ℕ, zero, suc, ◌<◌, ◌==◌, ◌||◌, Bool, true, false, List, [], ◌∷◌, ◌++◌, length, refl, sym, ◌∙◌, ap, subst, map, cond, Contains, None, append_assoc, append-nil, arith}
+use Rattle.std.proofs.lemmas.Bool.{cases_Bool, and_from, or_left, or_parts, or_from, cond-true, cond-false, not_from_false}
+use Rattle.std.specs.Prelude.{not, slice_index_or}
 use Rattle.mdv_base.specs.declared.drive.DriveNo.{DriveNo}
-use Rattle.mdv_votes.specs.declared.version.SpotState.{SpotState}
-use Rattle.mdv_quorum.specs.May.{MayAll, is_clean, is_clean_at, is_lost, is_up, shows_below}
+use Rattle.mdv_quorum.specs.May.{MayAll, is_lost, is_up}
 use Rattle.mdv_quorum.specs.World.{crashed, without_drive}
 use Rattle.mdv_quorum.proofs.Events.{after_both, may_both}
 use Rattle.mdv_store_law.specs.Machine.{AreAll}
@@ -33,32 +31,19 @@ of_drives (d ∷ ds) lost =
       | inr isnt ↦ subst (AreAll IsOfDrive) (sym (cond-false (is_lost lost d.0) (Back d ∷ back_all (without_drive lost d.0) ds) (back_all lost ds) isnt)) (of_drives ds lost)
     ]
 
--- no table is below the first
-pub clean_one : (lost : List DriveNo) (x : SpotState) → is_clean_at 0 lost x ≡ true
-clean_one lost x = or_right (not (x.holds && is_up lost x.spot)) (x.spot.mediator || not (shows_below 0 x.newest)) (or_right x.spot.mediator (not (shows_below 0 x.newest)) (by x.newest))
-  where
-    by : (o : Option ℕ) → not (shows_below 0 o) ≡ true
-    by None = refl
-    by (Some i) = not_from_false (nat_lt i 0) (grind (arith, nat_tests))
-
-clean_all : (lost : List DriveNo) (xs : List SpotState) → is_clean 0 lost xs ≡ true
-clean_all lost [] = refl
-clean_all lost (x ∷ xs) = and_from (is_clean_at 0 lost x) (is_clean 0 lost xs) (clean_one lost x) (clean_all lost xs)
-
-backs_may : (ds : List DriveNo) (w : Core) → w.floor ≡ 0 → MayAll w (back_all w.lost ds) × (after_all w (back_all w.lost ds) ≡ record w { lost = remaining w.lost ds })
-backs_may [] w none = (tt, refl)
-backs_may (d ∷ ds) w none =
+backs_may : (ds : List DriveNo) (w : Core) → MayAll w (back_all w.lost ds) × (after_all w (back_all w.lost ds) ≡ record w { lost = remaining w.lost ds })
+backs_may [] w = (tt, refl)
+backs_may (d ∷ ds) w =
     elim (cases_Bool (is_lost w.lost d.0)) [
       | inl is ↦
-          let more = backs_may ds (record w { lost = without_drive w.lost d.0 }) none in
+          let more = backs_may ds (record w { lost = without_drive w.lost d.0 }) in
           let events = cond-true (is_lost w.lost d.0) (Back d ∷ back_all (without_drive w.lost d.0) ds) (back_all w.lost ds) is in
-          let left = cond-true (is_lost w.lost d.0) (remaining (without_drive w.lost d.0) ds) (remaining w.lost ds) is in
-          let clean : is_clean w.floor (without_drive w.lost d.0) w.places ≡ true = subst (λ (n : ℕ). is_clean n (without_drive w.lost d.0) w.places ≡ true) (sym none) (clean_all (without_drive w.lost d.0) w.places) in (
-            subst (λ (es : List Event). MayAll w es) (sym events) (and_from (is_lost w.lost d.0) (is_clean w.floor (without_drive w.lost d.0) w.places) is clean, more.0),
+          let left = cond-true (is_lost w.lost d.0) (remaining (without_drive w.lost d.0) ds) (remaining w.lost ds) is in (
+            subst (λ (es : List Event). MayAll w es) (sym events) (is, more.0),
             ap (after_all w) events ∙ more.1 ∙ ap (λ (l : List DriveNo). record w { lost = l }) (sym left),
           )
       | inr isnt ↦
-          let more = backs_may ds w none in
+          let more = backs_may ds w in
           let events = cond-false (is_lost w.lost d.0) (Back d ∷ back_all (without_drive w.lost d.0) ds) (back_all w.lost ds) isnt in
           let left = cond-false (is_lost w.lost d.0) (remaining (without_drive w.lost d.0) ds) (remaining w.lost ds) isnt in (
             subst (λ (es : List Event). MayAll w es) (sym events) more.0,
@@ -157,7 +142,7 @@ module _ (Spells : List ℕ → Table → Type 0) (site : Site) (identity : Iden
 
   leads : MayAll w looks_by × (after_all w looks_by ≡ looked)
   leads =
-      let backs = backs_may (drives_of seen) (crashed w) world.matches.reused in
+      let backs = backs_may (drives_of seen) (crashed w) in
       let reads = reads_may seen up [] readable in
       let es = back_all w.lost (drives_of seen) in
       let fs = map Read (spots_seen seen) in (

@@ -31,7 +31,7 @@ use Rattle.mdv_standing.proofs.Reaching.{reached_more}
 use Rattle.mdv_standing.proofs.Lawful.{not_firm, nothing_shown}
 use Rattle.mdv_standing.proofs.Listed.{AreStill, claim_still, frame_still, listed_still, slot_still}
 use Rattle.mdv_standing.proofs.Within.{apart_or_in, claim_within, fill_within, format_for, format_within, found_for}
-use Rattle.mdv_standing.proofs.Creating.{places_agree, since_wiped, wipe_each}
+use Rattle.mdv_standing.proofs.Creating.{floor_wiped, places_agree, since_wiped, wipe_each}
 
 -- what is done on a slice that isn't one of the site's leaves the blocks of the site
 site_kept : (site : Site) (L : SliceLine) (old new : Image) → ((b : SliceLine) → Contains site.lines b → AreApart (line_area L) (line_area b)) → SameOutside (line_area L) old new
@@ -146,7 +146,7 @@ module _ (Spells : List ℕ → Table → Type 0) (site : Site) (identity : Iden
             each = m.each;
             answered = m.answered;
             dropped = λ p i e. m.dropped p i (sym (since_wiped spots w.places p) ∙ e);
-            reused = m.reused;
+            reused = λ p. floor_wiped spots w.places p ∙ m.reused p;
             there = m.there;
           });
           shows = subst (λ (v : Core). Shows Spells site identity (tables_of log.family) v new) (sym leads) (cut_shows shows leads);

@@ -20,7 +20,7 @@ use Rattle.mdv_standing.specs.Adopting.{IsSlotWrite, IsTaken}
 use Rattle.mdv_standing.proofs.Listed.{own_found, past_reading, places_answered, places_still, slot_still}
 use Rattle.mdv_standing.proofs.Versions.{answered_length, answered_same, version_newest}
 use Rattle.mdv_standing.proofs.Reaching.{reached_more, standing, tables_agree}
-use Rattle.mdv_standing.proofs.Following.{matches_follow, one_more, settled_family, settled_follows, settled_place, settled_stage, since_put}
+use Rattle.mdv_standing.proofs.Following.{floor_put, matches_follow, one_more, settled_family, settled_follows, settled_place, settled_stage, since_put}
 
 -- the last table of a world is the log's newest version
 module _ (site : Site) (log : Log) (w : Core) (m : Matches site log w) (v : Version) (older : List Version) (newest : log.family ≡ v ∷ older) where
@@ -70,7 +70,7 @@ module _ (Spells : List ℕ → Table → Type 0) (site : Site) (identity : Iden
     set = refl;
     family = refl;
     changes = refl;
-    floor = refl;
+    floors = λ q. floor_put w.places p q (with_newest (last_number w)) (λ x. refl) (λ x. refl);
     deleted = refl;
     firm = λ f e. (f, e, omega arith);
     dropped = λ q i e. s.world.matches.dropped q i (sym (since_put w.places p q (with_newest (last_number w)) (λ x. refl) (λ x. refl)) ∙ e);

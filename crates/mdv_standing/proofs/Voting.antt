@@ -1,11 +1,12 @@
 -- What the votes say of a boot that chose a version of the log.
-use Rattle.std.proofs.Common.{◌≡◌, inl, inr, ℕ, ◌<◌, true, List, length, sym, ◌∙◌, ap, subst, All, Contains, arith}
-use Rattle.std.proofs.lemmas.Bool.{cases_lt}
+use Rattle.std.proofs.Common.{◌≡◌, inl, inr, ℕ, ◌<◌, ◌&&◌, true, List, [], ◌∷◌, length, refl, sym, ◌∙◌, ap, subst, not, All, Contains, arith}
+use Rattle.std.proofs.lemmas.Bool.{and_from, and_parts, cases_lt, false_from_ne_true, ltb-true, not_from_false}
 use Rattle.std.proofs.lemmas.List.Elements.{Contains-get_or}
-use Rattle.std.specs.Prelude.{slice_index_or}
+use Rattle.std.specs.Prelude.{nat_lt, slice_index_or}
+use Rattle.mdv_quorum.specs.May.{is_fair, is_stale_vote, shows_none}
 use Rattle.mdv_quorum.specs.Standing.{BootsAt, Standing}
 use Rattle.mdv_shown.proofs.Slots.{never_below}
-use Rattle.mdv_standing.specs.Below.{IsBelow, Mark, Site, Core, Claiming, Log, Version, Spot, table_at}
+use Rattle.mdv_standing.specs.Below.{IsBelow, Mark, Site, Core, Claiming, Log, Version, Spot, is_named, place_at, table_at}
 use Rattle.mdv_standing.specs.Matching.{Matches, Reached, lists_of, version_at}
 use Rattle.mdv_standing.specs.Worlds.{HasClaimed}
 use Rattle.mdv_standing.proofs.Versions.{has_version}
@@ -13,6 +14,16 @@ use Rattle.mdv_standing.proofs.Reaching.{same_number, standing}
 
 pub all_that : (P : Version → Type 0) (xs : List Version) → ((x : Version) → Contains xs x → P x) → All P xs
 all_that P xs each k d lt = each (slice_index_or xs k d) (Contains-get_or xs k d lt)
+
+-- where no place was formatted again, no vote is stale
+pub none_stale : (w : Core) (i : ℕ) (places : List Spot) → ((p : Spot) → (place_at w.places p).floor ≡ 0) → is_fair w i places ≡ true
+none_stale w i [] reused = refl
+none_stale w i (q ∷ qs) reused =
+    let stale = is_stale_vote w i q in
+    let below : nat_lt i (place_at w.places q).floor ≡ true → ⊥ = λ e. (let h = ltb-true i (place_at w.places q).floor e in let none = reused q in absurd (omega (arith, h, none))) in
+    let never : stale ≡ true → ⊥ = λ e. below (and_parts (shows_none (place_at w.places q).newest) (nat_lt i (place_at w.places q).floor)
+    (and_parts (is_named (table_at w.family i).lists q) (shows_none (place_at w.places q).newest && nat_lt i (place_at w.places q).floor) e).1).1 in
+    and_from (not stale) (is_fair w i qs) (not_from_false stale (false_from_ne_true stale never)) (none_stale w i qs reused)
 
 module _ (site : Site) (log : Log) (w : Core) (reached : Reached site w) (m : Matches site log w) where
   stands : Standing w

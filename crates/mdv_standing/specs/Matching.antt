@@ -65,7 +65,7 @@ pub record Matches (site : Site) (log : Log) (w : Core) : Type 0 where
   pub each : (i : ℕ) → i < length w.family → IsVersionAt site book w.changes (table_at w.family i) (version_at log.family i)
   pub answered : (i : ℕ) → i < length w.family → (version_at log.family i).is_written ≡ true → (f : ℕ) × (w.firm ≡ Some f) × (i ≤ f)
   pub dropped : (p : Spot) (i : ℕ) → (place_at w.places p).since ≡ Dropped i → IsDroppedBy site log p i
-  pub reused : w.floor ≡ 0
+  pub reused : (p : Spot) → (place_at w.places p).floor ≡ 0
   pub there : w.deleted ≡ None
 
 -- events lead to it, each of which may happen where it happens

@@ -120,6 +120,9 @@ wiped_claim p x = cond_both (same_spot x.spot p) (wiped x) x (λ y. y.claim ≡ 
 pub wiped_since : (p : Spot) (x : SpotState) → (changed_at p wiped x).since ≡ x.since
 wiped_since p x = cond_both (same_spot x.spot p) (wiped x) x (λ y. y.since ≡ x.since) (λ e. refl) (λ e. refl)
 
+pub wiped_floor : (p : Spot) (x : SpotState) → (changed_at p wiped x).floor ≡ x.floor
+wiped_floor p x = cond_both (same_spot x.spot p) (wiped x) x (λ y. y.floor ≡ x.floor) (λ e. refl) (λ e. refl)
+
 pub wiped_held : (p : Spot) (x : SpotState) → (changed_at p wiped x).holds ≡ true → x.holds ≡ true
 wiped_held p x = cond_both (same_spot x.spot p) (wiped x) x (λ y. y.holds ≡ true → x.holds ≡ true) (λ e h. absurd (false≢true h)) (λ e h. h)
 

@@ -30,7 +30,7 @@ boot_of family (Some i) = (table_at family i).mark.boot
 
 -- what is known of a place of which nothing was told
 abbrev pub blank_place : Spot → SpotState
-blank_place p = record { spot = p; holds = false; claim = 0; newest = None; since = Never }
+blank_place p = record { spot = p; holds = false; claim = 0; newest = None; since = Never; floor = 0 }
 
 abbrev pub place_at : List SpotState → Spot → SpotState
 place_at [] p = blank_place p
@@ -58,17 +58,24 @@ index_at [] p = 0
 index_at (x ∷ xs) p = cond (same_spot x.spot p) 0 (index_at xs p + 1)
 
 abbrev pub with_claim : ℕ → SpotState → SpotState
-with_claim n x = record { spot = x.spot; holds = x.holds; claim = n; newest = x.newest; since = x.since }
+with_claim n x = record { spot = x.spot; holds = x.holds; claim = n; newest = x.newest; since = x.since; floor = x.floor }
 
 abbrev pub with_newest : ℕ → SpotState → SpotState
-with_newest i x = record { spot = x.spot; holds = x.holds; claim = x.claim; newest = Some i; since = x.since }
+with_newest i x = record { spot = x.spot; holds = x.holds; claim = x.claim; newest = Some i; since = x.since; floor = x.floor }
 
 abbrev pub wiped : SpotState → SpotState
-wiped x = record { spot = x.spot; holds = false; claim = x.claim; newest = x.newest; since = x.since }
+wiped x = record { spot = x.spot; holds = false; claim = x.claim; newest = x.newest; since = x.since; floor = x.floor }
+
+-- A place that was dropped and is formatted again has a floor: the first firm table whose last list no
+-- longer had it. For a table below that one it has no say until it takes a table.
+abbrev pub raised : ℕ → Since → ℕ
+raised floor Never = floor
+raised floor Listed = floor
+raised floor (Dropped i) = max floor i
 
 -- formatted: a claim and no table; of a mediator's seat the mark of the firm table
 abbrev pub formatted : ℕ → Option ℕ → SpotState → SpotState
-formatted n newest x = record { spot = x.spot; holds = true; claim = n; newest = newest; since = x.since }
+formatted n newest x = record { spot = x.spot; holds = true; claim = n; newest = newest; since = x.since; floor = raised x.floor x.since }
 
 -- where a place stands once this table is firm
 abbrev pub since_after : ℕ → Bool → Since → Since
@@ -78,7 +85,7 @@ since_after i false Listed = Dropped i
 since_after i false (Dropped k) = Dropped k
 
 abbrev pub with_since : ℕ → List Spot → SpotState → SpotState
-with_since i list x = record { spot = x.spot; holds = x.holds; claim = x.claim; newest = x.newest; since = since_after i (is_in list x.spot) x.since }
+with_since i list x = record { spot = x.spot; holds = x.holds; claim = x.claim; newest = x.newest; since = since_after i (is_in list x.spot) x.since; floor = x.floor }
 
 -- A boot takes of the tables shown the one with the greatest mark.
 abbrev pub newer : List Version → Option ℕ → Option ℕ → Option ℕ

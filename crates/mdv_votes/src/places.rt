@@ -2,7 +2,7 @@
 
 ghost use Rattle.std.specs.Prelude.{◌≡◌, OnOk, OnErr, map, length, IsTrue};
 ghost use Rattle.mdv_votes.specs.Spots.{is_in as spec_is_in};
-ghost use Rattle.mdv_votes.specs.Family.{place_at as spec_place_at, blank_place as spec_blank_place, replaced_at, index_at, changed_at, wiped as spec_wiped, formatted as spec_formatted, put_at, with_claim, with_newest, with_since, since_after as spec_since_after};
+ghost use Rattle.mdv_votes.specs.Family.{place_at as spec_place_at, blank_place as spec_blank_place, replaced_at, index_at, changed_at, wiped as spec_wiped, formatted as spec_formatted, put_at, with_claim, with_newest, with_since, since_after as spec_since_after, raised as spec_raised};
 
 use crate::spots::{is_in, same_spot};
 use crate::{Row, Since, Spot, SpotState};
@@ -17,6 +17,7 @@ fn blank_place(spot: Spot) -> SpotState
         claim: 0,
         newest: None,
         since: Since::Never,
+        floor: 0,
     }
 }
 
@@ -88,6 +89,17 @@ pub fn set_newest(places: &mut Row<SpotState>, p: Spot, number: usize)
     change(places, p, SpotState { newest, ..place });
 }
 
+/// The floor of a place once it is formatted.
+fn raised(floor: usize, since: Since) -> usize
+    ensures { result ≡ spec_raised floor since }
+{
+    match since {
+        Since::Dropped(table) => floor.max(table),
+        Since::Never => floor,
+        Since::Listed => floor,
+    }
+}
+
 /// A place is formatted with this claim, a seat also with the mark of a table. Memory is taken only
 /// for a place that is new to the list.
 pub fn format_spot(
@@ -106,6 +118,7 @@ pub fn format_spot(
         claim,
         newest,
         since: place.since,
+        floor: raised(place.floor, place.since),
     };
     put(places, p, formatted)
 }

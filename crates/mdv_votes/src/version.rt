@@ -35,4 +35,6 @@ pub struct SpotState {
     /// Its newest table, by its place in the family.
     pub newest: Option<usize>,
     pub since: Since,
+    /// It was formatted again since this table of the family dropped it; 0 where it never was.
+    pub floor: usize,
 }
