@@ -20,7 +20,7 @@ use Rattle.mdv_shelf.proofs.Settled.{synced_drive, synced_still, told_synced}
 use Rattle.mdv_shelf.proofs.Blocks.{kept_unwritten}
 use Rattle.mdv_shelf.specs.Calls.{and_then}
 use Rattle.mdv_look.specs.Below.{Ghosts, IsSynced, Synced, Tale, Then}
-use Rattle.mdv_look.specs.Bringing.{AreSynced, AreTriedBy, AreUpBy, BringingEnds, FailedAtLast, IsBringingCounted, IsDriveTried, IsTryCounted, brought_up}
+use Rattle.mdv_look.specs.Bringing.{AreSynced, AreTriedBy, AreUpBy, BringingEnds, IsBringingCounted, IsDriveTried, IsTryCounted, brought_up}
 use Rattle.mdv_look.specs.Quiet.{WritesNothing}
 use Rattle.mdv_look.proofs.Few.{reads_more}
 use Rattle.mdv_look.proofs.Quiet.{unwritten_more, unwritten_same, unwritten_synced}
@@ -116,10 +116,10 @@ module _ {S : Type 0} (shelf : Ghosts S) where
       cause = cause.failed;
       moments = moments_none WritesNothing (shelf.tale now) (shelf.tale next) tale unwritten_same;
       end = λ t is. (t, tale ∙ is, record { tale = refl; unwritten = unwritten_same t; synced = λ so. absurd (cc (so)) });
-      calls = counted.before.0 + 1;
+      calls = counted.0.calls + 1;
       least = omega arith;
-      most = omega (arith, counted.before.1);
-      made = reads_more shelf now counted.failing next counted.before.0 1 (counted.before.0 + 1) refl counted.before.2 counted.made;
+      most = omega (arith, counted.1);
+      made = reads_more shelf now counted.0.failing next counted.0.calls 1 (counted.0.calls + 1) refl counted.0.before counted.0.made;
       tried = record { came = counted; kept = kept };
     }
 

@@ -11,10 +11,11 @@ use Rattle.std.proofs.lemmas.List.Elements.{Contains-append_left, Contains-appen
 use Rattle.mdv_base.specs.DriveSet.{no_drives}
 use Rattle.mdv_survey.specs.Counts.{AreLinesBy, IsCounted, IsLineBy, IsSliceBy, MadeFew}
 use Rattle.mdv_survey.specs.Replica.{Contents}
+use Rattle.mdv_survey.specs.Steps.{WasOneLook}
 use Rattle.mdv_survey.specs.Survey.{AreWithin, HaveFailed, IsSurvey, IsSurveyOf, answers_in}
 use Rattle.mdv_survey.specs.declared.replica.Survey.{Survey}
 use Rattle.mdv_look.specs.Below.{DriveNo, Drives, Geometry, Ghosts, Site, SliceLine, Tale, has_drive, last}
-use Rattle.mdv_look.specs.Looking.{AreCalmBy, AreLeftOf, HasFailedOn, AreAllCalm, IsLookCounted, IsLooked, IsLookedAt, WasOneLook, again, at_last, reads_by}
+use Rattle.mdv_look.specs.Looking.{AreCalmBy, AreLeftOf, HasFailedOn, AreAllCalm, IsLookCounted, IsLooked, IsLookedAt, again, at_last, reads_by}
 use Rattle.mdv_look.specs.declared.looking.Looked.{Looked}
 use Rattle.mdv_look.proofs.Bringing.{count_cons, is_drive}
 use Rattle.mdv_look.proofs.Few.{few_more, few_wider}
@@ -259,10 +260,7 @@ module _ {S : Type 0} (shelf : Ghosts S) (g : Geometry) (site : Site) (old mid :
 
   -- where one failed, and another look was made without that drive
   module _ {E : Type 0} (new : S) (result : Result Looked E) (has : HasFailedOn site.drives up found.failed) (inner : IsLooked shelf mid new g site left result)
-      (counted : IsCounted shelf old mid (765 * length site.lines) (λ t n. AreLinesBy g site up found.failed (last t) site.lines n)) where
-    one_look : WasOneLook shelf old mid g site up found.failed
-    one_look = record { same = same; have = failed; within = failed_up; counted = counted }
-
+      (one_look : WasOneLook shelf old mid g site up found.failed) where
     calm_more : (now : S) (calm : Drives) → AreCalmBy shelf mid now site.drives left calm → AreCalmBy shelf old now site.drives up calm
     calm_more now calm at = record {
       each = λ drive one_of so.
@@ -316,8 +314,8 @@ module _ {S : Type 0} (shelf : Ghosts S) (g : Geometry) (site : Site) (old mid :
     some_both (Ok looked) at first second = some_more looked.calm at.calm.is_up first second
     some_both (Err fault) at first second = tt
 
-    pub counted_more : IsLookCounted shelf mid new g site left result → IsLookCounted shelf old new g site up result
-    counted_more second = let first : MadeFew shelf old mid (765 * length site.lines) = (counted.calls, counted.few, counted.made) in record {
+    pub counted_more : MadeFew shelf old mid (765 * length site.lines) → IsLookCounted shelf mid new g site left result → IsLookCounted shelf old new g site up result
+    counted_more first second = record {
       few =
           let less = fewer_left site.drives up found.failed left are has in
           let larger : 2 + count_by (has_drive left) site.drives ≤ 1 + count_by (has_drive up) site.drives = omega (arith, less) in

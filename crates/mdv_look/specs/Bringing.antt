@@ -1,12 +1,12 @@
 -- What it says that drives were brought up.
-use Rattle.std.specs.Prelude.{◌≡◌, ℕ, Bool, true, false, List, [], ◌∷◌, Contains, Result, Ok, Err, if◌then◌else◌}
+use Rattle.std.specs.Prelude.{◌≡◌, ◌≤◌, ℕ, Bool, true, false, List, [], ◌∷◌, Contains, Result, Ok, Err, if◌then◌else◌}
 use Rattle.std.specs.Bool.{MatchBool}
 use Rattle.mdv_base.specs.declared.drive.DriveNo.{DriveNo}
 use Rattle.mdv_base.specs.DriveSet.{Drives, has_drive}
 use Rattle.mdv_shelf.specs.Calls.{OnDrive}
 use Rattle.mdv_shelf.specs.Shelves.{DriveFailures, KeptOn, MadeCalls}
 use Rattle.mdv_store_law.specs.Effort.{BroughtUpBy}
-use Rattle.mdv_survey.specs.Counts.{MadeFew, MadeReads}
+use Rattle.mdv_survey.specs.Counts.{FailedAtLast, MadeReads}
 use Rattle.mdv_look.specs.Below.{Failures, Ghosts, IsSynced, Synced, Tale, Then}
 
 -- those of the drives are up on which no call failed, and on each other one just one did; no other drive is up
@@ -28,22 +28,18 @@ pub record BringingEnds (up : Drives) (drives : List DriveNo) (t u : Tale) : Typ
   pub tale : u ≡ brought_up up drives t
   pub synced : AreSynced up u
 
--- the last of the calls failed, and none before it, of which there are at most so many
-pub record FailedAtLast {S : Type 0} (shelf : Ghosts S) (old new : S) (drive most : ℕ) : Type 0 where
-  pub failing : S
-  pub before : MadeFew shelf old failing most
-  pub calm : (DriveFailures shelf old failing drive).none
-  pub made : MadeCalls shelf failing new 1 0
-  pub failed : (DriveFailures shelf failing new drive).some
+-- the last of the calls failed, behind one at most
+abbrev pub HasFailedAtLast : {S : Type 0} → Ghosts S → S → S → ℕ → Type 0
+HasFailedAtLast shelf old new drive = (last : FailedAtLast shelf old new drive) × (last.calls ≤ 1)
 
 -- a read and a sync; where one failed, no call behind it
 abbrev pub IsTryCounted : {S T E : Type 0} → Ghosts S → S → S → ℕ → Result T E → Type 0
 IsTryCounted shelf old new drive (Ok done) = MadeCalls shelf old new 2 0
-IsTryCounted shelf old new drive (Err fault) = FailedAtLast shelf old new drive 1
+IsTryCounted shelf old new drive (Err fault) = HasFailedAtLast shelf old new drive
 
 -- A drive that is up took two calls, of which none failed; another one one that failed, behind one at most that didn't. On no other drive was anything done.
 pub record IsDriveTried {S : Type 0} (shelf : Ghosts S) (old new : S) (drive : DriveNo) (is_up : Bool) : Type 0 where
-  pub came : MatchBool is_up ((DriveFailures shelf old new drive.0).none × MadeCalls shelf old new 2 0) (FailedAtLast shelf old new drive.0 1)
+  pub came : MatchBool is_up ((DriveFailures shelf old new drive.0).none × MadeCalls shelf old new 2 0) (HasFailedAtLast shelf old new drive.0)
   pub kept : KeptOn shelf old new (OnDrive drive.0)
 
 -- so were these drives, one after another, and nothing was done in between

@@ -3,8 +3,9 @@ use Rattle.std.specs.Prelude.{◌≡◌, ◌*◌, ◌+◌, ◌&&◌, ℕ, true, 
 use Rattle.std.specs.Bool.{MatchBool}
 use Rattle.mdv_base.specs.DriveSet.{no_drives}
 use Rattle.mdv_shelf.specs.Shelves.{DriveFailures}
-use Rattle.mdv_survey.specs.Counts.{AreLinesBy, IsCounted, MadeFew, MadeReads}
-use Rattle.mdv_survey.specs.Survey.{AreWithin, HaveFailed, IsSurvey, IsSurveyOf, answers_in}
+use Rattle.mdv_survey.specs.Counts.{AreLinesBy, MadeFew, MadeReads}
+use Rattle.mdv_survey.specs.Steps.{WasOneLook}
+use Rattle.mdv_survey.specs.Survey.{IsSurvey, IsSurveyOf, answers_in}
 use Rattle.mdv_look.specs.Below.{DriveNo, Drives, Geometry, Ghosts, Site, Tale, has_drive, last}
 use Rattle.mdv_look.specs.declared.looking.Looked.{Looked}
 
@@ -26,14 +27,6 @@ pub record AreCalmBy {S : Type 0} (shelf : Ghosts S) (old new : S) (drives : Lis
   pub down : (drive : DriveNo) → has_drive up drive ≡ false → (DriveFailures shelf old new drive.0).none
   pub is_up : (drive : DriveNo) → has_drive calm drive ≡ true → has_drive up drive ≡ true
   pub only : (drive : DriveNo) → has_drive calm drive ≡ true → Contains drives drive
-
--- One look at all slices on the drives that are up, by reads alone: on each drive that is told just one failed, and on each other one none. Each head and each body of an open slot was read once; of a slice
--- on a drive that is told 765 at most were.
-pub record WasOneLook {S : Type 0} (shelf : Ghosts S) (old new : S) (g : Geometry) (site : Site) (up failed : Drives) : Type 0 where
-  pub same : shelf.tale new ≡ shelf.tale old
-  pub have : HaveFailed shelf old new failed
-  pub within : AreWithin failed up
-  pub counted : IsCounted shelf old new (765 * length site.lines) (λ t n. AreLinesBy g site up failed (last t) site.lines n)
 
 -- The looks before the last one, of which each began as the one before it ended: in each a read failed, and the next one was at the drives that were left. The last one is at these, and begins at the end of them.
 pub data LooksBy {S : Type 0} (shelf : Ghosts S) (g : Geometry) (site : Site) : Drives → S → Drives → S → Type 0 where

@@ -1,6 +1,8 @@
 pub mod Counting
+pub mod Ending
 pub mod Bodies
 pub mod Tables
+pub mod Reading
 pub mod Newests
 pub mod Listing
 pub mod Told

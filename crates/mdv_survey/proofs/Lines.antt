@@ -15,6 +15,7 @@ use Rattle.mdv_survey.specs.Newest.{HasTable, IsMarked}
 use Rattle.mdv_survey.specs.Replica.{AreOrdered, Contents, IsFoundIn}
 use Rattle.mdv_survey.specs.Slice.{AreFound, AreListed, IsPassed, WasLookedAt}
 use Rattle.mdv_survey.specs.Slots.{OnlyReads}
+use Rattle.mdv_survey.specs.Steps.{IsLineLook, WasOneLook, WentAlong}
 use Rattle.mdv_survey.specs.Survey.{AreWithin, FailedOn, HaveFailed, IsSurvey, IsSurveyOf, KeptToo, ListsLine, LooksAtLine, answers_in}
 use Rattle.mdv_survey.specs.declared.replica.Finds.{Finds}
 use Rattle.mdv_survey.specs.declared.replica.Other.{Other}
@@ -32,11 +33,11 @@ no_line = record { name = record { drive = record { controller = 0; target = 0; 
 abbrev line_at : List SliceLine → ℕ → SliceLine
 line_at lines at = slice_index_or lines at no_line
 
-up_of : (a b : Bool) → (a && not b) ≡ true → a ≡ true
+pub up_of : (a b : Bool) → (a && not b) ≡ true → a ≡ true
 up_of true b is = refl
 up_of false b is = absurd (cc (is))
 
-unfailed_of : (a b : Bool) → (a && not b) ≡ true → b ≡ false
+pub unfailed_of : (a b : Bool) → (a && not b) ≡ true → b ≡ false
 unfailed_of true true is = absurd (cc (is))
 unfailed_of true false is = refl
 unfailed_of false b is = absurd (cc (is))
@@ -156,6 +157,28 @@ line_answered g site content up failed line n answered few slice =
     subst (λ (b : Bool). MatchBool b ((n ≤ 765) × (has_drive failed line.at.drive ≡ false → IsSliceBy g site line (content line.at.drive.0) n)) (n ≡ 0))
     (sym (up_of (has_drive up line.at.drive) (has_drive failed line.at.drive) answered)) (few, λ not. slice)
 
+-- those on one whose drive isn't up, or on whose drive a call had failed
+pub line_down : (g : Geometry) (site : Site) (content : Contents) (up failed : Drives) (line : SliceLine) → answers_in up failed line.at.drive ≡ false → IsLineBy g site up failed content line 0
+line_down g site content up failed line down = by (has_drive up line.at.drive) (has_drive failed line.at.drive) (IsSliceBy g site line (content line.at.drive.0) 0) down
+  where
+    by : (u f : Bool) (Slice : Type 0) → (u && not f) ≡ false → MatchBool u ((0 ≤ 765) × (f ≡ false → Slice)) (◌≡◌ {A = ℕ} 0 0)
+    by true true Slice down = (omega arith, λ not_failed. absurd (cc (not_failed)))
+    by true false Slice down = absurd (cc (down))
+    by false f Slice down = refl
+
+-- and on one on whose drive a call failed
+pub line_failed : (g : Geometry) (site : Site) (content : Contents) (up failed : Drives) (line : SliceLine) (n : ℕ) → has_drive up line.at.drive ≡ true → has_drive failed line.at.drive ≡ true → n ≤ 765 → IsLineBy g site up failed content line n
+line_failed g site content up failed line n is_up has few =
+    subst (λ (b : Bool). MatchBool b ((n ≤ 765) × (has_drive failed line.at.drive ≡ false → IsSliceBy g site line (content line.at.drive.0) n)) (n ≡ 0)) (sym is_up) (few, λ not_failed. absurd (cc (not_failed, has)))
+
+-- one slice more
+along_push : {S : Type 0} (shelf : Ghosts S) (g : Geometry) (site : Site) (up : Drives) (lines : List SliceLine) (line : SliceLine) (old mid new : S) (begun before now : Drives)
+    → WentAlong shelf g site up lines old mid begun before → IsLineLook shelf g site up line mid new before now → WentAlong shelf g site up (lines ++ line ∷ []) old new begun now
+along_push {S} shelf g site up [] line old mid new begun before now (same, none) step =
+    (new, now, subst (λ (s : S). IsLineLook shelf g site up line s new begun now) same (subst (λ (d : Drives). IsLineLook shelf g site up line mid new d now) none step), (refl, refl))
+along_push {S} shelf g site up (l ∷ lines) line old mid new begun before now (m, between, here, rest) step =
+    (m, between, here, along_push shelf g site up lines line m mid new between before now rest step)
+
 -- what was looked at of the site so far
 pub record SoSurveyed {S : Type 0} (shelf : Ghosts S) (g : Geometry) (site : Site) (up : Drives) (all : List SliceLine) (at : ℕ) (start now : S) (failed : Drives) (finds : Finds) : Type 0 where
   pub reads : OnlyReads shelf (λ t. AreFound g site (answers_in up failed) (take at all) no_line 0 (last t) finds) start now
@@ -164,6 +187,9 @@ pub record SoSurveyed {S : Type 0} (shelf : Ghosts S) (g : Geometry) (site : Sit
   pub kept : KeptAmong shelf start now site.drives
   pub listed : AreListed site up (take at all) no_line 0 finds
   pub counted : IsCounted shelf start now (765 * at) (λ t n. AreLinesBy g site up failed (last t) (take at all) n)
+  pub begun : Drives
+  pub clear : (drive : DriveNo) → has_drive begun drive ≡ false
+  pub steps : WentAlong shelf g site up (take at all) start now begun failed
 
 never_in : {X : Type 0} (x : X) → Contains [] x → ⊥
 never_in x has = absurd (omega (arith, has.1))
@@ -191,6 +217,9 @@ module _ {S : Type 0} (shelf : Ghosts S) (g : Geometry) (site : Site) (up : Driv
       others_on = λ o has. absurd (no_other o has);
     };
     counted = counted_none shelf start (765 * 0) (λ t n. AreLinesBy g site up failed (last t) [] n) (λ t. refl);
+    begun = failed;
+    clear = none;
+    steps = (refl, refl);
   }
     where
       nothing : (r : Replica) → Contains finds.replicas r → ⊥
@@ -209,23 +238,26 @@ module _ {S : Type 0} (shelf : Ghosts S) (g : Geometry) (site : Site) (up : Driv
   pub surveyed_more : (lines : List SliceLine) (at : ℕ) → at < length lines → site.lines ≡ lines → (start mid now : S) (before after : Drives) (old new : Finds)
       → SoSurveyed shelf g site up lines at start mid before old → ListsLine site up (slice_index_or lines at no_line) old new
       → OnlyReads shelf (λ t. LooksAtLine g site up (slice_index_or lines at no_line) (last t) before old after new) mid now
-      → FailedOn shelf mid now up before after → KeptToo shelf mid now site.drives → IsCounted shelf mid now 765 (λ t n. IsLineBy g site up after (last t) (slice_index_or lines at no_line) n) → SoSurveyed shelf g site up lines (at + 1) start now after new
-  surveyed_more lines at less all start mid now before after old new so lists reads failed kept counted = record {
+      → IsLineLook shelf g site up (slice_index_or lines at no_line) mid now before after → KeptToo shelf mid now site.drives → SoSurveyed shelf g site up lines (at + 1) start now after new
+  surveyed_more lines at less all start mid now before after old new so lists reads looked kept = record {
     reads = record {
       same = reads.same ∙ so.reads.same;
       gave = λ t is. subst (λ (ls : List SliceLine). AreFound g site (answers_in up after) ls no_line 0 (last t) new) (sym more)
           (found_line g site (last t) (answers_in up after) (take at lines ++ line_at lines at ∷ []) (line_at lines at) no_line new
           (reads.gave t (so.reads.same ∙ is) (take at lines) (found_line g site (last t) (answers_in up before) (take at lines) no_line (line_at lines at) old (so.reads.gave t is))));
     };
-    have = failed.have start so.have;
-    within = failed.within so.within;
+    have = looked.failed.have start so.have;
+    within = looked.failed.within so.within;
     kept = kept start so.kept;
     listed = subst (λ (ls : List SliceLine). AreListed site up ls no_line 0 new) (sym more)
         (listed_line site up (take at lines ++ line_at lines at ∷ []) (line_at lines at) no_line new (lists (take at lines) (drop (suc at) lines) split (listed_line site up (take at lines) no_line (line_at lines at) old so.listed)));
     counted = counted_more shelf start mid now (765 * at) 765 (765 * (at + 1)) _ _ _ (omega arith) so.reads.same
         (λ t m n is first second. subst (λ (ls : List SliceLine). AreLinesBy g site up after (last t) ls (m + n)) (sym more)
-        (lines_more g site up (last t) after (take at lines) (line_at lines at) m n (lines_later g site up (last t) before after (λ l. failed.later l.at.drive) (take at lines) m first) second))
-        so.counted counted;
+        (lines_more g site up (last t) after (take at lines) (line_at lines at) m n (lines_later g site up (last t) before after (λ l. looked.failed.later l.at.drive) (take at lines) m first) second))
+        so.counted looked.counted;
+    begun = so.begun;
+    clear = so.clear;
+    steps = subst (λ (ls : List SliceLine). WentAlong shelf g site up ls start now so.begun after) (sym more) (along_push shelf g site up (take at lines) (line_at lines at) start mid now so.begun before after so.steps looked);
   }
     where
       more : take (at + 1) lines ≡ take at lines ++ line_at lines at ∷ []
@@ -254,6 +286,16 @@ module _ {S : Type 0} (shelf : Ghosts S) (g : Geometry) (site : Site) (up : Driv
         told = λ line k place one_of answered comes. (so.reads.gave t is).told.all line k place one_of answered
             (inl (subst (λ (ls : List SliceLine). Contains ls line) (sym (take_all at lines last_one)) (subst (λ (ls : List SliceLine). Contains ls line) all one_of))) comes;
       };
+    }
+
+    pub one_look : WasOneLook shelf start now g site up failed
+    one_look = record {
+      same = so.reads.same;
+      have = so.have;
+      within = so.within;
+      begun = so.begun;
+      clear = so.clear;
+      steps = subst (λ (ls : List SliceLine). WentAlong shelf g site up ls start now so.begun failed) (take_all at lines last_one ∙ sym all) so.steps;
     }
 
     pub survey_counted : IsCounted shelf start now (765 * length lines) (λ t n. AreLinesBy g site up failed (last t) site.lines n)

@@ -1,12 +1,8 @@
 -- How far the look at a slice has come behind its first replica.
 use Rattle.std.proofs.Common.{◌≡◌, inl, inr, ℕ, ◌+◌, ◌-◌, ◌*◌, ◌≤◌, Bool, true, false, List, ◌∷◌, ◌++◌, refl, sym, ◌∙◌, subst, Ok, Err, arith}
-use Rattle.mdv_shelf.specs.Calls.{Part, OnDrive}
-use Rattle.mdv_shelf.specs.Made.{tally_of}
-use Rattle.mdv_shelf.specs.Shelves.{KeptOn}
-use Rattle.mdv_shelf.proofs.InTime.{in_time_none, kept_on_more}
-use Rattle.mdv_shelf.proofs.Stories.{each_none}
+use Rattle.mdv_shelf.specs.Calls.{OnDrive}
 use Rattle.mdv_survey.specs.Below.{DriveNo, Drives, Geometry, Ghosts, IsMasterAt, Master, Site, SliceLine, Tale, has_drive, last, place_on, size_on}
-use Rattle.mdv_survey.specs.Counts.{IsBehindBy, IsCounted, IsNumberBy, IsWalkedBy, ReadableBy}
+use Rattle.mdv_survey.specs.Counts.{IsBehindBy, IsCounted, IsNumberBy, IsWalkedBy, ReadOn, ReadableBy}
 use Rattle.mdv_survey.specs.Others.{IsAhead}
 use Rattle.mdv_survey.specs.Slice.{AreFound, AreListed, ListsNext, ListsRest, Looks, LooksBehind}
 use Rattle.mdv_survey.specs.Slots.{OnlyReads}
@@ -14,18 +10,9 @@ use Rattle.mdv_survey.specs.declared.body.ReadFault.{ReadFault}
 use Rattle.mdv_survey.specs.declared.replica.Finds.{Finds}
 use Rattle.mdv_survey.proofs.Chains.{found_end, found_fewer}
 use Rattle.mdv_survey.proofs.Coming.{comes_behind}
+use Rattle.mdv_survey.proofs.Ending.{read_on_more, read_on_none}
 use Rattle.mdv_survey.proofs.Efforts.{counted_more, counted_none, counted_weaker, readable_more, walked_to}
 use Rattle.mdv_survey.proofs.Listing.{listed_end}
-
--- no call on a drive
-pub kept_none : {S : Type 0} (shelf : Ghosts S) (a : S) (part : Part) → KeptOn shelf a a part
-kept_none shelf a part = record {
-  keeps = record { same_sizes = refl; same_rest = refl; same_held = refl; no_fewer_faults = λ other. omega arith };
-  goes = each_none (λ _ _. Unit {0}) (shelf.story a) (tally_of shelf a) (shelf.story a) (tally_of shelf a) refl (λ other. omega arith) (λ t. tt) (λ t. tt);
-  in_time = in_time_none part (shelf.faults a part) (shelf.story a) (shelf.story a) refl;
-  others = λ other differs. refl;
-  elsewhere = λ other differs count. in_time_none other count (shelf.story a) (shelf.story a) refl;
-}
 
 -- what was found so far, and that each replica so far is readable
 abbrev pub FoundBefore : Geometry → Site → SliceLine → Master → ℕ → (ℕ → ℕ → List ℕ) → Finds → Finds → Type 0
@@ -41,7 +28,7 @@ ReadBefore g site line first number content n =
 pub record SoFar {S : Type 0} (shelf : Ghosts S) (g : Geometry) (site : Site) (line : SliceLine) (first : Master) (number : ℕ) (start now : S) (old new : Finds) : Type 0 where
   pub reads : OnlyReads shelf (λ t. FoundBefore g site line first number (last t) old new) start now
   pub calm : shelf.faults now (OnDrive line.at.drive.0) ≡ shelf.faults start (OnDrive line.at.drive.0)
-  pub kept : KeptOn shelf start now (OnDrive line.at.drive.0)
+  pub kept : ReadOn shelf start now line.at.drive.0
   pub listed : (up : Drives) (lines rest : List SliceLine) → site.lines ≡ lines ++ line ∷ rest → has_drive up line.at.drive ≡ true → AreListed site up lines line 1 old → AreListed site up lines line number new
   pub counted : IsCounted shelf start now (3 * (number - 1)) (λ t n. ReadBefore g site line first number (last t line.at.drive.0) n)
 
@@ -50,7 +37,7 @@ module _ {S : Type 0} (shelf : Ghosts S) (g : Geometry) (site : Site) (line : Sl
   so_far_none start old = record {
     reads = record { same = refl; gave = λ t is ahead. (ahead, λ answers lines found. found) };
     calm = refl;
-    kept = kept_none shelf start (OnDrive line.at.drive.0);
+    kept = read_on_none shelf start line.at.drive.0;
     listed = λ up lines rest split is_up listed. listed;
     counted = counted_none shelf start (3 * (1 - 1)) (λ t n. ReadBefore g site line first 1 (last t line.at.drive.0) n)
         (λ t located m readable. subst (ReadableBy g site line first (last t line.at.drive.0) 1) (omega arith) readable);
@@ -75,9 +62,9 @@ module _ {S : Type 0} (shelf : Ghosts S) (g : Geometry) (site : Site) (line : Sl
     pub listed_done : ListsRest site line 1 old finds
     listed_done up lines rest split is_up listed = listed_end site up lines line number finds (so.listed up lines rest split is_up listed)
 
-    module _ (now : S) (new : Finds) (kept : KeptOn shelf mid now (OnDrive line.at.drive.0)) (next : ListsNext site line number finds new) where
-      pub kept_then : KeptOn shelf start now (OnDrive line.at.drive.0)
-      kept_then = kept_on_more so.calm so.kept kept
+    module _ (now : S) (new : Finds) (kept : ReadOn shelf mid now line.at.drive.0) (next : ListsNext site line number finds new) where
+      pub kept_then : ReadOn shelf start now line.at.drive.0
+      kept_then = read_on_more shelf start mid now line.at.drive.0 so.counted.calls so.counted.made so.calm so.kept kept
 
       pub counted_failed : (most : ℕ) → 3 * number ≤ most → (Q : Tale → ℕ → Type 0) → shelf.tale mid ≡ shelf.tale start → IsCounted shelf mid now 3 Q → IsCounted shelf start now most (λ t n. Unit {0})
       counted_failed most fits Q same counted = counted_more shelf start mid now (3 * (number - 1)) 3 most _ Q (λ t n. Unit {0}) (omega (arith, some, fits)) same (λ t m n is before by. tt) so.counted counted

@@ -5,6 +5,7 @@ pub mod Slots
 pub mod Others
 pub mod Slice
 pub mod Survey
+pub mod Steps
 pub mod Choice
 pub mod Counts
 pub mod Letters

@@ -1,12 +1,11 @@
 // The text of a table in a slot, and how it is read from there.
 ghost use Rattle.std.specs.Prelude.{◌≡◌, ◌≤◌, ◌*◌, length, take, IfOk, IfErr};
 ghost use Rattle.std.specs.List.{flat_map};
-ghost use Rattle.mdv_shelf.specs.Calls.{OnDrive};
-ghost use Rattle.mdv_shelf.specs.Shelves.{DriveFailures, KeptOn, MadeCalls};
+ghost use Rattle.mdv_shelf.specs.Shelves.{DriveFailures, MadeCalls};
 ghost use Rattle.mdv_shelf.specs.Tale.{last};
 ghost use Rattle.mdv_name.specs.Sound.{IsSound};
 ghost use Rattle.mdv_replica.specs.Replica.{IsPlaced, slot_blocks as spec_slot_blocks};
-ghost use Rattle.mdv_survey.specs.Counts.{AreReadFor, blocks_for as spec_blocks_for};
+ghost use Rattle.mdv_survey.specs.Counts.{AreReadFor, IsTextBy, ReadOn, blocks_for as spec_blocks_for};
 ghost use Rattle.mdv_survey.specs.Slots.{IsFoundText, IsRead, OnlyReads, ReadAnswer};
 
 use mdv_base::{BLOCK_BYTES, Block, Failed, ZERO_BLOCK};
@@ -87,8 +86,8 @@ impl Body {
         ensures whole { self.new ≡ self.old }
         ensures answer { ReadAnswer (DriveFailures S.Shelf shelf.old shelf.new at.drive.0) result }
         ensures reads { OnlyReads S.Shelf (λ t. IfOk result (IsRead geometry.now at slot bytes (last t at.drive.0))) shelf.old shelf.new }
-        ensures counted { AreReadFor S.Shelf shelf.old shelf.new 1 result }
-        ensures kept { KeptOn S.Shelf shelf.old shelf.new (OnDrive at.drive.0) }
+        ensures counted { AreReadFor S.Shelf shelf.old shelf.new 1 (IsTextBy at.place.blocks bytes) result }
+        ensures kept { ReadOn S.Shelf shelf.old shelf.new at.drive.0 }
     {
         let count = blocks_for(bytes);
         if self.blocks.len() < count {
@@ -136,7 +135,7 @@ fn read_table<S: Shelf>(
     ensures answer { ReadAnswer (DriveFailures S.Shelf shelf.old shelf.new at.drive.0) result }
     ensures reads { OnlyReads S.Shelf (λ t. IfOk result (IsRead geometry.now at slot bytes (last t at.drive.0))) shelf.old shelf.new }
     ensures counted { MadeCalls S.Shelf shelf.old shelf.new 1 0 }
-    ensures kept { KeptOn S.Shelf shelf.old shelf.new (OnDrive at.drive.0) }
+    ensures kept { ReadOn S.Shelf shelf.old shelf.new at.drive.0 }
 {
     match read_body(shelf, at, slot, body) {
         Ok(()) => table_in(alloc, geometry, bytes, body),

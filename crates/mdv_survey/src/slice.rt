@@ -3,12 +3,12 @@ ghost use Rattle.std.specs.Prelude.{◌≡◌, ◌==◌, ◌&&◌, ◌↔◌, �
 ghost use Rattle.mdv_base.specs.Causes.{HasCause};
 ghost use Rattle.mdv_name.specs.Sound.{IsSound};
 ghost use Rattle.mdv_shelf.specs.Calls.{OnDrive};
-ghost use Rattle.mdv_shelf.specs.Shelves.{DriveFailures, KeptOn, MadeCalls};
+ghost use Rattle.mdv_shelf.specs.Shelves.{DriveFailures, MadeCalls};
 ghost use Rattle.mdv_shelf.specs.Tale.{last};
 ghost use Rattle.mdv_replica.specs.Replica.{IsFormed, slot_blocks};
 ghost use Rattle.mdv_replica.specs.declared.replica.Head.{Head};
-ghost use Rattle.mdv_survey.specs.Counts.{IsBehindBy, IsCounted, IsNumberBy, IsSliceBy, IsVisitBy};
-ghost use Rattle.mdv_survey.specs.Replica.{IsOnShelf, IsSeated};
+ghost use Rattle.mdv_survey.specs.Counts.{IsBehindBy, IsCounted, IsNumberBy, IsSliceBy, IsVisitBy, ReadOn};
+ghost use Rattle.mdv_survey.specs.Replica.{IsOnShelf, IsSeated, at_of};
 ghost use Rattle.mdv_survey.specs.Others.{first_at, first_of, headed_flags, most_on, unread_flags};
 ghost use Rattle.mdv_survey.specs.Slice.{IsSeenThere, IsVisitAnswer, ListsRest, Looks, LooksAtAll, LooksBehind, Visits};
 ghost use Rattle.mdv_survey.specs.Slots.{OnlyReads, ReadAnswer};
@@ -43,7 +43,7 @@ pub(crate) fn look_at_slice<S: Shelf>(
     ensures listed { ListsRest site.now line 0 finds.old finds.new }
     ensures reads { OnlyReads S.Shelf (λ t. LooksAtAll geometry.now site.now line (last t) finds.old finds.new result) shelf.old shelf.new }
     ensures counted { IsCounted S.Shelf shelf.old shelf.new 765 (λ t n. (1 ≤ n) × IfOk result (λ _. IsSliceBy geometry.now site.now line (last t line.at.drive.0) n)) }
-    ensures kept { KeptOn S.Shelf shelf.old shelf.new (OnDrive line.at.drive.0) }
+    ensures kept { ReadOn S.Shelf shelf.old shelf.new line.at.drive.0 }
 {
     let seen = look_at(shelf, first_place(line))?;
     let found = seen.head;
@@ -83,7 +83,7 @@ fn look_behind<S: Shelf>(
     ensures listed { ListsRest site.now first.line 1 finds.old finds.new }
     ensures reads { OnlyReads S.Shelf (λ t. LooksBehind geometry.now site.now first.line first.first (last t) finds.old finds.new result) shelf.old shelf.new }
     ensures counted { IsCounted S.Shelf shelf.old shelf.new 762 (λ t n. IfOk result (λ _. IsBehindBy geometry.now site.now first.line first.first (last t first.line.at.drive.0) n)) }
-    ensures kept { KeptOn S.Shelf shelf.old shelf.new (OnDrive first.line.at.drive.0) }
+    ensures kept { ReadOn S.Shelf shelf.old shelf.new first.line.at.drive.0 }
 {
     for number in 1..first.first.count {
         if !look_at_number(shelf, alloc, geometry, site, first, number, body, finds)? {
@@ -114,7 +114,7 @@ fn look_at_number<S: Shelf>(
     ensures answer { IsVisitAnswer (DriveFailures S.Shelf shelf.old shelf.new first.line.at.drive.0) site.now first.line number finds.old finds.new result }
     ensures reads { OnlyReads S.Shelf (λ t. IfOk result (λ readable. Looks geometry.now site.now first.line first.first number (last t) readable finds.old finds.new)) shelf.old shelf.new }
     ensures counted { IsCounted S.Shelf shelf.old shelf.new 3 (λ t n. IfOk result (λ readable. IsNumberBy geometry.now site.now first.line first.first (last t first.line.at.drive.0) number readable n)) }
-    ensures kept { KeptOn S.Shelf shelf.old shelf.new (OnDrive first.line.at.drive.0) }
+    ensures kept { ReadOn S.Shelf shelf.old shelf.new first.line.at.drive.0 }
 {
     let next = Replica { number, ..first };
     if !ends_within(&next) {
@@ -217,8 +217,8 @@ fn visit<S: Shelf>(
     ensures whole { body.new ≡ body.old }
     ensures answer { IsVisitAnswer (DriveFailures S.Shelf shelf.old shelf.new replica.line.at.drive.0) site.now replica.line replica.number finds.old finds.new result }
     ensures reads { OnlyReads S.Shelf (λ t. IfOk result (Visits geometry.now site.now replica (last t) finds.old finds.new)) shelf.old shelf.new }
-    ensures counted { IsCounted S.Shelf shelf.old shelf.new 2 (λ _ n. IfOk result (λ readable. IsVisitBy replica.head readable n)) }
-    ensures kept { KeptOn S.Shelf shelf.old shelf.new (OnDrive replica.line.at.drive.0) }
+    ensures counted { IsCounted S.Shelf shelf.old shelf.new 2 (λ t n. IfOk result (λ readable. IsVisitBy geometry.now (at_of replica) (last t replica.line.at.drive.0) replica.head readable n)) }
+    ensures kept { ReadOn S.Shelf shelf.old shelf.new replica.line.at.drive.0 }
 {
     let at = replica.at();
     let Some(slots) = slots_at(shelf, alloc, geometry, at, &replica.head, body)? else {
@@ -261,7 +261,7 @@ fn look_at<S: Shelf>(shelf: &mut S, at: PlaceAt) -> Result<Seen, Failed>
     ensures cause { HasCause (S.faults shelf.old (OnDrive at.drive.0)) (S.faults shelf.new (OnDrive at.drive.0)) result }
     ensures reads { OnlyReads S.Shelf (λ t. IfOk result (IsSeenThere at (slice_index_or (S.sizes shelf.old) at.drive.0 0) (last t at.drive.0))) shelf.old shelf.new }
     ensures counted { MadeCalls S.Shelf shelf.old shelf.new 1 0 }
-    ensures kept { KeptOn S.Shelf shelf.old shelf.new (OnDrive at.drive.0) }
+    ensures kept { ReadOn S.Shelf shelf.old shelf.new at.drive.0 }
 {
     let seen = inspect(shelf, at);
     if seen.flags.read_error {

@@ -6,7 +6,8 @@ ghost use Rattle.mdv_shelf.specs.Tale.{last};
 ghost use Rattle.mdv_survey.specs.Counts.{AreLinesBy, IsCounted, IsLineBy};
 ghost use Rattle.mdv_survey.specs.Replica.{IsOnShelf};
 ghost use Rattle.mdv_survey.specs.Slots.{OnlyReads};
-ghost use Rattle.mdv_survey.specs.Survey.{AreWithin, FailedOn, HaveFailed, IsSurvey, IsSurveyOf, KeptToo, ListsLine, LooksAtLine, answers_in};
+ghost use Rattle.mdv_survey.specs.Steps.{IsLineLook, WasOneLook};
+ghost use Rattle.mdv_survey.specs.Survey.{IsSurvey, IsSurveyOf, KeptToo, ListsLine, LooksAtLine, answers_in};
 
 use crate::body::ReadFault;
 use crate::replica::{Finds, Survey};
@@ -30,7 +31,7 @@ pub fn survey<S: Shelf>(
     requires on_shelf { IsOnShelf (S.sizes shelf.old) site.now }
     ensures answer { IfOk result (IsSurvey site.now up.now) }
     ensures reads { OnlyReads S.Shelf (λ t. IfOk result (IsSurveyOf geometry.now site.now up.now (last t))) shelf.old shelf.new }
-    ensures failed { IfOk result (λ s. HaveFailed S.Shelf shelf.old shelf.new s.failed × AreWithin s.failed up.now) }
+    ensures failed { IfOk result (λ s. WasOneLook S.Shelf shelf.old shelf.new geometry.now site.now up.now s.failed) }
     ensures counted { IsCounted S.Shelf shelf.old shelf.new (765 * length site.now.lines) (λ t n. IfOk result (λ s. AreLinesBy geometry.now site.now up.now s.failed (last t) site.now.lines n)) }
     ensures kept { KeptAmong S.Shelf shelf.old shelf.new site.now.drives }
 {
@@ -77,7 +78,7 @@ fn look_where_up<S: Shelf>(
     requires one_of { Contains site.now.lines line }
     ensures listed { ListsLine site.now up.now line finds.old finds.new }
     ensures reads { OnlyReads S.Shelf (λ t. IfOk result (λ _. LooksAtLine geometry.now site.now up.now line (last t) failed.old finds.old failed.new finds.new)) shelf.old shelf.new }
-    ensures failed { OnOk result (FailedOn S.Shelf shelf.old shelf.new up.now failed.old failed.new) }
+    ensures looked { OnOk result (IsLineLook S.Shelf geometry.now site.now up.now line shelf.old shelf.new failed.old failed.new) }
     ensures counted { IsCounted S.Shelf shelf.old shelf.new 765 (λ t n. IfOk result (λ _. IsLineBy geometry.now site.now up.now failed.new (last t) line n)) }
     ensures kept { KeptToo S.Shelf shelf.old shelf.new site.now.drives }
 {

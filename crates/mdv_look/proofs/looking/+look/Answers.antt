@@ -16,7 +16,7 @@ returns-then-not-has_failed-clause-looked g t c =
     let reads = c.in_ok-found.ensures.reads in
     record {
       same = reads.same;
-      found = looked_here g.S.Shelf c.args.geometry.now c.args.site.now c.args.shelf.now c.survey.new.shelf c.args.up.now found c.requires.on_shelf.brought c.in_ok-found.ensures.failed.0 c.in_ok-found.ensures.failed.1 c.left_of-left.result are reads.same none
+      found = looked_here g.S.Shelf c.args.geometry.now c.args.site.now c.args.shelf.now c.survey.new.shelf c.args.up.now found c.requires.on_shelf.brought c.in_ok-found.ensures.failed.have c.in_ok-found.ensures.failed.within c.left_of-left.result are reads.same none
           c.in_ok-found.ensures.answer reads.gave c.in_ok-found.ensures.counted;
     }
 
@@ -26,7 +26,7 @@ returns-then-not-has_failed-clause-counted g t c =
     let none = rw c.as_slice-drives.ensures at (c.has_failed.ensures.no c.if-not-has_failed.true) in
     let are = rw c.as_slice-drives.ensures at c.left_of-left.ensures in
     let reads = c.in_ok-found.ensures.reads in
-    counted_here g.S.Shelf c.args.geometry.now c.args.site.now c.args.shelf.now c.survey.new.shelf c.args.up.now found c.requires.on_shelf.brought c.in_ok-found.ensures.failed.0 c.in_ok-found.ensures.failed.1 c.left_of-left.result are reads.same none
+    counted_here g.S.Shelf c.args.geometry.now c.args.site.now c.args.shelf.now c.survey.new.shelf c.args.up.now found c.requires.on_shelf.brought c.in_ok-found.ensures.failed.have c.in_ok-found.ensures.failed.within c.left_of-left.result are reads.same none
     c.in_ok-found.ensures.answer reads.gave c.in_ok-found.ensures.counted
 
 pub look-requires : goal.look-requires
@@ -41,16 +41,17 @@ returns-clause-looked g t c =
     let found : Survey = c.in_ok-found.found in
     let has = rw c.as_slice-drives.ensures at (c.has_failed.ensures.yes c.if-not-has_failed.false) in
     let are = rw c.as_slice-drives.ensures at c.left_of-left.ensures in
-    looked_more g.S.Shelf c.args.geometry.now c.args.site.now c.args.shelf.now c.survey.new.shelf c.args.up.now found c.requires.on_shelf.brought c.in_ok-found.ensures.failed.0 c.in_ok-found.ensures.failed.1 c.left_of-left.result are c.survey.ensures.reads.same
-    c.look.new.shelf c.look.result has c.look.ensures.looked c.in_ok-found.ensures.counted
+    looked_more g.S.Shelf c.args.geometry.now c.args.site.now c.args.shelf.now c.survey.new.shelf c.args.up.now found c.requires.on_shelf.brought c.in_ok-found.ensures.failed.have c.in_ok-found.ensures.failed.within c.left_of-left.result are c.survey.ensures.reads.same
+    c.look.new.shelf c.look.result has c.look.ensures.looked c.in_ok-found.ensures.failed
 
 pub returns-clause-counted : goal.returns-clause-counted
 returns-clause-counted g t c =
     let found : Survey = c.in_ok-found.found in
     let has = rw c.as_slice-drives.ensures at (c.has_failed.ensures.yes c.if-not-has_failed.false) in
     let are = rw c.as_slice-drives.ensures at c.left_of-left.ensures in
-    counted_more g.S.Shelf c.args.geometry.now c.args.site.now c.args.shelf.now c.survey.new.shelf c.args.up.now found c.requires.on_shelf.brought c.in_ok-found.ensures.failed.0 c.in_ok-found.ensures.failed.1 c.left_of-left.result are c.survey.ensures.reads.same
-    c.look.new.shelf c.look.result has c.look.ensures.looked c.in_ok-found.ensures.counted c.look.ensures.counted
+    let counted = c.in_ok-found.ensures.counted in
+    counted_more g.S.Shelf c.args.geometry.now c.args.site.now c.args.shelf.now c.survey.new.shelf c.args.up.now found c.requires.on_shelf.brought c.in_ok-found.ensures.failed.have c.in_ok-found.ensures.failed.within c.left_of-left.result are c.survey.ensures.reads.same
+    c.look.new.shelf c.look.result has c.look.ensures.looked c.in_ok-found.ensures.failed (counted.calls, counted.few, counted.made) c.look.ensures.counted
 
 pub returns-clause-kept : goal.returns-clause-kept
 returns-clause-kept g t c =

@@ -1,5 +1,4 @@
 use Rattle.std.proofs.Common.{◌∙◌, inr, refl, sym, ap, subst, false, arith}
-use Rattle.mdv_shelf.proofs.InTime.{kept_on_more}
 use Rattle.mdv_survey.specs.Below.{last, size_on}
 use Rattle.mdv_survey.specs.Replica.{at_of, other_of}
 use Rattle.mdv_survey.specs.Others.{unread_flags}
@@ -8,6 +7,7 @@ use Rattle.mdv_survey.specs.declared.body.ReadFault.TheVariants.{Failed, Memory}
 use Rattle.mdv_survey.specs.declared.replica.Finds.{Finds}
 use Rattle.mdv_survey.specs.declared.replica.Replica.{Replica}
 use Rattle.mdv_survey.proofs.Counting.{err_is}
+use Rattle.mdv_survey.proofs.Ending.{read_on_more}
 use Rattle.mdv_survey.proofs.Efforts.{counted_one, unreadable_unread}
 use Rattle.mdv_survey.proofs.Places.{calm_here, cause_here, kept_here}
 use Rattle.mdv_survey.proofs.Slicing.{head_of}
@@ -42,7 +42,7 @@ returns-clause-counted g c =
 
 pub returns-clause-kept : goal.returns-clause-kept
 returns-clause-kept g c =
-    kept_on_more (calm_here c.at.result (at_of (numbered c.args.first c.args.number)) c.at.ensures g.S.Shelf c.args.shelf.now c.look_at.new.shelf c.in_ok-seen.ensures.cause.calm) (kept_here c.at.result (at_of (numbered c.args.first c.args.number)) c.at.ensures g.S.Shelf c.args.shelf.now c.look_at.new.shelf c.look_at.ensures.kept) c.visit.ensures.kept
+    read_on_more g.S.Shelf c.args.shelf.now c.look_at.new.shelf c.visit.new.shelf c.args.first.line.at.drive.0 1 c.look_at.ensures.counted (calm_here c.at.result (at_of (numbered c.args.first c.args.number)) c.at.ensures g.S.Shelf c.args.shelf.now c.look_at.new.shelf c.in_ok-seen.ensures.cause.calm) (kept_here c.at.result (at_of (numbered c.args.first c.args.number)) c.at.ensures g.S.Shelf c.args.shelf.now c.look_at.new.shelf c.look_at.ensures.kept) c.visit.ensures.kept
 
 -- there is no memory for the place, since the slice ends before it would
 pub returns-in_err-add_other-clause-answer : goal.returns-in_err-add_other-clause-answer

@@ -1,14 +1,15 @@
 use Rattle.std.proofs.Common.{◌<◌, ◌≤◌, ◌∙◌, Bool, length, Ok, Err, sym, subst, arith}
 use Rattle.std.specs.Prelude.{slice_index_or}
-use Rattle.mdv_shelf.proofs.InTime.{kept_on_more}
 use Rattle.mdv_survey.specs.Below.{PlaceAt, last, size_on}
 use Rattle.mdv_survey.specs.Counts.{IsCounted, IsVisitBy}
 use Rattle.mdv_survey.specs.Others.{first_at, first_of, most_on}
+use Rattle.mdv_survey.specs.Replica.{at_of}
 use Rattle.mdv_survey.specs.Slice.{ListsRest, LooksAtAll, Visits}
 use Rattle.mdv_survey.specs.declared.body.ReadFault.{ReadFault}
 use Rattle.mdv_survey.specs.declared.body.ReadFault.TheVariants.{Memory}
 use Rattle.mdv_survey.specs.declared.replica.Finds.{Finds}
 use Rattle.mdv_survey.proofs.Counting.{err_is}
+use Rattle.mdv_survey.proofs.Ending.{read_on_more}
 use Rattle.mdv_survey.proofs.Efforts.{counted_more, counted_one}
 use Rattle.mdv_survey.proofs.Places.{calm_here, kept_here}
 use Rattle.mdv_survey.proofs.Seating.{in_drive, known_drive}
@@ -83,7 +84,8 @@ returns-in_err-visit-clause-counted g c =
     (failed_counted g.S.Shelf c.args.shelf.now c.look_at.new.shelf c.visit.new.shelf c.in_ok-seen.ensures.reads.same c.look_at.ensures.counted 2 765 (omega arith) c.in_err-visit.ensures.counted)
 
 pub returns-in_err-visit-clause-kept : goal.returns-in_err-visit-clause-kept
-returns-in_err-visit-clause-kept g c = kept_on_more (calm_here c.first_place.result (first_at c.args.line (most_on c.args.line)) c.first_place.ensures g.S.Shelf c.args.shelf.now c.look_at.new.shelf c.in_ok-seen.ensures.cause.calm) (kept_here c.first_place.result (first_at c.args.line (most_on c.args.line)) c.first_place.ensures g.S.Shelf c.args.shelf.now c.look_at.new.shelf c.look_at.ensures.kept) c.visit.ensures.kept
+returns-in_err-visit-clause-kept g c =
+    read_on_more g.S.Shelf c.args.shelf.now c.look_at.new.shelf c.visit.new.shelf c.args.line.at.drive.0 1 c.look_at.ensures.counted (calm_here c.first_place.result (first_at c.args.line (most_on c.args.line)) c.first_place.ensures g.S.Shelf c.args.shelf.now c.look_at.new.shelf c.in_ok-seen.ensures.cause.calm) (kept_here c.first_place.result (first_at c.args.line (most_on c.args.line)) c.first_place.ensures g.S.Shelf c.args.shelf.now c.look_at.new.shelf c.look_at.ensures.kept) c.visit.ensures.kept
 
 -- it isn't readable
 pub returns-then-not-branch-clause-listed : goal.returns-then-not-branch-clause-listed
@@ -100,10 +102,11 @@ returns-then-not-branch-clause-counted g c =
     unreadable_counted g.S.Shelf c.args.shelf.now c.look_at.new.shelf c.visit.new.shelf c.in_ok-seen.ensures.reads.same c.look_at.ensures.counted c.args.geometry.now c.args.site.now c.args.line c.in-Some.head
     (λ t is. (head_of (first_at c.args.line (most_on c.args.line)) (size_on c.args.site.now c.args.line) (last t c.args.line.at.drive.0) c.in_ok-seen.seen c.in-Some.head c.in-Some.is (first_there (g.S.Shelf.sizes c.args.shelf.now) c.args.site.now c.requires.on_shelf c.args.line c.first_place.result c.first_place.ensures t c.in_ok-seen.seen (c.in_ok-seen.ensures.reads.gave t is)))) c.args.finds.now c.visit.new.finds
     (λ t is. (subst (Visits c.args.geometry.now c.args.site.now (first_replica c.args.geometry.now c.args.site.now c.args.line c.in-Some.head) (last t) c.args.finds.now c.visit.new.finds) c.if-not-branch.true (c.in_ok-visit.ensures.reads.gave t (c.in_ok-seen.ensures.reads.same ∙ is))))
-    (subst (λ (b : Bool). IsCounted g.S.Shelf c.look_at.new.shelf c.visit.new.shelf 2 (λ t n. IsVisitBy c.in-Some.head b n)) c.if-not-branch.true c.in_ok-visit.ensures.counted)
+    (subst (λ (b : Bool). IsCounted g.S.Shelf c.look_at.new.shelf c.visit.new.shelf 2 (λ t n. IsVisitBy c.args.geometry.now (at_of (first_replica c.args.geometry.now c.args.site.now c.args.line c.in-Some.head)) (last t c.args.line.at.drive.0) c.in-Some.head b n)) c.if-not-branch.true c.in_ok-visit.ensures.counted)
 
 pub returns-then-not-branch-clause-kept : goal.returns-then-not-branch-clause-kept
-returns-then-not-branch-clause-kept g c = kept_on_more (calm_here c.first_place.result (first_at c.args.line (most_on c.args.line)) c.first_place.ensures g.S.Shelf c.args.shelf.now c.look_at.new.shelf c.in_ok-seen.ensures.cause.calm) (kept_here c.first_place.result (first_at c.args.line (most_on c.args.line)) c.first_place.ensures g.S.Shelf c.args.shelf.now c.look_at.new.shelf c.look_at.ensures.kept) c.visit.ensures.kept
+returns-then-not-branch-clause-kept g c =
+    read_on_more g.S.Shelf c.args.shelf.now c.look_at.new.shelf c.visit.new.shelf c.args.line.at.drive.0 1 c.look_at.ensures.counted (calm_here c.first_place.result (first_at c.args.line (most_on c.args.line)) c.first_place.ensures g.S.Shelf c.args.shelf.now c.look_at.new.shelf c.in_ok-seen.ensures.cause.calm) (kept_here c.first_place.result (first_at c.args.line (most_on c.args.line)) c.first_place.ensures g.S.Shelf c.args.shelf.now c.look_at.new.shelf c.look_at.ensures.kept) c.visit.ensures.kept
 
 -- those behind it couldn't be read
 pub returns-in_err-look_behind-clause-reads : goal.returns-in_err-look_behind-clause-reads
@@ -123,7 +126,8 @@ returns-in_err-look_behind-clause-counted g c =
     c.in_ok-visit.ensures.counted c.in_err-look_behind.ensures.counted))
 
 pub returns-in_err-look_behind-clause-kept : goal.returns-in_err-look_behind-clause-kept
-returns-in_err-look_behind-clause-kept g c = kept_on_more (calm_here c.first_place.result (first_at c.args.line (most_on c.args.line)) c.first_place.ensures g.S.Shelf c.args.shelf.now c.look_at.new.shelf c.in_ok-seen.ensures.cause.calm) (kept_here c.first_place.result (first_at c.args.line (most_on c.args.line)) c.first_place.ensures g.S.Shelf c.args.shelf.now c.look_at.new.shelf c.look_at.ensures.kept) (kept_on_more c.in_ok-visit.ensures.answer.read.calm c.visit.ensures.kept c.look_behind.ensures.kept)
+returns-in_err-look_behind-clause-kept g c =
+    read_on_more g.S.Shelf c.args.shelf.now c.look_at.new.shelf c.look_behind.new.shelf c.args.line.at.drive.0 1 c.look_at.ensures.counted (calm_here c.first_place.result (first_at c.args.line (most_on c.args.line)) c.first_place.ensures g.S.Shelf c.args.shelf.now c.look_at.new.shelf c.in_ok-seen.ensures.cause.calm) (kept_here c.first_place.result (first_at c.args.line (most_on c.args.line)) c.first_place.ensures g.S.Shelf c.args.shelf.now c.look_at.new.shelf c.look_at.ensures.kept) (read_on_more g.S.Shelf c.look_at.new.shelf c.visit.new.shelf c.look_behind.new.shelf c.args.line.at.drive.0 c.in_ok-visit.ensures.counted.calls c.in_ok-visit.ensures.counted.made c.in_ok-visit.ensures.answer.read.calm c.visit.ensures.kept c.look_behind.ensures.kept)
 
 -- all were looked at
 pub returns-clause-reads : goal.returns-clause-reads
@@ -138,8 +142,9 @@ returns-clause-counted g c =
     all_counted g.S.Shelf c.args.shelf.now c.look_at.new.shelf c.visit.new.shelf c.in_ok-seen.ensures.reads.same c.look_at.ensures.counted c.args.geometry.now c.args.site.now c.args.line c.in-Some.head
     (λ t is. (head_of (first_at c.args.line (most_on c.args.line)) (size_on c.args.site.now c.args.line) (last t c.args.line.at.drive.0) c.in_ok-seen.seen c.in-Some.head c.in-Some.is (first_there (g.S.Shelf.sizes c.args.shelf.now) c.args.site.now c.requires.on_shelf c.args.line c.first_place.result c.first_place.ensures t c.in_ok-seen.seen (c.in_ok-seen.ensures.reads.gave t is)))) c.args.finds.now c.visit.new.finds c.look_behind.new.shelf c.in_ok-visit.ensures.reads.same
     (λ t is. (subst (Visits c.args.geometry.now c.args.site.now (first_replica c.args.geometry.now c.args.site.now c.args.line c.in-Some.head) (last t) c.args.finds.now c.visit.new.finds) c.if-not-branch.false (c.in_ok-visit.ensures.reads.gave t (c.in_ok-seen.ensures.reads.same ∙ is))))
-    (subst (λ (b : Bool). IsCounted g.S.Shelf c.look_at.new.shelf c.visit.new.shelf 2 (λ t n. IsVisitBy c.in-Some.head b n)) c.if-not-branch.false c.in_ok-visit.ensures.counted)
+    (subst (λ (b : Bool). IsCounted g.S.Shelf c.look_at.new.shelf c.visit.new.shelf 2 (λ t n. IsVisitBy c.args.geometry.now (at_of (first_replica c.args.geometry.now c.args.site.now c.args.line c.in-Some.head)) (last t c.args.line.at.drive.0) c.in-Some.head b n)) c.if-not-branch.false c.in_ok-visit.ensures.counted)
     c.in_ok-look_behind.ensures.counted
 
 pub returns-clause-kept : goal.returns-clause-kept
-returns-clause-kept g c = kept_on_more (calm_here c.first_place.result (first_at c.args.line (most_on c.args.line)) c.first_place.ensures g.S.Shelf c.args.shelf.now c.look_at.new.shelf c.in_ok-seen.ensures.cause.calm) (kept_here c.first_place.result (first_at c.args.line (most_on c.args.line)) c.first_place.ensures g.S.Shelf c.args.shelf.now c.look_at.new.shelf c.look_at.ensures.kept) (kept_on_more c.in_ok-visit.ensures.answer.read.calm c.visit.ensures.kept c.look_behind.ensures.kept)
+returns-clause-kept g c =
+    read_on_more g.S.Shelf c.args.shelf.now c.look_at.new.shelf c.look_behind.new.shelf c.args.line.at.drive.0 1 c.look_at.ensures.counted (calm_here c.first_place.result (first_at c.args.line (most_on c.args.line)) c.first_place.ensures g.S.Shelf c.args.shelf.now c.look_at.new.shelf c.in_ok-seen.ensures.cause.calm) (kept_here c.first_place.result (first_at c.args.line (most_on c.args.line)) c.first_place.ensures g.S.Shelf c.args.shelf.now c.look_at.new.shelf c.look_at.ensures.kept) (read_on_more g.S.Shelf c.look_at.new.shelf c.visit.new.shelf c.look_behind.new.shelf c.args.line.at.drive.0 c.in_ok-visit.ensures.counted.calls c.in_ok-visit.ensures.counted.made c.in_ok-visit.ensures.answer.read.calm c.visit.ensures.kept c.look_behind.ensures.kept)

@@ -16,7 +16,7 @@ loop-number-init g c = record {
 }
 
 pub look_at_number-requires-clause-on_shelf : goal.look_at_number-requires-clause-on_shelf
-look_at_number-requires-clause-on_shelf g c = subst (λ (sizes : List ℕ). IsOnShelf sizes c.args.site.now) (sym c.loop-number.invariant.so.kept.keeps.same_sizes) c.requires.on_shelf
+look_at_number-requires-clause-on_shelf g c = subst (λ (sizes : List ℕ). IsOnShelf sizes c.args.site.now) (sym c.loop-number.invariant.so.kept.kept.keeps.same_sizes) c.requires.on_shelf
 
 pub loop-number-preserved : goal.loop-number-preserved
 loop-number-preserved g c =
