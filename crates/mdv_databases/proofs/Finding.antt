@@ -1,5 +1,5 @@
 -- A boot that reads all drives on which it looks finds each place that the newest table lists.
-use Rattle.std.proofs.Common.{◌≡◌, inl, inr, ⊎_elim, ℕ, ◌+◌, ◌*◌, ◌≤◌, ◌<◌, ◌&&◌, Bool, true, false, cond, List, [], ◌∷◌, Option, None, Some, MatchOption, Contains, length, slice_get, refl, sym, ◌∙◌, ap, subst, arith}
+use Rattle.std.proofs.Common.{◌≡◌, inl, inr, ⊎_elim, ℕ, ◌+◌, ◌*◌, ◌≤◌, ◌<◌, ◌&&◌, Bool, true, false, cond, is_some, List, [], ◌∷◌, Option, None, Some, MatchOption, Contains, length, slice_get, refl, sym, ◌∙◌, ap, subst, arith}
 use Rattle.std.specs.List.{cons_option, find}
 use Rattle.std.specs.Prelude.{count_by, nat_le}
 use Rattle.std.proofs.lemmas.Bool.{and_from, cases_lt, cond-true, false≢true, le-leb, lt-ltb}
@@ -38,12 +38,14 @@ use Rattle.mdv_store.proofs.Reading.{lies_at, seated_place, seen_of}
 use Rattle.mdv_store.proofs.Records.{spelled_of}
 use Rattle.mdv_store.proofs.Rooms.{room_least}
 use Rattle.mdv_store.proofs.Seating.{seats_places}
+use Rattle.mdv_store.proofs.Shares.{in_first, in_last, list_none, lists_none}
 use Rattle.mdv_store.proofs.Sitting.{contains_behind, contains_first, first_or_behind}
 use Rattle.mdv_store.proofs.Spotting.{line_found}
 use Rattle.mdv_store_law.specs.Log.{Version, is_firm}
 use Rattle.mdv_store.specs.Boot.{IsShort, is_seated, seat_for, seats_of}
 use Rattle.mdv_store.specs.Opened.{least_room}
-use Rattle.mdv_store.specs.Seats.{active_of, replicas_of}
+use Rattle.mdv_store.specs.Seats.{replicas_of}
+use Rattle.mdv_store.specs.Shares.{has_active, is_active_at, short_in, short_of}
 use Rattle.mdv_store.specs.Text.{blocks_for}
 use Rattle.mdv_replica.specs.Form.{text_of}
 use Rattle.mdv_replica.specs.Replica.{slot_blocks}
@@ -61,9 +63,11 @@ use Rattle.mdv_table.specs.Plan.{places_of}
 use Rattle.mdv_table.specs.Table.{IsListsOf}
 use Rattle.mdv_table.specs.declared.plan.Lists.{Lists}
 use Rattle.mdv_base.specs.DriveSet.{Drives}
-use Rattle.mdv_databases.specs.Below.{Core, Database, Geometry, Identity, Image, Key, Log, One, Place, Replica, Seat, SliceLine, Spells, Table, Tale, log_of, site_of, slice_at}
+use Rattle.mdv_store.specs.declared.seats.Need.TheVariants.{More}
+use Rattle.mdv_store.specs.declared.seats.Share.{Share}
+use Rattle.mdv_databases.specs.Below.{Core, Database, Geometry, Identity, Image, Key, Log, One, Two, Place, Replica, Seat, SliceLine, Spells, Table, Tale, log_of, site_of, slice_at}
 use Rattle.mdv_databases.specs.Booting.{AllAnswer, IsShortOf}
-use Rattle.mdv_databases.specs.Meeting.{MayBeFound, MostOn, answers_on, is_on}
+use Rattle.mdv_databases.specs.Meeting.{MayBeFound, MostOn, MostOnEach, answers_on, is_on}
 use Rattle.mdv_databases.specs.Standing.{Stand}
 use Rattle.mdv_databases.specs.Going.{IsCurrentOf}
 use Rattle.mdv_databases.proofs.Booting.{shown_current}
@@ -111,14 +115,6 @@ passing_least rs identity text on test (p ∷ places) each passes =
         omega (arith, rest, more, count_cons test r (replicas_of (seats_of rs identity text places)))
     by false isnt None none rest = omega (arith, rest)
     by false isnt (Some r) some rest = omega (arith, rest, count_cons test r (replicas_of (seats_of rs identity text places)))
-
--- so at least as many places are active as have one
-active_least : (rs : List Replica) (identity : Identity) (text : ℕ) (on : Place → Bool) (places : List Place) → ((p : Place) → Contains places p → on p ≡ true → Takes rs identity text p)
-    → count_by on places ≤ active_of (seats_of rs identity text places)
-active_least rs identity text on places each =
-    let all = passing_least rs identity text on (λ (r : Replica). true) places each (λ p r has is seated. refl) in
-    let most = count_length (λ (r : Replica). true) (replicas_of (seats_of rs identity text places)) in
-    omega (arith, all, most)
 
 -- where each that passes the one test passes the other
 pub count_weaker : {X : Type 0} (p q : X → Bool) (xs : List X) → ((x : X) → Contains xs x → p x ≡ true → q x ≡ true) → count_by p xs ≤ count_by q xs
@@ -294,30 +290,58 @@ module _ (g : Geometry) (all : List Database) (key : Key) (up : Drives) (survey 
               (subst (λ (n : ℕ). nat_le text (slot_blocks n) ≡ true) (sym x.long) (le-leb text (slot_blocks p.blocks) (fits p has)))),
         )
 
-    -- so more than half of the places are enough
-    none_fails : (lists : Lists) → ((p : Place) → Contains (places_of lists) p → on p ≡ true → is_found_at rs identity p ≡ true) → length (places_of lists) < 2 * count_by on (places_of lists) → failing rs identity lists ≡ None
-    none_fails (One list) each most =
-        let least = count_weaker on (is_found_at rs identity) list each in
-        cond-true (is_read rs identity list) None (Some list) (lt-ltb (length list) (2 * readable_of rs identity list) (omega (arith, least, most)))
+    -- so more than half of the places of each list are enough
+    read_so : (list : List Place) → ((p : Place) → Contains list p → Contains places p) → MostOn g key answers list → is_read rs identity list ≡ true
+    read_so list within most =
+        let least = count_weaker on (is_found_at rs identity) list (λ p has. found_at p (within p has)) in
+        lt-ltb (length list) (2 * readable_of rs identity list) (omega (arith, least, most))
 
-    fails_nowhere : MostOn g key answers places → (list : List Place) → failing rs identity newest.table.plan.lists ≡ Some list → ⊥
-    fails_nowhere most list fails = (let none = none_fails newest.table.plan.lists found_at most in cc (fails, none))
+    none_fails : (lists : Lists) → ((p : Place) → Contains (places_of lists) p → Contains places p) → MostOnEach g key answers lists → failing rs identity lists ≡ None
+    none_fails (One list) within most = cond-true (is_read rs identity list) None (Some list) (read_so list within most)
+    none_fails (Two old new) within most =
+        cond-true (is_read rs identity old) (cond (is_read rs identity new) None (Some new)) (Some old) (read_so old (λ p has. within p (in_first (Two old new) p has)) most.0)
+        ∙ cond-true (is_read rs identity new) None (Some new) (read_so new (λ p has. within p (in_last (Two old new) p has)) most.1)
 
-    has_room : MostOn g key answers places → 2 * active_of seats ≤ length seats → ⊥
-    has_room most few =
-        let least = active_least rs identity text on places seated in
-        let count = length-map places (seat_for rs identity text) in
-        omega (arith, few, least, count, most)
+    fails_nowhere : MostOnEach g key answers newest.table.plan.lists → (list : List Place) → failing rs identity newest.table.plan.lists ≡ Some list → ⊥
+    fails_nowhere most list fails = (let none = none_fails newest.table.plan.lists (λ p has. has) most in cc (fails, none))
 
-    -- and there are some
-    some_places : (lists : Lists) → IsListsOf g lists → 1 ≤ length (places_of lists)
-    some_places (One list) are = are.some
+    -- and of none too few are active
+    active_there : (p : Place) → Contains places p → on p ≡ true → has_active seats p ≡ true
+    active_there p has up_there =
+        let one = seated p has up_there in
+        let found = find_has (is_seated identity p text) rs one.0 one.1 one.2 in
+        let seat = mapped (seat_for rs identity text) places p has in
+        let active = and_from (same_place p p) (is_some (find (is_seated identity p text) rs)) ((same_place-true p p).1 refl) (ap is_some found.1) in
+        list_any_at (is_active_at p) seats seat.0 (seat_for rs identity text p) seat.1 (ap (is_active_at p) seat.2 ∙ active)
 
-    all_most : AllAnswer g key up survey → MostOn g key answers places
-    all_most all_answer =
-        let each = count_all on places (λ p has. (let h = its_place p has in drive_of p h ∙ all_answer h.line h.own.found.one_of)) in
-        let some = some_places newest.table.plan.lists its_record.of_geometry.lists in
+    list_has_room : (list : List Place) → ((p : Place) → Contains list p → Contains places p) → MostOn g key answers list → short_in More seats list ≡ None
+    list_has_room list within most =
+        let least = count_weaker on (has_active seats) list (λ p has. active_there p (within p has)) in
+        list_none More seats list (lt-ltb (length list) (2 * count_by (has_active seats) list) (omega (arith, least, most)))
+
+    has_room : MostOnEach g key answers newest.table.plan.lists → (share : Share) → short_of More seats newest.table.plan.lists ≡ Some share → ⊥
+    has_room most share short = by newest.table.plan.lists (λ p has. has) most short where
+      by : (lists : Lists) → ((p : Place) → Contains (places_of lists) p → Contains places p) → MostOnEach g key answers lists → short_of More seats lists ≡ Some share → ⊥
+      by (One list) within most short = (let none = list_has_room list within most in cc (none, short))
+      by (Two old new) within most short =
+          let first = list_has_room old (λ p has. within p (in_first (Two old new) p has)) most.0 in
+          let last = list_has_room new (λ p has. within p (in_last (Two old new) p has)) most.1 in
+          let none = lists_none More seats (Two old new) first last in
+          cc (none, short)
+
+    list_most : AllAnswer g key up survey → (list : List Place) → ((p : Place) → Contains list p → Contains places p) → 1 ≤ length list → MostOn g key answers list
+    list_most all_answer list within some =
+        let each = count_all on list (λ p has. (let h = its_place p (within p has) in drive_of p h ∙ all_answer h.line h.own.found.one_of)) in
         omega (arith, each, some)
+
+    all_most : AllAnswer g key up survey → MostOnEach g key answers newest.table.plan.lists
+    all_most all_answer = by newest.table.plan.lists (λ p has. has) its_record.of_geometry.lists where
+      by : (lists : Lists) → ((p : Place) → Contains (places_of lists) p → Contains places p) → IsListsOf g lists → MostOnEach g key answers lists
+      by (One list) within are = list_most all_answer list within are.some
+      by (Two old new) within are = (
+        list_most all_answer old (λ p has. within p (in_first (Two old new) p has)) are.0.some,
+        list_most all_answer new (λ p has. within p (in_last (Two old new) p has)) are.1.some,
+      )
 
     -- the version is one that a boot may find, where it reads more than half of the places of each of these
     module _ (firm : is_firm log ≡ true) (list : List Place) (lists : (x : Version) → MayBeFound log.family x → x.table.plan.lists ≡ One list) (most : MostOn g key answers list) where
@@ -349,8 +373,8 @@ module _ (g : Geometry) (all : List Database) (key : Key) (up : Drives) (survey 
       its_lists : newest.table.plan.lists ≡ One list
       its_lists = ap (λ (u : Table). u.plan.lists) (sym same_table) ∙ lists version.version (version.is.one_of, all_that (λ x. x.is_written ≡ true → IsBelow version.version.mark x.mark → ⊥) log.family not_older)
 
-    short_of : (MostOn g key answers places → ⊥) → IsShortOf g all key up survey
-    short_of few = record {
+    is_short_of : (MostOnEach g key answers newest.table.plan.lists → ⊥) → IsShortOf g all key up survey
+    is_short_of few = record {
       newest = newest;
       newest_is = newest_is;
       version = version.version;
@@ -362,12 +386,13 @@ module _ (g : Geometry) (all : List Database) (key : Key) (up : Drives) (survey 
 
   not_few : (o : Option Newest) → survey.newest ≡ o → (readable needed : ℕ) → MatchOption o (chosen.NoQuorum readable needed ≡ chosen.Empty) (λ (n : Newest). IsChoiceAmong rs n (chosen.NoQuorum readable needed)) → IsShortOf g all key up survey
   not_few None is_newest readable needed never = absurd (cc (never))
-  not_few (Some newest) is_newest readable needed few = short_of newest is_newest few.replica few.the (λ most. fails_nowhere newest is_newest few.replica few.the most few.list few.fails)
+  not_few (Some newest) is_newest readable needed few = is_short_of newest is_newest few.replica few.the (λ most. fails_nowhere newest is_newest few.replica few.the most few.list few.fails)
 
   pub short_by : (readable needed : ℕ) → IsShort survey readable needed → IsShortOf g all key up survey
   short_by readable needed (inl choice) = not_few survey.newest refl readable needed choice
-  short_by readable needed (inr (was, newest, replica, listed_seats, hand, few, readable_is, needed_is)) =
-      short_of newest hand.newest_is replica hand.the (λ most. has_room newest hand.newest_is replica hand.the most (subst (λ (l : List Seat). 2 * active_of l ≤ length l) hand.seats_are few))
+  short_by readable needed (inr (was, newest, replica, listed_seats, hand, share, short, readable_is, needed_is)) =
+      is_short_of newest hand.newest_is replica hand.the
+      (λ most. has_room newest hand.newest_is replica hand.the most share (subst (λ (l : List Seat). short_of More l newest.table.plan.lists ≡ Some share) hand.seats_are short))
 
   -- nor is it short where more than half of the places answer that each table lists which a boot may find
   module _ (firm : is_firm (log_of all key) ≡ true) (list : List Place) (lists : (x : Version) → MayBeFound (log_of all key).family x → x.table.plan.lists ≡ One list) (most : MostOn g key answers list) where
@@ -376,8 +401,8 @@ module _ (g : Geometry) (all : List Database) (key : Key) (up : Drives) (survey 
         let is_log : log_of all key ≡ (current newest newest_is replica the).database.log = ap log_in (current newest newest_is replica the).current in
         its_lists newest newest_is replica the (subst (λ (l : Log). is_firm l ≡ true) is_log firm) list (subst (λ (l : Log). (x : Version) → MayBeFound l.family x → x.table.plan.lists ≡ One list) is_log lists) most
 
-    most_read : (newest : Newest) (newest_is : survey.newest ≡ Some newest) (replica : Replica) (the : IsTheOne rs newest replica) → MostOn g key answers (places_of newest.table.plan.lists)
-    most_read newest newest_is replica the = subst (λ (l : Lists). MostOn g key answers (places_of l)) (sym (lists_are newest newest_is replica the)) most
+    most_read : (newest : Newest) (newest_is : survey.newest ≡ Some newest) (replica : Replica) (the : IsTheOne rs newest replica) → MostOnEach g key answers newest.table.plan.lists
+    most_read newest newest_is replica the = subst (λ (l : Lists). MostOnEach g key answers l) (sym (lists_are newest newest_is replica the)) most
 
     few_never : (o : Option Newest) → survey.newest ≡ o → (readable needed : ℕ) → MatchOption o (chosen.NoQuorum readable needed ≡ chosen.Empty) (λ (n : Newest). IsChoiceAmong rs n (chosen.NoQuorum readable needed)) → ⊥
     few_never None is_newest readable needed never = cc (never)
@@ -385,8 +410,8 @@ module _ (g : Geometry) (all : List Database) (key : Key) (up : Drives) (survey 
 
     pub never_short : (readable needed : ℕ) → IsShort survey readable needed → ⊥
     never_short readable needed (inl choice) = few_never survey.newest refl readable needed choice
-    never_short readable needed (inr (was, newest, replica, listed_seats, hand, few, readable_is, needed_is)) =
-        has_room newest hand.newest_is replica hand.the (most_read newest hand.newest_is replica hand.the) (subst (λ (l : List Seat). 2 * active_of l ≤ length l) hand.seats_are few)
+    never_short readable needed (inr (was, newest, replica, listed_seats, hand, share, short, readable_is, needed_is)) =
+        has_room newest hand.newest_is replica hand.the (most_read newest hand.newest_is replica hand.the) share (subst (λ (l : List Seat). short_of More l newest.table.plan.lists ≡ Some share) hand.seats_are short)
 
     -- and where more than half of the list lies on drives that pass a test, and each drive of a slice that passes it answers, more than half of what a boot has in hand are replicas on such drives
     pub most_borne : (calm : ℕ → Bool) → ((line : SliceLine) → Contains site.lines line → calm line.at.drive.0 ≡ true → answers line.at.drive.0 ≡ true) → MostOn g key calm list

@@ -27,5 +27,6 @@ pub use Rattle.mdv_store.specs.declared.seats.Seat.{Seat}
 pub use Rattle.mdv_survey.specs.declared.replica.Replica.{Replica}
 pub use Rattle.mdv_table.specs.Table.{IsOfGeometry}
 pub use Rattle.mdv_table.specs.declared.change.Change.{Change}
-pub use Rattle.mdv_table.specs.declared.plan.Lists.TheVariants.{One}
+pub use Rattle.mdv_table.specs.declared.plan.Lists.{Lists}
+pub use Rattle.mdv_table.specs.declared.plan.Lists.TheVariants.{One, Two}
 pub use Rattle.mdv_table.specs.declared.table.Table.{Table}

@@ -10,10 +10,9 @@ use Rattle.mdv_survey.specs.Survey.{IsSurvey, IsSurveyOf, answers_in}
 use Rattle.mdv_store_law.specs.Log.{Version}
 use Rattle.mdv_survey.specs.declared.replica.Newest.{Newest}
 use Rattle.mdv_survey.specs.declared.replica.Survey.{Survey}
-use Rattle.mdv_table.specs.Plan.{places_of}
 use Rattle.mdv_databases.specs.Below.{Database, Geometry, Identity, IsSound, Key, Opened, SliceLine, Tale, last, log_of, site_of}
 use Rattle.mdv_databases.specs.Going.{GoOn, IsCurrentOf, IsOpenIn, with_events}
-use Rattle.mdv_databases.specs.Meeting.{MostOn, answers_on}
+use Rattle.mdv_databases.specs.Meeting.{MostOnEach, answers_on}
 use Rattle.mdv_databases.specs.Standing.{Stand}
 
 -- the adopted table is written anew under the number of the boot, and the database is open with it
@@ -25,14 +24,14 @@ pub record IsBootedIn (g : Geometry) (all : List Database) (key : Key) (o : Open
 abbrev pub AllAnswer : Geometry → Key → Drives → Survey → Type 0
 AllAnswer g key up survey = (line : SliceLine) → Contains (site_of g key).lines line → answers_in up survey.failed line.at.drive ≡ true
 
--- The newest table is one of the key's current database; no more than half of the places that it lists lie on slices whose drives answered; so not each drive did.
+-- The newest table is one of the key's current database; not of each of its lists do more than half of the places lie on slices whose drives answered; so not each drive did.
 pub record IsShortOf (g : Geometry) (all : List Database) (key : Key) (up : Drives) (survey : Survey) : Type 0 where
   pub newest : Newest
   pub newest_is : survey.newest ≡ Some newest
   pub version : Version
   pub one_of : Contains (log_of all key).family version
   pub same : version.table ≡ newest.table
-  pub few : MostOn g key (answers_on up survey) (places_of newest.table.plan.lists) → ⊥
+  pub few : MostOnEach g key (answers_on up survey) newest.table.plan.lists → ⊥
   pub away : AllAnswer g key up survey → ⊥
 
 pub record BootsGo : Type 0 where
@@ -45,6 +44,6 @@ pub record BootsGo : Type 0 where
   -- a replica that shows a table is the key's current database's, so there are no two
   pub shown : (g : Geometry) (all : List Database) (key : Key) (identity : Identity) (t : Tale) → Stand g all t → HasShown g (site_of g key) identity t → IsCurrentOf all key identity
   pub one : (g : Geometry) (all : List Database) (key : Key) (a b : Identity) (t : Tale) → Stand g all t → HasShown g (site_of g key) a t → HasShown g (site_of g key) b t → a ≡ b
-  -- a place that the newest table lists is found, with room for it, where its drive answers: so a boot is short of places where no more than half of them lie on such drives
+  -- a place that the newest table lists is found, with room for it, where its drive answers: so a boot is short of places where of one of its lists no more than half lie on such drives
   pub short : (g : Geometry) (all : List Database) (key : Key) (up : Drives) (survey : Survey) (readable needed : ℕ) (t : Tale) → IsSound g → Stand g all t → IsSurvey (site_of g key) up survey
       → IsSurveyOf g (site_of g key) up (last t) survey → IsShort survey readable needed → IsShortOf g all key up survey

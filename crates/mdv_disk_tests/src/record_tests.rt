@@ -2,7 +2,7 @@ use crate::drives::{lies, place, sound};
 use crate::table_tests::told;
 use mdv_base::Places;
 use mdv_record::*;
-use mdv_table::Table;
+use mdv_table::{Lists, Table};
 use std::alloc::Global;
 use std::test::Fail;
 
@@ -37,6 +37,31 @@ const PLACES: [u8; 60] = [
     0, 0, // no volumes
 ];
 
+// A place of 16 blocks on c0t0d0s7 and one of 512 on c0t0d0s5; the second goes, and one behind the first comes.
+const CHANGING: [u8; 73] = [
+    0x4d, 0x44, 0x56, 0x52, 0x45, 0x43, 0x30, 0x31, // MDVREC01
+    0, 0, 0, 73, // bytes
+    2, 2, // two lists, the first of two places
+    0, 0, 0, 7, 0, 0, 0, 16, 0, 0, 0, 16, // c0t0d0s7
+    0, 0, 0, 5, 0, 0, 0x02, 0x10, 0, 0, 0x02, 0, // c0t0d0s5
+    2, // and the second of two
+    0, 0, 0, 7, 0, 0, 0, 16, 0, 0, 0, 16, // c0t0d0s7
+    0, 0, 0, 7, 0, 0, 0, 32, 0, 0, 0, 16, // behind it
+    0, 0, 0, 0, 0, 0, 0, 0, // no set, no pending sets, no pools
+    0, 0, // no volumes
+];
+
+// The same once the change is over.
+const CHANGED: [u8; 48] = [
+    0x4d, 0x44, 0x56, 0x52, 0x45, 0x43, 0x30, 0x31, // MDVREC01
+    0, 0, 0, 48, // bytes
+    1, 2, // one list of two places
+    0, 0, 0, 7, 0, 0, 0, 16, 0, 0, 0, 16, // c0t0d0s7
+    0, 0, 0, 7, 0, 0, 0, 32, 0, 0, 0, 16, // behind it
+    0, 0, 0, 0, 0, 0, 0, 0, // no set, no pending sets, no pools
+    0, 0, // no volumes
+];
+
 // The empty table with the stripes d10 on c0t0d0s0 and d260 on c0t0d0s3.
 const STRIPES: [u8; 136] = [
     0x4d, 0x44, 0x56, 0x52, 0x45, 0x43, 0x30, 0x31, // MDVREC01
@@ -64,6 +89,16 @@ fn places(alloc: Global) -> Result<Table, Fail> {
     places.push(lies(b"c0t0d0s7", 32, 16)?);
     places.push(lies(b"c0t0d0s5", 528, 512)?);
     Ok(Table::empty(alloc, places))
+}
+
+fn changing(alloc: Global) -> Result<Table, Fail> {
+    let mut old = place(b"c0t0d0s7", 16, 16)?;
+    old.push(lies(b"c0t0d0s5", 528, 512)?);
+    let mut new = place(b"c0t0d0s7", 16, 16)?;
+    new.push(lies(b"c0t0d0s7", 32, 16)?);
+    let mut table = Table::empty(alloc, Places::new());
+    table.plan.lists = Lists::Two(old, new);
+    Ok(table)
 }
 
 fn stripes(alloc: Global) -> Result<Table, Fail> {
@@ -103,6 +138,15 @@ fn writes_and_reads_the_worked_bytes(rt: HostRuntime) -> Result<(), Fail> {
     assert!(rt; is_both_ways(rt.alloc(), &stripes, &STRIPES)?);
     let places = places(rt.alloc())?;
     assert!(rt; is_both_ways(rt.alloc(), &places, &PLACES)?);
+    Ok(())
+}
+
+#[test]
+fn writes_and_reads_two_lists(rt: HostRuntime) -> Result<(), Fail> {
+    let table = changing(rt.alloc())?;
+    assert!(rt; is_both_ways(rt.alloc(), &table, &CHANGING)?);
+    let changed = table.settle();
+    assert!(rt; is_both_ways(rt.alloc(), &changed, &CHANGED)?);
     Ok(())
 }
 
@@ -170,6 +214,23 @@ const OTHER_PLACES: &[(&[(usize, u8)], &str)] = &[
     (&[(44, 0x16)], "a place that ends behind its slice"),
 ];
 
+// The same of the text of two lists.
+const OTHER_LISTS: &[(&[(usize, u8)], &str)] = &[
+    (&[(12, 0)], "no list"),
+    (&[(12, 1)], "one list"),
+    (&[(12, 3)], "three lists"),
+    (&[(13, 0)], "no places that were"),
+    (&[(38, 0)], "no places that come"),
+    (&[(38, 1)], "one place that comes"),
+    (&[(58, 16)], "a place that comes twice"),
+    (&[(58, 33)], "a place that comes out of step"),
+    (&[(54, 3)], "a place that comes on a slice for data"),
+    (
+        &[(50, 32), (58, 48), (62, 32)],
+        "places that come of another length than the one that was on their slice",
+    ),
+];
+
 fn change(text: &mut [u8], changes: &[(usize, u8)]) {
     for (place, byte) in changes {
         if let Some(at) = text.get_mut(*place) {
@@ -188,6 +249,11 @@ fn reads_nothing_else(rt: HostRuntime) -> Result<(), Fail> {
     }
     for (changes, name) in OTHER_PLACES {
         let mut bytes = PLACES;
+        change(&mut bytes, changes);
+        assert!(rt; is_refused(rt.alloc(), &bytes)?, "{name}");
+    }
+    for (changes, name) in OTHER_LISTS {
+        let mut bytes = CHANGING;
         change(&mut bytes, changes);
         assert!(rt; is_refused(rt.alloc(), &bytes)?, "{name}");
     }

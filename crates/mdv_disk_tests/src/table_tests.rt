@@ -1,7 +1,7 @@
 ghost use Rattle.std.specs.Prelude.{◌<◌};
 
-use crate::drives::{place, slice, sound};
-use mdv_base::{Refusal, VolId};
+use crate::drives::{lies, place, slice, sound};
+use mdv_base::{Places, Refusal, VolId};
 use mdv_table::*;
 use std::alloc::Global;
 use std::test::Fail;
@@ -137,6 +137,28 @@ const TABLES: &[(Lies, Option<(&[u8], u64)>, bool)] = &[
     ((b"c0t0d0s7", 16, 8192), Some((b"c0t0d0s3", 1)), false),
     ((b"c0t0d0s7", 16, 8192), Some((b"c0t1d0s7", 28000)), false),
 ];
+
+// The first place stays, the second goes, and the third comes.
+#[test]
+fn tells_each_place_of_two_lists_once(rt: HostRuntime) -> Result<(), Fail> {
+    let stays = lies(b"c0t0d0s7", 16, 16)?;
+    let goes = lies(b"c0t1d0s7", 16, 16)?;
+    let comes = lies(b"c0t0d0s7", 32, 16)?;
+    let mut old = place(b"c0t0d0s7", 16, 16)?;
+    old.push(goes);
+    let mut new = place(b"c0t0d0s7", 16, 16)?;
+    new.push(comes);
+    let mut table = Table::empty(rt.alloc(), Places::new());
+    table.plan.lists = Lists::Two(old, new);
+    assert!(rt; is_of_drives(rt.alloc(), &table)?);
+    assert!(rt; table.plan.lists.first() == [stays, goes].as_slice());
+    assert!(rt; table.plan.lists.last() == [stays, comes].as_slice());
+    assert!(rt; table.plan.lists.each().as_slice() == [stays, goes, comes].as_slice());
+    let table = table.settle();
+    assert!(rt; table.plan.lists.first() == [stays, comes].as_slice());
+    assert!(rt; table.plan.lists.each().as_slice() == [stays, comes].as_slice());
+    Ok(())
+}
 
 // A slice, the first block and how many.
 type Lies = (&'static [u8], u32, u32);

@@ -1,10 +1,10 @@
 -- What a boot of the host's database comes to and leaves, told of the host.
 use Rattle.std.proofs.Common.{◌≡◌, ◌≢◌, ◌⊎◌, inl, inr, ◌+◌, ◌*◌, ◌/◌, ◌<◌, ◌≤◌, ◌&&◌, not, ℕ, Bool, true, false, List, [], ◌∷◌, cond, length, Option, None, Some, IsTrue, Contains, refl, sym, ◌∙◌, ap, subst, arith}
-use Rattle.std.specs.List.{find}
+use Rattle.std.specs.List.{find, list_any}
 use Rattle.std.specs.Bool.{MatchBool}
 use Rattle.std.specs.Prelude.{MatchOption, if◌then◌else◌}
 use Rattle.mdv_base.specs.DriveSet.{no_drives}
-use Rattle.std.proofs.lemmas.Bool.{leb-false, ltb-false}
+use Rattle.std.proofs.lemmas.Bool.{ltb-false}
 use Rattle.mdv_base.specs.declared.place.Place.{Place}
 use Rattle.mdv_databases.proofs.Booting as databases
 use Rattle.mdv_shelf.specs.Drives.{KeptAmong}
@@ -13,7 +13,7 @@ use Rattle.mdv_shelf.specs.Shelves.{AtEachTale, AtEnd, DriveFailures}
 use Rattle.mdv_shelf.specs.declared.shelf.Shelf.{Ghosts}
 use Rattle.mdv_shelf.proofs.Frame.{kept_outside_wider}
 use Rattle.mdv_shelf.proofs.Moments.{moments_end, moments_weaker, some_is}
-use Rattle.mdv_store.specs.Boot.{IfAdopted, IsAdopted, IsEndBy, IsInHand, IsLost, IsOnce, IsShort, TakesBoth, TakesClaimOrBoth, is_enough, is_memory, seats_of}
+use Rattle.mdv_store.specs.Boot.{IfAdopted, IsAdopted, IsEndBy, IsInHand, IsLost, IsOnce, IsShort, TakesBoth, TakesClaimOrBoth, is_memory, seats_of, need_of}
 use Rattle.mdv_store.specs.BootCounts.{IsBootCounted, IsEndCounted}
 use Rattle.mdv_store.specs.Booted.{IsBooted, IsReadAt}
 use Rattle.mdv_store.specs.Letters.{AreLettersOf}
@@ -23,16 +23,15 @@ use Rattle.mdv_replica.specs.Form.{shows}
 use Rattle.mdv_store.specs.Records.{Spells}
 use Rattle.mdv_store.specs.Seats.{drive_of}
 use Rattle.mdv_store.specs.Text.{blocks_for}
-use Rattle.mdv_table.specs.Plan.{places_of}
+use Rattle.mdv_table.specs.Plan.{places_of, beside}
 use Rattle.mdv_table.specs.Table.{IsListsOf}
-use Rattle.std.proofs.lemmas.List.{length-map}
+use Rattle.std.proofs.lemmas.List.{length-map, length-append}
 use Rattle.mdv_store.specs.Taking.{Rewrites}
 use Rattle.mdv_store.specs.declared.booting.BootEnd.TheVariants as end
 use Rattle.mdv_store.specs.declared.booting.Booted.{Booted}
 use Rattle.mdv_store.proofs.Adoptions.{same_identity_self}
 use Rattle.mdv_store.proofs.Few.{reads_between}
 use Rattle.mdv_store.proofs.Passes.{left_calm, some_lost, unmapped}
-use Rattle.mdv_store.proofs.Quorums.{more_enough}
 use Rattle.mdv_store.proofs.Seating.{seated_at, seats_places}
 use Rattle.mdv_store.proofs.Sitting.{left_count}
 use Rattle.mdv_standing.specs.Laws.{ShowsNoTable}
@@ -44,7 +43,7 @@ use Rattle.mdv_survey.specs.declared.choosing.Choice.TheVariants as chosen
 use Rattle.mdv_survey.specs.declared.replica.Newest.{Newest}
 use Rattle.mdv_survey.specs.declared.replica.Survey.{Survey}
 use Rattle.mdv_table.specs.declared.plan.Lists.{Lists}
-use Rattle.mdv_table.specs.declared.plan.Lists.TheVariants.{One}
+use Rattle.mdv_table.specs.declared.plan.Lists.TheVariants.{One, Two}
 use Rattle.mdv_engine_law.specs.Answers.{accepted}
 use Rattle.mdv_engine_law.specs.Replies.{HasEndCause}
 use Rattle.mdv_engine_law.specs.declared.answer.Answer.TheVariants.{Over}
@@ -53,10 +52,16 @@ use Rattle.mdv_engine_law.proofs.Booting.{BootsOn, boot_moment, booted_adopted, 
 use Rattle.mdv_engine_law.proofs.Keeping.{same_beside}
 use Rattle.mdv_engine_law.proofs.Rebooting as rebooting
 use Rattle.mdv_engine_law.proofs.Rebooting.{up_by}
-use Rattle.mdv_engine.specs.Below.{Answer, AreLaid, BootEnd, BootMoment, BootedTo, DriveNo, Drives, Ended, Geometry, Host, Identity, IsOfGeometry, IsReady, IsUpBy, Key, KeptOutside, MayLeave, Memory, Opened, Outcomes, Replica, Seat, Site, SliceLine, Tale, answered_by, active_of, booted_with, has_drive, is_half_active, key_of, last, nowhere, opened_by, record_text, replicas_of, site_area, site_of, unbooted}
+use Rattle.mdv_engine.specs.Below.{Answer, AreLaid, BootEnd, BootMoment, BootedTo, DriveNo, Drives, Ended, Geometry, Host, Identity, IsOfGeometry, IsReady, IsUpBy, Key, KeptOutside, MayLeave, Memory, Opened, Outcomes, Replica, Seat, Site, SliceLine, Tale, answered_by, active_of, booted_with, has_drive, key_of, last, nowhere, opened_by, record_text, replicas_of, site_area, site_of, unbooted, shortage}
 use Rattle.mdv_engine.specs.Counts.{IsBootedCounted, IsOpenedCounted}
 use Rattle.mdv_engine.specs.Ends.{IsBootEnd}
 use Rattle.mdv_engine.specs.Engine.{FailedOnSite, IsAnsweredBy, IsEndedBy, IsFitting, IsHeldBy, IsOpenBy, IsWell, LiesOn}
+use Rattle.mdv_store.specs.Shares.{short_of}
+use Rattle.mdv_store.specs.declared.seats.Need.TheVariants.{Half, More}
+use Rattle.mdv_store.specs.declared.seats.Share.{Share}
+use Rattle.mdv_store.proofs.Shares.{half_less as half_less_of, more_less, more_suffices, short_fewer}
+use Rattle.mdv_store.proofs.Rows.{part_filter, part_length}
+use Rattle.mdv_table.specs.Tests.{same_place}
 
 -- at each moment, and in the end
 module _ (host : Host) (sizes : List ℕ) (ready : IsReady host sizes) where
@@ -115,10 +120,21 @@ module _ (survey : Survey) where
     by (Some newest) among = (newest, among)
 
   failing_short : (replicas : List Replica) (identity : Identity) (lists : Lists) (list : List Place) → failing replicas identity lists ≡ Some list → 2 * readable_of replicas identity list ≤ length list
-  failing_short replicas identity (One all) list is = by (is_read replicas identity all) refl is where
-    by : (b : Bool) → is_read replicas identity all ≡ b → (if b then None else Some all) ≡ Some list → 2 * readable_of replicas identity list ≤ length list
-    by true so none = absurd (cc (none))
-    by false so some = (let same : all ≡ list = cc (some) in subst (λ (l : List Place). 2 * readable_of replicas identity l ≤ length l) same (ltb-false (length all) (2 * readable_of replicas identity all) so))
+  failing_short replicas identity lists list is = by lists is where
+    few : (all : List Place) → is_read replicas identity all ≡ false → Some all ≡ Some list → 2 * readable_of replicas identity list ≤ length list
+    few all so some = (let same : all ≡ list = cc (some) in subst (λ (l : List Place). 2 * readable_of replicas identity l ≤ length l) same (ltb-false (length all) (2 * readable_of replicas identity all) so))
+
+    last : (all : List Place) (b : Bool) → is_read replicas identity all ≡ b → (if b then None else Some all) ≡ Some list → 2 * readable_of replicas identity list ≤ length list
+    last all true so none = absurd (cc (none))
+    last all false so some = few all so some
+
+    first : (old new : List Place) (b : Bool) → is_read replicas identity old ≡ b → (if b then (if is_read replicas identity new then None else Some new) else Some old) ≡ Some list → 2 * readable_of replicas identity list ≤ length list
+    first old new true so rest = last new (is_read replicas identity new) refl rest
+    first old new false so some = few old so some
+
+    by : (of : Lists) → failing replicas identity of ≡ Some list → 2 * readable_of replicas identity list ≤ length list
+    by (One all) is = last all (is_read replicas identity all) refl is
+    by (Two old new) is = first old new (is_read replicas identity old) refl is
 
   short_less : (readable needed : ℕ) → IsShort survey readable needed → readable < needed
   short_less readable needed (inl is) =
@@ -128,7 +144,7 @@ module _ (survey : Survey) where
       let readable_is = one.readable_is in
       let needed_is = one.needed_is in
       omega (arith, less, readable_is, needed_is)
-  short_less readable needed (inr (was, newest, replica, seats, hand, few, readable_is, needed_is)) = (let less = half_less (active_of seats) (length seats) few in omega (arith, less, readable_is, needed_is))
+  short_less readable needed (inr (was, newest, replica, seats, hand, share, few, readable_is, needed_is)) = (let less = half_less share.active share.listed (more_less seats newest.table.plan.lists share few) in omega (arith, less, readable_is, needed_is))
 
   found_here : (p : Replica → Bool) (rs : List Replica) (x r : Replica) (b : Bool) → p x ≡ b → (find p rs ≡ Some r → p r ≡ true) → cond b (Some x) (find p rs) ≡ Some r → p r ≡ true
   found_here p rs x r true so later some = (let same : x ≡ r = cc (some) in subst (λ (y : Replica). p y ≡ true) same so)
@@ -168,9 +184,11 @@ remembered end.Memory ok = absurd (cc (ok))
 -- the lists of a table of the table of drives
 lists_some : (g : Geometry) (lists : Lists) → IsListsOf g lists → 1 ≤ length (places_of lists)
 lists_some g (One places) are = are.some
+lists_some g (Two old new) are = omega (arith, are.0.some, length-append old (beside old new))
 
-lists_few : (g : Geometry) (lists : Lists) → IsListsOf g lists → length (places_of lists) ≤ 50
-lists_few g (One places) are = are.few
+lists_few : (g : Geometry) (lists : Lists) → IsListsOf g lists → length (places_of lists) ≤ 100
+lists_few g (One places) are = omega (arith, are.few)
+lists_few g (Two old new) are = omega (arith, are.0.few, are.1.few, length-append old (beside old new), part_length (beside old new) new (part_filter (λ (p : Place). not (list_any (same_place p) old)) new))
 
 -- Whatever the shelf tells: by which calls a boot came to its end, and what it opened.
 module _ {S : Type 0} (shelf : Ghosts S) (old new : S) (host : Host) (ready : IsReady host (shelf.sizes old)) (answer : Booted) (is : IsBooted shelf old new host.drives host.site answer) (kept : KeptAmong shelf old new host.site.drives) (begun : ℕ) where
@@ -240,8 +258,10 @@ module _ {S : Type 0} (shelf : Ghosts S) (old new : S) (host : Host) (ready : Is
     pub its_key : o.key ≡ key_of host
     its_key = ap (λ (x : Opened). x.key) adoption.is
 
-    half_by : IsTrue (is_half_active o.seats)
-    half_by = subst (λ (k : Key). IsTrue (is_enough k o.seats)) ready.key adoption.enough
+    half_by : shortage o ≡ None
+    half_by =
+        let its = ap (λ (x : Opened). short_of Half o.seats x.table.plan.lists) adoption.is in
+        its ∙ subst (λ (k : Key). short_of (need_of k) o.seats adoption.newest.table.plan.lists ≡ None) ready.key adoption.enough
 
     pub held_by : IsOfGeometry host.drives o.table → IsHeldBy host o
     held_by listed = record {
@@ -297,14 +317,13 @@ module _ {S : Type 0} (shelf : Ghosts S) (old new : S) (host : Host) (ready : Is
       let by = read (end.Lost active listed) so refl in
       let lost : IsLost calls (Rewrites shelf by.1.looked new host.site.key) host.site.key by.0 active listed = by.2 in
       let Took = TakesClaimOrBoth lost.number (length (record_text lost.newest.table)) in
-      let fewer = more_enough host.site.key lost.seats lost.now (left_count calls Took lost.seats lost.now lost.left) lost.drawn.enough lost.few in
+      let share : Share = record { active = active; listed = listed } in
+      let fewer = short_fewer calls Took More (need_of host.site.key) (more_suffices (need_of host.site.key)) lost.newest.table.plan.lists lost.seats lost.now share lost.left lost.drawn.enough lost.few in
       let one = some_lost calls Took lost.seats lost.now lost.left fewer in
       let at = in_hand by.0 by.1 lost.newest lost.replica lost.seats lost.drawn.hand one.0 one.1 in
-      let few : is_half_active lost.now ≡ false = subst (λ (k : Key). is_enough k lost.now ≡ false) ready.key lost.few in
-      let less = leb-false (length lost.now) (2 * active_of lost.now) few in
-      let active_is = lost.active_is in
-      let listed_is = lost.listed_is in
-      ended_cause (end.Lost active listed) (ended.Lost active listed) so refl (record { line = one.0.line; one_of = at.seated.one_of; here = one.2 }, omega (arith, less, active_is, listed_is))
+      let few = subst (λ (k : Key). short_of (need_of k) lost.now lost.newest.table.plan.lists ≡ Some share) ready.key lost.few in
+      let less = half_less_of lost.now lost.newest.table.plan.lists share few in
+      ended_cause (end.Lost active listed) (ended.Lost active listed) so refl (record { line = one.0.line; one_of = at.seated.one_of; here = one.2 }, less)
 
   pub spent_cause : answer.end ≡ end.Spent → IsEndedBy calls host ended.Spent
   spent_cause so = ended_cause end.Spent ended.Spent so refl tt

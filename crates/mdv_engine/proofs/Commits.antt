@@ -1,11 +1,11 @@
 -- A commit that the engine makes of its store, put together: its moments, its end, its answer and its calls.
-use Rattle.std.proofs.Common.{◌≡◌, ◌⊎◌, inl, inr, ◌≤◌, ◌<◌, ◌+◌, ◌*◌, ℕ, Bool, List, [], ◌∷◌, length, Contains, Option, Some, Ok, Err, refl, sym, subst, ap, ◌∙◌, arith}
+use Rattle.std.proofs.Common.{◌≡◌, ◌⊎◌, inl, inr, ◌≤◌, ◌<◌, ◌+◌, ◌*◌, ℕ, Bool, List, [], ◌∷◌, length, Contains, Option, Some, Ok, Err, refl, sym, subst, ap, ◌∙◌, arith, None, MatchOption}
 use Rattle.std.proofs.Math.Nat.{mul-le-mul_right}
 use Rattle.std.proofs.lemmas.Bool.{leb-true}
 use Rattle.std.specs.Prelude.{IsTrue, MatchBool}
 use Rattle.mdv_record.proofs.Rooms.{room_most}
 use Rattle.mdv_table.specs.Change.{table_after}
-use Rattle.mdv_table.specs.Plan.{places_of}
+use Rattle.mdv_table.specs.Plan.{places_of, first_of}
 use Rattle.mdv_shelf.proofs.Between.{between_wider}
 use Rattle.mdv_shelf.proofs.Moments.{ends_both, moments_end, moments_weaker}
 use Rattle.mdv_shelf.specs.Calls.{OnDrive}
@@ -34,7 +34,7 @@ use Rattle.mdv_engine_law.specs.declared.answer.Ended.TheVariants as ended
 use Rattle.mdv_engine_law.specs.declared.answer.Outcome.TheVariants as outcome
 use Rattle.mdv_engine_law.proofs.Plain.{numbers_plain}
 use Rattle.mdv_engine_law.proofs.Refusing.{opened_has, spent_still}
-use Rattle.mdv_engine.specs.Below.{Answer, AreLaid, CameTo, CarriedTo, CarryMoment, Change, Changed, CommitFault, Created, Geometry, IsOfGeometry, IsOpenedAt, IsPlainAnswer, IsReady, Knows, MakeStripe, Memory, Opened, Outcomes, ReplicaFull, Seat, SliceName, Table, Tale, TooLong, VolId, active_of, drives_of, is_half_active, kept_at, key_of, record_room, record_text}
+use Rattle.mdv_engine.specs.Below.{Answer, AreLaid, CameTo, CarriedTo, CarryMoment, Change, Changed, CommitFault, Created, Geometry, IsOfGeometry, IsOpenedAt, IsPlainAnswer, IsReady, Knows, MakeStripe, Memory, Opened, Outcomes, ReplicaFull, Seat, SliceName, Table, Tale, TooLong, VolId, active_of, drives_of, kept_at, key_of, record_room, record_text, shortage}
 use Rattle.mdv_engine.specs.Counts.{IsCommandCounted, WereTried}
 use Rattle.mdv_engine.specs.Ends.{ChangeMoments, HasAnswered, StripeEnds}
 use Rattle.mdv_engine.specs.Engine.{IsHeldBy, IsLostOnSite, IsNextTable, IsWell, commit_answer}
@@ -46,12 +46,21 @@ use Rattle.mdv_engine.proofs.Creating.{calm_beside}
 use Rattle.mdv_engine.proofs.Ending.{command_ends, no_creation, other_ends}
 use Rattle.mdv_engine.proofs.Losing.{lost_on_site}
 use Rattle.mdv_engine.proofs.Makes.{moved}
+use Rattle.mdv_store.specs.Shares.{short_of}
+use Rattle.mdv_store.specs.declared.seats.Need.TheVariants.{Half}
+use Rattle.mdv_store.specs.declared.seats.Share.{Share}
+use Rattle.mdv_store.proofs.Shares.{first_enough}
+use Rattle.mdv_table.specs.declared.plan.Lists.{Lists}
+use Rattle.mdv_table.specs.declared.plan.Lists.TheVariants.{One, Two}
+use Rattle.mdv_table.specs.Table.{IsListsOf}
 
 same_most : (n : ℕ) → n ≤ n + 1
 same_most n = omega arith
 
-half_some : (seats : List Seat) → 1 ≤ length seats → IsTrue (is_half_active seats) → 0 < active_of seats
-half_some seats some half = (let twice = leb-true (length seats) (2 * active_of seats) half in omega (arith, some, twice))
+-- each list of a table of the table of drives has a place
+first_listed : (g : Geometry) (lists : Lists) → IsListsOf g lists → 1 ≤ length (first_of lists)
+first_listed g (One places) are = are.some
+first_listed g (Two old new) are = are.0.some
 
 text_few : (next old : Table) → length (record_text next) ≤ commit.room_in old → 2 + blocks_for (length (record_text next)) ≤ 4096
 text_few next old fits = (let most = room_most (places_of old.plan.lists) in omega (arith, fits, most))
@@ -66,7 +75,7 @@ module _ {S : Type 0} (shelf : Ghosts S) (a b : S) (v : Engine) (ready : IsReady
   held = opened_has v.state o (IsHeldBy v.host) opened well.database
 
   some_active : 0 < active_of o.seats
-  some_active = half_some o.seats held.some held.half
+  some_active = first_enough Half o.seats o.table.plan.lists (first_listed v.host.drives o.table.plan.lists held.of_geometry.lists) held.half
 
   pub laid : AreLaid (shelf.sizes a) o.seats
   laid = subst (λ (s : _). AreLaid s o.seats) ready.on_shelf.sizes_are held.laid
@@ -91,10 +100,14 @@ module _ {S : Type 0} (shelf : Ghosts S) (a b : S) (v : Engine) (ready : IsReady
         chosen : IsChanging v.host o (MakeStripe volume slice) next
         chosen = next_of v.host v.state (MakeStripe volume slice) next o opened is
 
-        -- of those who were at least half before it is lost now
-        lost_now : commit.IsLostNow (DriveFailures shelf a b) o new next ⊎ commit.WasLost o new → commit.IsLostNow (DriveFailures shelf a b) o new next
-        lost_now (inl lost) = lost
-        lost_now (inr was) = absurd (let yes = held.half in let no = was.few in cc (yes, no))
+        -- where it wasn't lost before it is lost now
+        lost_now : (active listed : ℕ) → shortage new ≡ Some (record { active = active; listed = listed }) → commit.IsLostNow (DriveFailures shelf a b) o new next ⊎ (new ≡ o) → commit.IsLostNow (DriveFailures shelf a b) o new next
+        lost_now active listed few (inl lost) = lost
+        lost_now active listed few (inr same) = absurd (let none = ap shortage same ∙ held.half in cc (few, none))
+
+        -- by the lists of the table that stands
+        of_old : (active listed : ℕ) → commit.IsLostNow (DriveFailures shelf a b) o new next → shortage new ≡ Some (record { active = active; listed = listed }) → short_of Half new.seats o.table.plan.lists ≡ Some (record { active = active; listed = listed })
+        of_old active listed lost few = ap (λ (t : Table). short_of Half new.seats t.plan.lists) (sym (ap (λ (x : Opened). x.table) lost.is)) ∙ few
 
         abbrev Shown : Tale → Tale → Type 0
         Shown t u = (g : Geometry) → IsOfGeometry g next → IsOpenedAt g o t → IsOpenedAt g (record new { mark = commit.next_mark o.mark; table = next }) u
@@ -118,7 +131,7 @@ module _ {S : Type 0} (shelf : Ghosts S) (a b : S) (v : Engine) (ready : IsReady
         lost_ends : (active listed : ℕ) → CommitAnswer shelf a b o new next (Err (unwritten.Lost active listed)) → StripeEnds shelf a b v volume slice (Over (ended.Lost active listed)) after
         lost_ends active listed said = other_ends (DriveFailures shelf a b) v (command.MakeStripe volume slice) (Over (ended.Lost active listed)) after (shelf.tale a) (shelf.tale b)
             (ends_both (CommitMoment o next) Shown (Comes (Over (ended.Lost active listed)) (with_open v.state new)) (shelf.tale a) (shelf.tale b)
-            (λ t u moment shown known. committing.lost_line v.host (shelf.sizes a) ready v.state o opened held next volume slice chosen t u moment (DriveFailures shelf a b) active listed new (lost_now said.came.2) said.came.0 said.came.1 calm
+            (λ t u moment shown known. committing.lost_line v.host (shelf.sizes a) ready v.state o opened held next volume slice chosen t u moment (DriveFailures shelf a b) active listed new (lost_now active listed said.came.0 said.came.1) said.came.0 calm
             (shown v.host.drives chosen.of_geometry) (with_open v.state new) known)
             (moments_end (CommitMoment o next) (shelf.tale a) (shelf.tale b) moments) (said.shown held.half))
             (moments_end (Carries (Over (ended.Lost active listed)) (with_open v.state new)) (shelf.tale a) (shelf.tale b)
@@ -141,12 +154,12 @@ module _ {S : Type 0} (shelf : Ghosts S) (a b : S) (v : Engine) (ready : IsReady
             (λ on u. absurd on) (λ one two is u. tt))
 
         -- by the fault
-        unwritten_by : (fault : CommitFault) → CommitAnswer shelf a b o new next (Err fault) → IsCommitCounted shelf a b (length (record_text next)) o.seats new.seats (Err fault) → StripeEnds shelf a b v volume slice (commit_answer fault) after
+        unwritten_by : (fault : CommitFault) → CommitAnswer shelf a b o new next (Err fault) → IsCommitCounted shelf a b (length (record_text next)) o new.seats (Err fault) → StripeEnds shelf a b v volume slice (commit_answer fault) after
         unwritten_by (unwritten.Lost active listed) said counted = lost_ends active listed said
         unwritten_by (unwritten.TooLong fault) said counted = over_ends fault said.came (ap shelf.tale counted) (λ drive. ap (λ (s : S). shelf.faults s (OnDrive drive)) counted)
         unwritten_by unwritten.Spent said counted = spent_ends said.came (ap shelf.tale counted) (λ drive. ap (λ (s : S). shelf.faults s (OnDrive drive)) counted)
 
-        pub uncommitted_ends : (fault : CommitFault) (answer : Answer) → answer ≡ commit_answer fault → CommitAnswer shelf a b o new next (Err fault) → IsCommitCounted shelf a b (length (record_text next)) o.seats new.seats (Err fault)
+        pub uncommitted_ends : (fault : CommitFault) (answer : Answer) → answer ≡ commit_answer fault → CommitAnswer shelf a b o new next (Err fault) → IsCommitCounted shelf a b (length (record_text next)) o new.seats (Err fault)
             → StripeEnds shelf a b v volume slice answer after
         uncommitted_ends fault answer is said counted = subst (λ (x : Answer). StripeEnds shelf a b v volume slice x after) (sym is) (unwritten_by fault said counted)
 
@@ -157,7 +170,7 @@ module _ {S : Type 0} (shelf : Ghosts S) (a b : S) (v : Engine) (ready : IsReady
         never_made : Contains (Changed (key_of v.host) (MakeStripe volume slice) ∷ []) (Created (key_of v.host)) → ⊥
         never_made has = no_creation (key_of v.host) (Changed (key_of v.host) (MakeStripe volume slice)) (λ same. absurd (cc (same))) has
 
-        well_left : (failed : Outcomes) → IsTrue (is_half_active new.seats) → AreLaid (shelf.sizes b) new.seats → new.key ≡ o.key → IsOfGeometry v.host.drives new.table → AreLeft failed (TakesSlot (commit.next_mark o.mark) (length (record_text next))) o.seats new.seats → IsWell v.host (with_open v.state new)
+        well_left : (failed : Outcomes) → shortage new ≡ None → AreLaid (shelf.sizes b) new.seats → new.key ≡ o.key → IsOfGeometry v.host.drives new.table → AreLeft failed (TakesSlot (commit.next_mark o.mark) (length (record_text next))) o.seats new.seats → IsWell v.host (with_open v.state new)
         well_left failed enough laid_now keyed listed left = record {
           database = committing.held_left v.host o new failed (commit.next_mark o.mark) (length (record_text next)) held enough keyed listed left
               (subst (λ (s : List ℕ). AreLaid s new.seats) (kept.keeps.same_sizes ∙ sym ready.on_shelf.sizes_are) laid_now);
@@ -177,10 +190,10 @@ module _ {S : Type 0} (shelf : Ghosts S) (a b : S) (v : Engine) (ready : IsReady
         lost_answer : (active listed : ℕ) → CommitAnswer shelf a b o new next (Err (unwritten.Lost active listed)) → Answered (Over (ended.Lost active listed)) after
         lost_answer active listed said = record {
           plain = tt;
-          cause = (o, opened, subst (λ (t : Table). came.IsLostCommit (DriveFailures shelf a b) o t active listed) chosen.is (record { new = new; calm = calm; lost = lost_now said.came.2; active_is = said.came.0; listed_is = said.came.1 }));
+          cause = (o, opened, subst (λ (t : Table). came.IsLostCommit (DriveFailures shelf a b) o t active listed) chosen.is (record { new = new; calm = calm; lost = lost_now active listed said.came.0 said.came.1; few = said.came.0 }));
           lost = λ one two same. moved (λ (x y : ℕ). IsLostOnSite (DriveFailures shelf a b) v.host x y) active listed one two same
-              (let now = lost_now said.came.2 in
-              lost_on_site (DriveFailures shelf a b) v.host (TakesSlot (commit.next_mark o.mark) (length (record_text next))) o.seats new.seats now.tried.left held.half now.few (λ r has. (held.seated r has).one_of) active listed said.came.0 said.came.1);
+              (let now = lost_now active listed said.came.0 said.came.1 in
+              lost_on_site (DriveFailures shelf a b) v.host (TakesSlot (commit.next_mark o.mark) (length (record_text next))) o.seats new.seats o.table.plan.lists now.tried.left held.half (λ r has. (held.seated r has).one_of) active listed (of_old active listed now said.came.0));
           free = λ on has. absurd on;
           host = refl;
           well = λ on. absurd on;
@@ -191,12 +204,12 @@ module _ {S : Type 0} (shelf : Ghosts S) (a b : S) (v : Engine) (ready : IsReady
         still_answer answer plain cause never unlost same = subst (λ (e : Engine). Answered answer e) (sym (as_before same))
             (record { plain = plain; cause = cause; lost = λ one two is. absurd (unlost one two is); free = λ on has. absurd (never on); host = refl; well = λ on. well; begun = same_most v.state.begun })
 
-        unwritten_said : (fault : CommitFault) → CommitAnswer shelf a b o new next (Err fault) → IsCommitCounted shelf a b (length (record_text next)) o.seats new.seats (Err fault) → Answered (commit_answer fault) after
+        unwritten_said : (fault : CommitFault) → CommitAnswer shelf a b o new next (Err fault) → IsCommitCounted shelf a b (length (record_text next)) o new.seats (Err fault) → Answered (commit_answer fault) after
         unwritten_said (unwritten.Lost active listed) said counted = lost_answer active listed said
         unwritten_said (unwritten.TooLong fault) said counted = still_answer (refusing (ReplicaFull fault.bytes fault.room)) (numbers_plain fault.bytes fault.room) (λ drive. ap (λ (s : S). shelf.faults s (OnDrive drive)) counted) (λ on. on) (λ one two is. absurd (cc (is))) said.came.is
         unwritten_said unwritten.Spent said counted = still_answer (Over ended.Spent) tt ((λ drive. ap (λ (s : S). shelf.faults s (OnDrive drive)) counted), tt) (λ on. on) (λ one two is. absurd (cc (is))) said.came.is
 
-        pub uncommitted_answer : (fault : CommitFault) (answer : Answer) → answer ≡ commit_answer fault → CommitAnswer shelf a b o new next (Err fault) → IsCommitCounted shelf a b (length (record_text next)) o.seats new.seats (Err fault) → Answered answer after
+        pub uncommitted_answer : (fault : CommitFault) (answer : Answer) → answer ≡ commit_answer fault → CommitAnswer shelf a b o new next (Err fault) → IsCommitCounted shelf a b (length (record_text next)) o new.seats (Err fault) → Answered answer after
         uncommitted_answer fault answer is said counted = subst (λ (x : Answer). Answered x after) (sym is) (unwritten_said fault said counted)
 
     -- the calls
@@ -213,7 +226,7 @@ module _ {S : Type 0} (shelf : Ghosts S) (a b : S) (v : Engine) (ready : IsReady
           let one = left_or_lost 6 o.seats new.seats (omega arith) some_active in
           pass_most shelf a b (blocks_for (length (record_text next))) (6 * active_of new.seats + drives_lost o.seats new.seats) least (active_of o.seats) (omega (arith, lower, one)) (text_few next o.table fits) counted.some
 
-      pub done_counted : CommitAnswer shelf a b o new next (Ok tt) → IsCommitCounted shelf a b (length (record_text next)) o.seats new.seats (Ok tt) → Counted accepted
+      pub done_counted : CommitAnswer shelf a b o new next (Ok tt) → IsCommitCounted shelf a b (length (record_text next)) o new.seats (Ok tt) → Counted accepted
       done_counted said counted = subst (λ (before : Option Opened). CountedAt before accepted) (sym opened) (record {
         exactly = subst (λ (t : Table). PassCalls (made_of shelf a b) (blocks_for (length (record_text t))) o.seats new.seats) (sym (ap (λ (x : Opened). x.table) said.came.is)) (record {
           all = λ same. counted.all some_active same;
@@ -224,31 +237,34 @@ module _ {S : Type 0} (shelf : Ghosts S) (a b : S) (v : Engine) (ready : IsReady
         wrote = subst (λ (x : Opened). AreWrittenBy shelf x.mark x.table a b o.seats new.seats) (sym said.came.is) (said.steps tt);
       })
 
-      lost_counted : IsNextTable v.host v.state (MakeStripe volume slice) next → (active listed : ℕ) → CommitAnswer shelf a b o new next (Err (unwritten.Lost active listed)) → IsCommitCounted shelf a b (length (record_text next)) o.seats new.seats (Err (unwritten.Lost active listed)) → Counted (Over (ended.Lost active listed))
+      lost_counted : IsNextTable v.host v.state (MakeStripe volume slice) next → (active listed : ℕ) → CommitAnswer shelf a b o new next (Err (unwritten.Lost active listed)) → IsCommitCounted shelf a b (length (record_text next)) o new.seats (Err (unwritten.Lost active listed)) → Counted (Over (ended.Lost active listed))
       lost_counted is active listed said counted = subst (λ (before : Option Opened). CountedAt before (Over (ended.Lost active listed))) (sym opened) (pass_fits 1 (omega arith) tried.fits pass, were_tried)
         where
           pass : ArePassCounted shelf a b 6 (2 + blocks_for (length (record_text next))) o.seats new.seats
-          pass = subst (λ (h : Bool). MatchBool h (ArePassCounted shelf a b 6 (2 + blocks_for (length (record_text next))) o.seats new.seats) (b ≡ a)) held.half counted
+          pass = subst (λ (h : Option Share). MatchOption h (ArePassCounted shelf a b 6 (2 + blocks_for (length (record_text next))) o.seats new.seats) (λ s. b ≡ a)) held.half counted
 
-          tried_by : commit.IsLostNow (DriveFailures shelf a b) o new next ⊎ commit.WasLost o new → commit.IsTried (DriveFailures shelf a b) o new next
-          tried_by (inl lost) = lost.tried
-          tried_by (inr was) = absurd (let yes = held.half in let no = was.few in cc (yes, no))
+          lost_by : commit.IsLostNow (DriveFailures shelf a b) o new next ⊎ (new ≡ o) → commit.IsLostNow (DriveFailures shelf a b) o new next
+          lost_by (inl lost) = lost
+          lost_by (inr same) = absurd (let few = said.came.0 in let none = ap shortage same ∙ held.half in cc (few, none))
+
+          lost : commit.IsLostNow (DriveFailures shelf a b) o new next
+          lost = lost_by said.came.1
 
           tried : commit.IsTried (DriveFailures shelf a b) o new next
-          tried = tried_by said.came.2
+          tried = lost.tried
 
-          were_tried : WereTried shelf a b (AreWrittenBy shelf (commit.next_mark o.mark) (table_after v.host.drives (MakeStripe volume slice) o.table) a b o.seats) o.seats active
+          were_tried : WereTried shelf a b (AreWrittenBy shelf (commit.next_mark o.mark) (table_after v.host.drives (MakeStripe volume slice) o.table) a b o.seats) o.seats o.table.plan.lists active listed
           were_tried = record {
             now = new.seats;
             left = left_as (DriveFailures shelf a b) (DriveFailures shelf a b) (TakesSlot (commit.next_mark o.mark) (length (record_text next))) (λ r n. Unit {0}) o.seats new.seats (λ r has some. some) (λ r has none. none) (λ r n took. tt) tried.left;
-            active_is = said.came.0;
+            few = ap (λ (t : Table). short_of Half new.seats t.plan.lists) (sym (ap (λ (x : Opened). x.table) lost.is)) ∙ said.came.0;
             steps = subst (λ (t : Table). AreWrittenBy shelf (commit.next_mark o.mark) t a b o.seats new.seats) (next_of v.host v.state (MakeStripe volume slice) next o opened is).is (said.steps held.half);
           }
 
-      unwritten_calls : IsNextTable v.host v.state (MakeStripe volume slice) next → (fault : CommitFault) → CommitAnswer shelf a b o new next (Err fault) → IsCommitCounted shelf a b (length (record_text next)) o.seats new.seats (Err fault) → Counted (commit_answer fault)
+      unwritten_calls : IsNextTable v.host v.state (MakeStripe volume slice) next → (fault : CommitFault) → CommitAnswer shelf a b o new next (Err fault) → IsCommitCounted shelf a b (length (record_text next)) o new.seats (Err fault) → Counted (commit_answer fault)
       unwritten_calls is (unwritten.Lost active listed) said counted = lost_counted is active listed said counted
       unwritten_calls is (unwritten.TooLong fault) said counted = counted
       unwritten_calls is unwritten.Spent said counted = counted
 
-      pub uncommitted_counted : IsNextTable v.host v.state (MakeStripe volume slice) next → (fault : CommitFault) (answer : Answer) → answer ≡ commit_answer fault → CommitAnswer shelf a b o new next (Err fault) → IsCommitCounted shelf a b (length (record_text next)) o.seats new.seats (Err fault) → Counted answer
+      pub uncommitted_counted : IsNextTable v.host v.state (MakeStripe volume slice) next → (fault : CommitFault) (answer : Answer) → answer ≡ commit_answer fault → CommitAnswer shelf a b o new next (Err fault) → IsCommitCounted shelf a b (length (record_text next)) o new.seats (Err fault) → Counted answer
       uncommitted_counted next_is fault answer is said counted = subst Counted (sym is) (unwritten_calls next_is fault said counted)

@@ -31,7 +31,7 @@ use Rattle.mdv_engine_law.proofs.Refusing.{opened_has}
 use Rattle.mdv_engine_law.proofs.Allowed.{either_left}
 use Rattle.mdv_engine_law.proofs.Within.{none_in, outside_places}
 use Rattle.mdv_shelf.specs.Area.{range}
-use Rattle.mdv_engine.specs.Below.{Answer, AreCalm, AreLaid, CameTo, CarriedTo, CarryMoment, Change, Changed, Host, IsOfGeometry, IsOpenedAt, IsPlain, IsReady, Knows, MakeStripe, Memory, Opened, OutOfMemory, Outcomes, Refusal, Replica, ReplicaFull, SliceLine, SliceName, Table, Tale, TooLong, VolId, active_of, drives_of, is_half_active, kept_at, key_of, record_room, record_text, replicas_of, seats_area, site_area}
+use Rattle.mdv_engine.specs.Below.{Answer, AreCalm, AreLaid, CameTo, CarriedTo, CarryMoment, Change, Changed, Host, IsOfGeometry, IsOpenedAt, IsPlain, IsReady, Knows, MakeStripe, Memory, Opened, OutOfMemory, Outcomes, Refusal, Replica, ReplicaFull, SliceLine, SliceName, Table, Tale, TooLong, VolId, active_of, drives_of, kept_at, key_of, record_room, record_text, replicas_of, seats_area, site_area, shortage}
 use Rattle.mdv_engine.specs.Engine.{HasChangeCause, IsCommittable, IsHeldBy, IsNextTable, IsWell, LiesOn}
 
 -- the lists of a table stay where a change makes another of it
@@ -164,8 +164,8 @@ seats_on host o held drive block out = none_in (replicas_of o.seats) drive block
         only : (one other : SliceLine) → Contains (one ∷ []) other → one ≡ other
         only one other among = elim (first_or_behind one other [] among) [ inl same ↦ same | inr none ↦ absurd (omega (arith, none.1)) ]
 
--- what it is behind a commit that at least half took
-pub held_left : (host : Host) (o new : Opened) (failed : Outcomes) (mark : _) (bytes : ℕ) → IsHeldBy host o → IsTrue (is_half_active new.seats) → new.key ≡ o.key → IsOfGeometry host.drives new.table → AreLeft failed (TakesSlot mark bytes) o.seats new.seats → AreLaid host.site.sizes new.seats → IsHeldBy host new
+-- what it is behind a commit that at least half of each list took
+pub held_left : (host : Host) (o new : Opened) (failed : Outcomes) (mark : _) (bytes : ℕ) → IsHeldBy host o → shortage new ≡ None → new.key ≡ o.key → IsOfGeometry host.drives new.table → AreLeft failed (TakesSlot mark bytes) o.seats new.seats → AreLaid host.site.sizes new.seats → IsHeldBy host new
 held_left host o new failed mark bytes held half keyed listed left laid = record {
   its = keyed ∙ held.its;
   some = (let counted = left_count failed (TakesSlot mark bytes) o.seats new.seats left in let least = held.some in omega (arith, counted, least));
@@ -224,15 +224,13 @@ module _ (host : Host) (sizes : List ℕ) (ready : IsReady host sizes) (memory :
           (λ all which. databases.commit_end host.drives all o new (Some stripe) next t u which moment ends (ap (λ (x : Opened). x.key) done.is) (ap (λ (x : Opened). x.identity) done.is))
 
     -- too few places took it
-    module _ (active listed : ℕ) (new : Opened) (lost : commit.IsLostNow calls o new next) (active_is : active ≡ active_of new.seats) (listed_is : listed ≡ length new.seats) (calm : AreCalmBeside (drives_of o.seats) calls)
+    module _ (active listed : ℕ) (new : Opened) (lost : commit.IsLostNow calls o new next) (few : shortage new ≡ Some (record { active = active; listed = listed })) (calm : AreCalmBeside (drives_of o.seats) calls)
         (shown : IsOpenedAt host.drives o t → IsOpenedAt host.drives (record new { mark = next_mark o.mark; table = next }) u) (after : Memory) where
       abbrev Leaves : Table → ℕ → ℕ → Type 0
       Leaves table active listed = came.LeavesTable calls host o table active listed (kept_at memory t) (kept_at after u)
 
       left : IsOpenedAt host.drives o t → Leaves next active listed
-      left now =
-          let all : Leaves next (active_of new.seats) (length new.seats) = leaves_table host memory after t u calls o new next opened lost calm moment.quiet.outside (shown now) in
-          subst (λ (n : ℕ). Leaves next active n) (sym listed_is) (subst (λ (n : ℕ). Leaves next n (length new.seats)) (sym active_is) all)
+      left now = leaves_table host memory after t u calls o new next active listed opened lost few calm moment.quiet.outside (shown now)
 
       pub lost_line : Knows host memory t → Comes (Over (ended.Lost active listed)) after
       lost_line known = came.over (ended.Lost active listed) (free_of host memory o opened volume slice next is lost.tried.fits) refl (

@@ -264,7 +264,7 @@ module _ {S : Type 0} (shelf : Ghosts S) where
     wanting_told failed answer piece told counted = (subst Counted (told_refusal failed answer OutOfMemory piece told) counted).0
 
     -- and where the run is over
-    pub lost_told : (failed : Type 0) (answer : Answer) (active listed : ℕ) (piece : List ℕ) → IsTold failed answer (reply.Panic active listed) piece → Counted answer → LossCalls (made_of shelf old new) command host before × HasTriedAll shelf old new host command before active
+    pub lost_told : (failed : Type 0) (answer : Answer) (active listed : ℕ) (piece : List ℕ) → IsTold failed answer (reply.Panic active listed) piece → Counted answer → LossCalls (made_of shelf old new) command host before × HasTriedAll shelf old new host command before active listed
     lost_told failed answer active listed piece told counted = subst Counted (told_lost failed answer active listed piece told) counted
 
     pub spent_told : (failed : Type 0) (answer : Answer) (piece : List ℕ) → IsTold failed answer reply.Spent piece → Counted answer → new ≡ old

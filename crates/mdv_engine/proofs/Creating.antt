@@ -1,5 +1,5 @@
 -- What a creation of the host's database leaves, told of the host.
-use Rattle.std.proofs.Common.{◌≡◌, ◌⊎◌, inl, inr, ◌≤◌, ◌<◌, ◌+◌, ◌*◌, ◌^◌, ℕ, Bool, true, List, [], length, Option, Some, None, Ok, Err, Contains, refl, sym, subst, ap, ◌∙◌, arith}
+use Rattle.std.proofs.Common.{◌≡◌, ◌⊎◌, inl, inr, ◌≤◌, ◌<◌, ◌+◌, ◌*◌, ◌^◌, ℕ, Bool, true, List, [], length, Option, Some, None, Ok, Err, Contains, refl, sym, subst, ap, ◌∙◌, arith, map}
 use Rattle.std.specs.Prelude.{nat_le}
 use Rattle.std.proofs.lemmas.Bool.{le-leb}
 use Rattle.std.proofs.lemmas.List.Elements.{All-contains}
@@ -51,6 +51,9 @@ use Rattle.mdv_engine.specs.Below.{AreCalm, AreLaid, CameTo, CarriedTo, CarryMom
 use Rattle.mdv_engine.specs.Ends.{made_at}
 use Rattle.mdv_engine.specs.Engine.{IsHeldBy, IsLostOnSite, LiesOn}
 use Rattle.mdv_engine.proofs.Losing.{lost_on_site}
+use Rattle.mdv_store.specs.Shares.{short_of}
+use Rattle.mdv_store.specs.declared.seats.Need.TheVariants.{Half}
+use Rattle.mdv_store.proofs.Shares.{half_none}
 
 -- no call failed on a drive beside those on which some were made
 pub calm_beside : {S : Type 0} (shelf : Ghosts S) (a b : S) (drives : List DriveNo) → KeptAmong shelf a b drives → AreCalmBeside drives (DriveFailures shelf a b)
@@ -141,9 +144,9 @@ module _ (host : Host) (sizes : List ℕ) (ready : IsReady host sizes) (memory :
   lost_on failed active listed lost =
       let all = asked_length key identity count blocks lines in
       let each = asked_active key identity count blocks lines in
-      lost_on_site failed host (TakesSlot first_mark (length (record_text (table_of seats)))) seats lost.now lost.tried (le-leb (length seats) (2 * active_of seats) (omega (arith, all, each))) lost.few
+      lost_on_site failed host (TakesSlot first_mark (length (record_text (table_of seats)))) seats lost.now (table_of seats).plan.lists lost.tried (half_none seats (map (λ (s : Seat). s.place) seats) refl (omega (arith, all, each)))
       (λ r has. let is = replica_is key identity count blocks lines r has in subst (λ (x : Replica). Contains host.site.lines x.line) (sym is.is) (on_site is.line is.among))
-      active listed lost.active_is lost.listed_is
+      active listed lost.few
 
   -- it was made: the database is the host's
   pub made_held : (failed : Outcomes) (o : Opened) → create.IsMade failed key identity lines count blocks o → AreLaid sizes o.seats → IsHeldBy host o
@@ -225,14 +228,11 @@ module _ (host : Host) (sizes : List ℕ) (ready : IsReady host sizes) (memory :
     tried : AreLeft (DriveFailures shelf a b) (TakesSlot first_mark (length (record_text (table_of seats)))) seats f.now
     tried = f.tried
 
-    formed_lost : (active listed : ℕ) → create.IsLost (DriveFailures shelf a b) key identity lines count blocks active listed → active ≡ active_of f.now → listed ≡ length f.now → create.IsLost (DriveFailures shelf a b) key identity lines count blocks active listed
-    formed_lost active listed lost active_is listed_is = record {
-      now = f.now;
-      tried = tried;
-      few = (λ i. nat_le ((sym listed_is ∙ lost.listed_is) i) (2 * (sym active_is ∙ lost.active_is) i)) ∙ lost.few;
-      active_is = active_is;
-      listed_is = listed_is;
-    }
+    abbrev IsShort : ℕ → ℕ → Type 0
+    IsShort active listed = short_of Half f.now (table_of seats).plan.lists ≡ Some (record { active = active; listed = listed })
+
+    formed_lost : (active listed : ℕ) → IsShort active listed → create.IsLost (DriveFailures shelf a b) key identity lines count blocks active listed
+    formed_lost active listed few = record { now = f.now; tried = tried; few = few }
 
     formed_left : AtEnd shelf (λ t u. IsOpenedAt host.drives (made_at host memory.begun lines count blocks f.now) u) a b
     formed_left t told =
@@ -243,10 +243,9 @@ module _ (host : Host) (sizes : List ℕ) (ready : IsReady host sizes) (memory :
           made_opened host.drives key identity lines count blocks sizes t (owner host sizes ready memory.begun small) are_asked may_form mid.0 mid.2 last_one.2.body last_one.2.spelled (DriveFailures shelf a b) f.now tried last_one.0 last_one.2.slotting,
         )
 
-    pub leaves : (active listed : ℕ) → create.IsLost (DriveFailures shelf a b) key identity lines count blocks active listed → active ≡ active_of f.now → listed ≡ length f.now
-        → (lost : create.IsLost (DriveFailures shelf a b) key identity lines count blocks active listed) × AtEnd shelf (λ t u. IsOpenedAt host.drives (made_at host memory.begun lines count blocks lost.now) u) a b
+    pub leaves : (active listed : ℕ) → IsShort active listed → (lost : create.IsLost (DriveFailures shelf a b) key identity lines count blocks active listed) × AtEnd shelf (λ t u. IsOpenedAt host.drives (made_at host memory.begun lines count blocks lost.now) u) a b
     unfolding formed_lost
-    leaves active listed lost active_is listed_is = (formed_lost active listed lost active_is listed_is, formed_left)
+    leaves active listed few = (formed_lost active listed few, formed_left)
 
 -- memory was wanting
 module _ (host : Host) (memory : Memory) (slices : List SliceName) (force : Bool) (count blocks : ℕ) (a b : Option Tale) (same : b ≡ a) where

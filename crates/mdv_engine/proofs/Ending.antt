@@ -52,7 +52,7 @@ command_ends calls old command this new a b came carried done = other_ends calls
 -- what is left at the places of a creation, told of a longer stretch by which no further call failed
 pub leaves_more : (failed more : Outcomes) → AreWithin failed more → (host : Host) (memory : Memory) (command : Command) (active listed : ℕ) (u : Tale) → LeavesMade failed host memory command active listed u → LeavesMade more host memory command active listed u
 leaves_more failed more within host memory (Create slices force count blocks) active listed u leaves = (let lost = leaves.lost in record {
-  lost = record { now = lost.now; tried = left_more failed more within _ _ _ lost.tried; few = lost.few; active_is = lost.active_is; listed_is = lost.listed_is };
+  lost = record { now = lost.now; tried = left_more failed more within _ _ _ lost.tried; few = lost.few };
   formed = leaves.formed;
   left = leaves.left;
 })

@@ -30,6 +30,8 @@ use Rattle.mdv_engine.proofs.Creating as creating
 use Rattle.mdv_engine.proofs.Creating.{begun, with_new}
 use Rattle.mdv_engine.proofs.Ending.{command_ends, done_ends, lost_ends}
 use Rattle.mdv_engine.proofs.Formats.{formed_calls}
+use Rattle.mdv_store.specs.Shares.{short_of}
+use Rattle.mdv_store.specs.declared.seats.Need.TheVariants.{Half}
 
 -- what is told of the engine as it stands is so of the one before
 pub to_old : (v e : Engine) → e ≡ v → (lines : List SliceLine) (slices : List SliceName) → lines ≡ lines_asked e.host slices → (P : Key → Identity → List SliceLine → Type 0)
@@ -141,7 +143,7 @@ module _ {S : Type 0} (shelf : Ghosts S) (a b : S) (v : Engine) (ready : IsReady
 
     given_up : (active listed : ℕ) → IsCreated shelf a b key identity lines count blocks (Err (unmade.Lost active listed)) → CreationEnds shelf a b v slices force count blocks (Over (ended.Lost active listed)) (now (begun v.state))
     given_up active listed created =
-        let found = creating.leaves v.host (shelf.sizes a) ready v.state slices force count blocks free form.0 form.1 form.2 shelf a b (within_one v.state.begun small) created.formed.0 active listed created.came created.formed.1 created.formed.2 in
+        let found = creating.leaves v.host (shelf.sizes a) ready v.state slices force count blocks free form.0 form.1 form.2 shelf a b (within_one v.state.begun small) created.formed.0 active listed created.formed.1 in
         let open_at = λ (t u : Tale). IsOpenedAt v.host.drives (made_at v.host v.state.begun lines count blocks found.0.now) u in
         let all = with_formed open_at created.formed.0 found.1 in
         let both = λ (t u : Tale). open_at t u × Formed u in
@@ -194,12 +196,13 @@ module _ {S : Type 0} (shelf : Ghosts S) (a b : S) (v : Engine) (ready : IsReady
   in_turn formed = record { formed = formed.formed; gone = formed.gone; steps = formed.steps }
 
   -- how it was written to each place, behind the formats
-  tried : (active listed : ℕ) → (f : WereFormed shelf a b key identity lines count blocks) × (active ≡ active_of f.now) × (listed ≡ length f.now) → WereTried shelf a b (WereMadeInTurn shelf a b key identity lines count blocks) (seats_asked key identity lines count blocks) active
-  tried active listed (formed, active_is, listed_is) = record {
+  tried : (active listed : ℕ) → (f : WereFormed shelf a b key identity lines count blocks) × (short_of Half f.now (table_of (seats_asked key identity lines count blocks)).plan.lists ≡ Some (record { active = active; listed = listed }))
+      → WereTried shelf a b (WereMadeInTurn shelf a b key identity lines count blocks) (seats_asked key identity lines count blocks) (table_of (seats_asked key identity lines count blocks)).plan.lists active listed
+  tried active listed (formed, few) = record {
     now = formed.now;
     left = left_as (DriveFailures shelf a b) (DriveFailures shelf a b) (TakesSlot first_mark (length (record_text (table_of (seats_asked key identity lines count blocks))))) (λ r n. Unit {0}) (seats_asked key identity lines count blocks) formed.now
         (λ r has some. some) (λ r has none. none) (λ r n took. tt) formed.tried;
-    active_is = active_is;
+    few = few;
     steps = in_turn formed;
   }
 

@@ -38,7 +38,8 @@ pub use Rattle.mdv_shown.specs.declared.site.Site.{Site}
 pub use Rattle.mdv_shown.specs.Sites.{site_of}
 pub use Rattle.mdv_status.specs.Values.{values_reply}
 pub use Rattle.mdv_store.specs.Opened.{IsOpenedAt, Opened}
-pub use Rattle.mdv_store.specs.Seats.{AreLaid, active_of, drives_of, is_half_active, replicas_of, seats_area}
+pub use Rattle.mdv_store.specs.Opened.{shortage}
+pub use Rattle.mdv_store.specs.Seats.{AreLaid, active_of, drives_of, replicas_of, seats_area}
 pub use Rattle.mdv_store.specs.declared.booting.BootEnd.{BootEnd}
 pub use Rattle.mdv_store.specs.declared.creating.CreateFault.{CreateFault}
 pub use Rattle.mdv_store.specs.declared.seats.Seat.{Seat}

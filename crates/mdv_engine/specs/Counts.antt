@@ -32,6 +32,9 @@ use Rattle.mdv_engine_law.specs.Answers.{accepted, refusing}
 use Rattle.mdv_engine_law.specs.declared.answer.Reply.{Reply}
 use Rattle.mdv_engine_law.specs.declared.answer.Reply.TheVariants as reply
 use Rattle.mdv_engine.specs.Below.{Create, Host, Identity, Key, MakeStripe, Memory, Opened, Read, Seat, SliceLine, Write, active_of, key_of, lines_asked, record_text}
+use Rattle.mdv_store.specs.Shares.{short_of}
+use Rattle.mdv_store.specs.declared.seats.Need.TheVariants.{Half}
+use Rattle.mdv_table.specs.declared.plan.Lists.{Lists}
 
 -- the most calls that a command makes, and the most blocks that it writes
 abbrev pub calls_of : Host → Option Opened → Command → ℕ
@@ -62,20 +65,21 @@ HasWrittenAll shelf old new host (Create slices force count blocks) before (Some
 HasWrittenAll shelf old new host (command.MakeStripe volume slice) (Some before) (Some now) = AreWrittenBy shelf now.mark now.table old new before.seats now.seats
 HasWrittenAll shelf old new host other before now = Unit {0}
 
--- By these steps some of the places are left, and so many have the table, those on whose drives no call failed.
-pub record WereTried {S : Type 0} (shelf : Ghosts S) (old new : S) (Steps : List Seat → Type 0) (seats : List Seat) (active : ℕ) : Type 0 where
+-- By these steps some of the places are left, those on whose drives no call failed; and of a list of these, the first one of which fewer than half are left, so many have the table.
+pub record WereTried {S : Type 0} (shelf : Ghosts S) (old new : S) (Steps : List Seat → Type 0) (seats : List Seat) (lists : Lists) (active listed : ℕ) : Type 0 where
   pub now : List Seat
   pub left : AreLeft (DriveFailures shelf old new) (λ r n. Unit {0}) seats now
-  pub active_is : active ≡ active_of now
+  pub few : short_of Half now lists ≡ Some (record { active = active; listed = listed })
   pub steps : Steps now
 
 -- so it is where too few places took the table of a command
-abbrev pub HasTriedAll : {S : Type 0} → Ghosts S → S → S → Host → Command → Option Opened → ℕ → Type 0
-HasTriedAll shelf old new host (Create slices force count blocks) before active =
-    (identity : Identity) × WereTried shelf old new (WereMadeInTurn shelf old new (key_of host) identity (lines_asked host slices) count blocks) (seats_asked (key_of host) identity (lines_asked host slices) count blocks) active
-HasTriedAll shelf old new host (command.MakeStripe volume slice) (Some o) active =
-    WereTried shelf old new (AreWrittenBy shelf (next_mark o.mark) (table_after host.drives (MakeStripe volume slice) o.table) old new o.seats) o.seats active
-HasTriedAll shelf old new host other before active = Unit {0}
+abbrev pub HasTriedAll : {S : Type 0} → Ghosts S → S → S → Host → Command → Option Opened → ℕ → ℕ → Type 0
+HasTriedAll shelf old new host (Create slices force count blocks) before active listed =
+    (identity : Identity) × WereTried shelf old new (WereMadeInTurn shelf old new (key_of host) identity (lines_asked host slices) count blocks) (seats_asked (key_of host) identity (lines_asked host slices) count blocks)
+        (table_of (seats_asked (key_of host) identity (lines_asked host slices) count blocks)).plan.lists active listed
+HasTriedAll shelf old new host (command.MakeStripe volume slice) (Some o) active listed =
+    WereTried shelf old new (AreWrittenBy shelf (next_mark o.mark) (table_after host.drives (MakeStripe volume slice) o.table) old new o.seats) o.seats o.table.plan.lists active listed
+HasTriedAll shelf old new host other before active listed = Unit {0}
 
 -- The calls of a command that was done: exactly so many, and no more than it may make at all; a creation and a change wrote to each place so.
 pub record DoneCalls {S : Type 0} (shelf : Ghosts S) (old new : S) (host : Host) (command : Command) (before now : Option Opened) : Type 0 where
@@ -91,7 +95,7 @@ IsCommandCounted shelf old new host command (Said (outcome.Values text)) before 
 IsCommandCounted shelf old new host command (Said (outcome.Refused IoFault)) before now = FaultCalls (made_of shelf old new) command host
 IsCommandCounted shelf old new host command (Said (outcome.Refused OutOfMemory)) before now = (made_of shelf old new).within 0 (wanting_calls command) 0 × (shelf.tale new ≡ shelf.tale old)
 IsCommandCounted shelf old new host command (Said (outcome.Refused other)) before now = new ≡ old
-IsCommandCounted shelf old new host command (Over (ended.Lost active listed)) before now = LossCalls (made_of shelf old new) command host before × HasTriedAll shelf old new host command before active
+IsCommandCounted shelf old new host command (Over (ended.Lost active listed)) before now = LossCalls (made_of shelf old new) command host before × HasTriedAll shelf old new host command before active listed
 IsCommandCounted shelf old new host command (Over other) before now = new ≡ old
 
 -- the same of a read, before its answer is made
@@ -138,9 +142,9 @@ pub record WasBooted {S : Type 0} (shelf : Ghosts S) (old new : S) (host : Host)
   pub answer_is : answer ≡ answered_by booted.end
   pub tied : answer ≡ accepted → (t : Tale) → shelf.tale old ≡ Some t → (memory.opened ≡ opened_by booted.end) × (memory.up ≡ booted.up) × (memory.clean ≡ booted.clean)
 
--- The calls of a boot: no more than those of as many looks as there are drives, and one, and of fifty places; and where it is answered and none failed, as many as it read, and those by which it opened what it did; and it made them as one of the store does.
+-- The calls of a boot: no more than those of as many looks as there are drives, and one, and of a hundred places; and where it is answered and none failed, as many as it read, and those by which it opened what it did; and it made them as one of the store does.
 pub record IsBootedCounted {S : Type 0} (shelf : Ghosts S) (old new : S) (host : Host) (answer : Answer) (memory : Memory) : Type 0 where
-  pub most : (made_of shelf old new).within 0 (2 * length host.site.drives + most_reads host.site + 8 * 50) most_blocks
+  pub most : (made_of shelf old new).within 0 (2 * length host.site.drives + most_reads host.site + 8 * 100) most_blocks
   pub clean : answer ≡ accepted → memory.clean ≡ true → (t : Tale) → shelf.tale old ≡ Some t
       → (reads : ℕ) × AreLinesBy host.drives host.site memory.up no_drives (last t) host.site.lines reads × IsOpenedCounted (made_of shelf old new) (2 * length host.site.drives + reads) memory.opened
   pub booted : WasBooted shelf old new host answer memory

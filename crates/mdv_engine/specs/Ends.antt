@@ -165,7 +165,7 @@ pub record IsTurnCounted {S : Type 0} (shelf : Ghosts S) (old new : S) (host : H
   pub unwritten : IsQuietRefusal r → (made_of shelf old new).within 0 (1 + calls_of host before command) 0
   pub wanting : r ≡ reply.Refused OutOfMemory → (made_of shelf old new).within 0 (1 + wanting_calls command) 0
   pub faulted : r ≡ reply.Refused IoFault → FaultCalls (and_more 1 (made_of shelf old new)) command host
-  pub lost : (active listed : ℕ) → r ≡ reply.Panic active listed → LossCalls (made_of shelf old new) command host before × counts.HasTriedAll shelf old new host command before active
+  pub lost : (active listed : ℕ) → r ≡ reply.Panic active listed → LossCalls (made_of shelf old new) command host before × counts.HasTriedAll shelf old new host command before active listed
   pub spent : r ≡ reply.Spent → (made_of shelf old new).within 0 0 0
   pub told : IsReplied r → EndsTold shelf old new
   pub given : r ≢ reply.Told → (GivingFailures shelf old new).none

@@ -1,6 +1,6 @@
 -- What an engine keeps, what its boots answer, and why blocks and changes are refused.
 use Rattle.std.specs.Prelude.{◌≡◌, ◌⊎◌, ◌+◌, ◌*◌, ◌<◌, ◌≤◌, ℕ, Bool, true, List, [], length, Contains, Option, Some, None, IfSome, IsTrue, Result, Ok, Err}
-use Rattle.mdv_engine.specs.Below.{Answer, AreCalm, AreLaid, BootEnd, Change, CommitFault, CreateFault, DriveNo, Drives, Geometry, Host, IoFault, IsOfGeometry, IsUpBy, Memory, Opened, OutOfMemory, Outcomes, Refusal, Replica, ReplicaFull, Site, SliceLine, Table, VolId, answered_by, drives_of, has_drive, is_half_active, key_of, opened_by, replicas_of}
+use Rattle.mdv_engine.specs.Below.{Answer, AreCalm, AreLaid, BootEnd, Change, CommitFault, CreateFault, DriveNo, Drives, Geometry, Host, IoFault, IsOfGeometry, IsUpBy, Memory, Opened, OutOfMemory, Outcomes, Refusal, Replica, ReplicaFull, Site, SliceLine, Table, VolId, answered_by, drives_of, has_drive, key_of, opened_by, replicas_of, shortage}
 pub use Rattle.mdv_engine_law.specs.Commands.{FailedBlocks}
 use Rattle.mdv_table.specs.Change.{table_after}
 use Rattle.mdv_table.specs.Change as table
@@ -23,13 +23,13 @@ pub record LiesOn (site : Site) (r : Replica) : Type 0 where
   pub one_of : Contains site.lines r.line
   pub within : 16 + r.number * r.first.blocks + r.first.blocks ≤ r.line.at.blocks
 
--- The database is the host's own, of some places, fifty at most, at least half of which are active; its table is one of the host's table of drives, and the replicas at its active places lie
+-- The database is the host's own, of some places, a hundred at most; of each list of its table at least half is active; the table is one of the host's table of drives, and the replicas at its active places lie
 -- within their drives, where the host's may.
 pub record IsHeldBy (host : Host) (o : Opened) : Type 0 where
   pub its : o.key ≡ key_of host
   pub some : 1 ≤ length o.seats
-  pub few : length o.seats ≤ 50
-  pub half : IsTrue (is_half_active o.seats)
+  pub few : length o.seats ≤ 100
+  pub half : shortage o ≡ None
   pub of_geometry : IsOfGeometry host.drives o.table
   pub laid : AreLaid host.site.sizes o.seats
   pub seated : (r : Replica) → Contains (replicas_of o.seats) r → LiesOn host.site r
@@ -53,9 +53,9 @@ abbrev pub boot_answer : {T : Type 0} → Result T Ended → Answer
 boot_answer (Ok booted) = accepted
 boot_answer (Err end) = Over end
 
--- At least half of the places of a database are active that a boot opened; no call failed on the drive of any of them, and it is up.
+-- Of each list of a database that a boot opened at least half is active; no call failed on the drive of any of them, and it is up.
 pub record IsOpenBy (calls : Outcomes) (up : Drives) (o : Opened) : Type 0 where
-  pub half : IsTrue (is_half_active o.seats)
+  pub half : shortage o ≡ None
   pub calm : (drive : DriveNo) → Contains (drives_of o.seats) drive → (calls drive.0).none
   pub are_up : (drive : DriveNo) → Contains (drives_of o.seats) drive → has_drive up drive ≡ true
 
@@ -73,7 +73,7 @@ pub record FailedOnSite (calls : Outcomes) (host : Host) : Type 0 where
   pub one_of : Contains host.site.lines line
   pub here : (calls line.at.drive.0).some
 
--- so it did, and fewer than half of the listed places are active
+-- so it did, and fewer than half of a list are active
 abbrev pub IsLostOnSite : Outcomes → Host → ℕ → ℕ → Type 0
 IsLostOnSite calls host active listed = FailedOnSite calls host × (2 * active < listed)
 

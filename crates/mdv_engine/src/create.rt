@@ -174,16 +174,20 @@ impl Engine {
         requires { IsCount count }
         ensures { result ≡ nat_lt 50 (length (spec_places_open self.now.state.opened) + slices * count) }
     {
-        slices > MOST_PLACES || self.places_open().len() + slices * usize::from(count) > MOST_PLACES
+        slices > MOST_PLACES || self.listed() + slices * usize::from(count) > MOST_PLACES
     }
 
-    // The places that the open database has already.
-    fn places_open(&self) -> &[Place]
-        ensures { result.now ≡ spec_places_open self.now.state.opened }
+    // How many places the open database lists.
+    fn listed(&self) -> usize
+        ensures value { result ≡ length (spec_places_open self.now.state.opened) }
+        ensures few { result ≤ 100 }
     {
         match &self.state.database {
-            Some(store) => store.table().plan.lists.places(),
-            None => &[],
+            Some(store) => {
+                let places = store.table().plan.lists.each();
+                places.as_slice().len()
+            }
+            None => 0,
         }
     }
 
@@ -198,8 +202,13 @@ impl Engine {
     fn has_replica(&self, slice: SliceName) -> bool
         ensures { result ≡ spec_has_replica self.now.state.opened slice }
     {
-        let places = self.places_open();
-        places.iter().any(|place| same_slice(place.slice, slice))
+        match &self.state.database {
+            Some(store) => {
+                let places = store.table().plan.lists.each();
+                are_on(places.as_slice(), slice)
+            }
+            None => false,
+        }
     }
 
     fn is_short(&self, slice: SliceName, count: u8, blocks: u32) -> bool
@@ -290,6 +299,14 @@ fn is_doubled(slices: &[SliceName]) -> bool
     }
     false
 }
+
+// Whether one of the places is on the slice.
+fn are_on(places: &[Place], slice: SliceName) -> bool
+    ensures { result ≡ list_any (λ p. spec_same_slice p.slice slice) places.now }
+{
+    places.iter().any(|place| same_slice(place.slice, slice))
+}
+
 
 fn is_among(slice: SliceName, slices: &[SliceName]) -> bool
     ensures { result ≡ list_any (spec_same_slice slice) slices.now }

@@ -1,12 +1,16 @@
--- The one table that a change makes, whichever events of the log it came by.
+-- The one table that a change makes, whichever events of the log it came by; or that one with its change of places over.
 use Rattle.std.proofs.Common.{◌≡◌, ◌⊎◌, inl, inr, ⊎_elim, true, false, List, [], ◌∷◌, Option, Some, None, refl, sym, ◌∙◌, ap, subst}
 use Rattle.mdv_base.specs.declared.mark.Mark.{Mark}
 use Rattle.mdv_store_law.specs.Log as log
-use Rattle.mdv_store_law.specs.Log.{IsBegun, IsLog, IsMade, Log, Version, answered, log_after}
+use Rattle.mdv_store_law.specs.Log.{IsBegun, IsLog, IsMade, IsSameOrSettled, Log, Version, answered, log_after}
 use Rattle.mdv_store_law.specs.Part.{IsPart}
-use Rattle.mdv_store_law.proofs.Families.{answered_rising}
+use Rattle.mdv_store_law.proofs.Families.{answered_rising, settled_more}
 use Rattle.mdv_store_law.proofs.Logs.{is_log_after}
+use Rattle.mdv_table.specs.Plan.{last_of, settled}
 use Rattle.mdv_table.specs.declared.change.Change.{Change}
+use Rattle.mdv_table.specs.declared.change.Change.TheVariants.{MakeStripe}
+use Rattle.mdv_table.specs.declared.plan.Lists.TheVariants.{One}
+use Rattle.mdv_table.specs.declared.plan.Plan.{Plan}
 use Rattle.mdv_table.specs.declared.table.Table.{Table}
 use Rattle.mdv_name.specs.declared.geometry.Geometry.{Geometry}
 use Rattle.mdv_volumes.specs.Happening.{MayBeFound}
@@ -21,6 +25,17 @@ made_one g change old a b one other =
     let status : a.status ≡ b.status = one.1 ∙ sym other.1 in
     λ i. record { plan = plan i; status = status i }
 
+-- once its change of places is over the change makes of it what it made before, with that change over
+made_over : (g : Geometry) (change : Change) (old new other : Table) → IsMade g (Some change) old new → IsMade g (Some change) (settled old) other → other ≡ settled new
+made_over g (MakeStripe volume slice) old new other made over =
+    let plan : other.plan ≡ (settled new).plan = over.0.1 ∙ ap (λ (p : Plan). record p { lists = One (last_of p.lists) }) (sym made.0.1) in
+    let status : other.status ≡ new.status = over.1 ∙ sym made.1 in
+    λ i. record { plan = plan i; status = status i }
+
+made_more : (g : Geometry) (change : Change) (old new from other : Table) → IsMade g (Some change) old new → IsSameOrSettled old from → IsMade g (Some change) from other → IsSameOrSettled new other
+made_more g change old new from other made (inl same) is = inl (made_one g change old other new (subst (λ (t : Table). IsMade g (Some change) t other) same is) made)
+made_more g change old new from other made (inr over) is = inr (made_over g change old new other made (subst (λ (t : Table). IsMade g (Some change) t other) over is))
+
 none_left : (es : List log.Event) (table : Table) → IsPart (log.begun_by es) [] → IsAsked es table → ⊥
 none_left es table within is = let asked = asked_change es table is in empty (log.begun_by es) asked.0 within asked.1
   where
@@ -29,10 +44,10 @@ none_left es table within is = let asked = asked_change es table is in empty (lo
     empty (x ∷ l) change within is = within
 
 module _ (g : Geometry) (change : Change) (newest table : Table) (made : IsMade g (Some change) newest table) where
-  -- a boot finds this table alone, and there is one
+  -- a boot finds this table alone, or it with its change of places over, and there is one
   pub record Alone (lg : Log) : Type 0 where
     pub some : IsBegun lg.family
-    pub each : (v : Version) → MayBeFound lg.family v → v.table ≡ newest
+    pub each : (v : Version) → MayBeFound lg.family v → IsSameOrSettled newest v.table
 
   never_empty : (f : List Version) → IsBegun f → f ≡ [] → ⊥
   never_empty [] some none = some
@@ -42,12 +57,12 @@ module _ (g : Geometry) (change : Change) (newest table : Table) (made : IsMade 
   written_alone : (lg : Log) (before : List Change) (other : Table) (mark : Mark) → log.MayHappen g lg (log.Writing mark None before other) → Alone lg → Alone (log_after lg (log.Writing mark None before other))
   written_alone lg before other mark may alone = record {
     some = tt;
-    each = λ v found. ⊎_elim (λ here. ap (λ (w : Version). w.table) (sym here) ∙ same may.1) (λ old. alone.each v old) (older_found (record { mark = mark; table = other; changes = before; is_written = false }) lg.family v found);
+    each = λ v found. ⊎_elim (λ here. subst (λ (w : Version). IsSameOrSettled newest w.table) here (same may.1)) (λ old. alone.each v old) (older_found (record { mark = mark; table = other; changes = before; is_written = false }) lg.family v found);
   }
     where
-      same : log.IsFirst lg.issued lg.family None before other ⊎ log.IsNext g lg.family None before other → other ≡ newest
+      same : log.IsFirst lg.issued lg.family None before other ⊎ log.IsNext g lg.family None before other → IsSameOrSettled newest other
       same (inl first) = absurd (never_empty lg.family alone.some first.none)
-      same (inr next) = next.made ∙ alone.each next.parent (next.one_of, next.not_older)
+      same (inr next) = settled_more newest next.parent.table other (alone.each next.parent (next.one_of, next.not_older)) next.made
 
   -- and with an answer to it
   answered_alone : (lg : Log) → IsLog g lg → Alone lg → Alone (log_after lg log.Written)
@@ -57,29 +72,29 @@ module _ (g : Geometry) (change : Change) (newest table : Table) (made : IsMade 
       some [] begun = begun
       some (v ∷ older) begun = tt
 
-      each : (f : List Version) → IsBegun f → log.IsRising f → ((v : Version) → MayBeFound f v → v.table ≡ newest) → (v : Version) → MayBeFound (answered f) v → v.table ≡ newest
+      each : (f : List Version) → IsBegun f → log.IsRising f → ((v : Version) → MayBeFound f v → IsSameOrSettled newest v.table) → (v : Version) → MayBeFound (answered f) v → IsSameOrSettled newest v.table
       each [] begun rising all v found = absurd begun
       each (w ∷ older) begun rising all v found =
           let is = only_found (record w { is_written = true }) older v (answered_rising (w ∷ older) rising) refl found in
-          ap (λ (x : Version). x.table) is ∙ all w (newest_found w older rising)
+          subst (λ (x : Version). IsSameOrSettled newest x.table) (sym is) (all w (newest_found w older rising))
 
-  asked_here : (lg : Log) (mark : Mark) (c : Change) (before : List Change) (other : Table) → log.MayHappen g lg (log.Writing mark (Some c) before other) → Alone lg → c ≡ change → other ≡ table
+  asked_here : (lg : Log) (mark : Mark) (c : Change) (before : List Change) (other : Table) → log.MayHappen g lg (log.Writing mark (Some c) before other) → Alone lg → c ≡ change → IsSameOrSettled table other
   asked_here lg mark c before other may alone same = by may.1 where
-    by : log.IsFirst lg.issued lg.family (Some c) before other ⊎ log.IsNext g lg.family (Some c) before other → other ≡ table
+    by : log.IsFirst lg.issued lg.family (Some c) before other ⊎ log.IsNext g lg.family (Some c) before other → IsSameOrSettled table other
     by (inl first) = absurd (cc (first.unasked))
     by (inr next) =
-        made_one g change newest other table
-        (subst (λ (old : Table). IsMade g (Some change) old other) (alone.each next.parent (next.one_of, next.not_older)) (subst (λ (x : Change). IsMade g (Some x) next.parent.table other) same next.made)) made
+        made_more g change newest table next.parent.table other made (alone.each next.parent (next.one_of, next.not_older)) (subst (λ (x : Change). IsMade g (Some x) next.parent.table other) same next.made)
 
-  -- each table that a change makes is that one
-  pub asked_is : (lg : Log) (es : List log.Event) → IsLog g lg → Alone lg → log.IsCourse g lg es → IsPart (log.begun_by es) (Some change ∷ []) → (other : Table) → IsAsked es other → other ≡ table
+  -- each table that a change makes is that one, or it with its change of places over
+  pub asked_is : (lg : Log) (es : List log.Event) → IsLog g lg → Alone lg → log.IsCourse g lg es → IsPart (log.begun_by es) (Some change ∷ []) → (other : Table) → IsAsked es other → IsSameOrSettled table other
   asked_is lg [] is alone course within other asked = absurd asked
   asked_is lg (log.Issued identity ∷ es) is alone course (inl same) other asked = absurd (cc (same.0))
   asked_is lg (log.Issued identity ∷ es) is alone course (inr none) other asked = absurd none
   asked_is lg (log.Writing mark None before written ∷ es) is alone course within other (inl asked) = absurd asked
   asked_is lg (log.Writing mark None before written ∷ es) is alone course within other (inr asked) =
       asked_is (log_after lg (log.Writing mark None before written)) es (is_log_after g lg (log.Writing mark None before written) is course.0) (written_alone lg before written mark course.0 alone) course.1 within other asked
-  asked_is lg (log.Writing mark (Some c) before written ∷ es) is alone course (inl same) other (inl asked) = sym asked ∙ asked_here lg mark c before written course.0 alone (cc (same.0))
+  asked_is lg (log.Writing mark (Some c) before written ∷ es) is alone course (inl same) other (inl asked) =
+      subst (IsSameOrSettled table) asked (asked_here lg mark c before written course.0 alone (cc (same.0)))
   asked_is lg (log.Writing mark (Some c) before written ∷ es) is alone course (inl same) other (inr asked) = absurd (none_left es other same.1 asked)
   asked_is lg (log.Writing mark (Some c) before written ∷ es) is alone course (inr none) other asked = absurd none
   asked_is lg (log.Written ∷ es) is alone course within other (inl asked) = absurd asked

@@ -54,14 +54,14 @@ module _ (failed more : Outcomes) (cause : AreWithin failed more) (host : Host) 
 
   table_more : (o : Opened) (table : Table) (active listed : ℕ) → LeavesTable failed host o table active listed kept next → LeavesTable more host o table active listed kept next
   table_more o table active listed is = (let lost = is.lost in record {
-    lost = record { new = lost.new; calm = beside_more failed more cause _ lost.calm; lost = now_more failed more cause o lost.new table lost.lost; active_is = lost.active_is; listed_is = lost.listed_is };
+    lost = record { new = lost.new; calm = beside_more failed more cause _ lost.calm; lost = now_more failed more cause o lost.new table lost.lost; few = lost.few };
     left = is.left;
     beside = is.beside;
   })
 
   gives_up_more : (command : Command) (end : Ended) → GivesUp failed host kept command end next → GivesUp more host kept command end next
   gives_up_more (Create slices force count blocks) (ended.Lost active listed) is = (let lost = is.lost in record {
-    lost = record { now = lost.now; tried = left_more failed more cause _ _ _ lost.tried; few = lost.few; active_is = lost.active_is; listed_is = lost.listed_is };
+    lost = record { now = lost.now; tried = left_more failed more cause _ _ _ lost.tried; few = lost.few };
     calm = beside_more failed more cause _ is.calm;
     formed = is.formed;
     left = is.left;

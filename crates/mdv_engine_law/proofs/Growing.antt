@@ -5,7 +5,7 @@ use Rattle.mdv_map.proofs.Covering.{areas_cover}
 use Rattle.mdv_map.specs.Logs.{Follows, VolumeLog, opening}
 use Rattle.mdv_shelf.proofs.Settled.{covered}
 use Rattle.mdv_store_law.specs.Log as log
-use Rattle.mdv_store_law.specs.Log.{IsLog, IsMade}
+use Rattle.mdv_store_law.specs.Log.{IsLog, IsMade, IsSameOrSettled}
 use Rattle.mdv_store_law.specs.Part.{IsPart}
 use Rattle.mdv_table.specs.declared.volume.Base.TheVariants.{Slice}
 use Rattle.mdv_table.specs.declared.volume.Component.{Component}
@@ -21,6 +21,7 @@ use Rattle.mdv_volumes.specs.Standing.{GoesBy, HaveOneValue}
 use Rattle.mdv_volumes.specs.Tables.{AreLaid, IsBaseMap, IsKindMap}
 use Rattle.mdv_volumes.proofs.Databases.{is_log_of, volume_itself, volume_number}
 use Rattle.mdv_volumes.proofs.Found.{newest_found, only_found}
+use Rattle.mdv_volumes.proofs.Made.{map_was, ready_more}
 use Rattle.mdv_volumes.proofs.Standing.{boots_stand}
 use Rattle.mdv_volumes.proofs.Tables.{tables_lie}
 use Rattle.mdv_volumes.proofs.Transfers.{noted}
@@ -102,7 +103,7 @@ module _ (host : Host) (sizes : List ℕ) (ready : IsReady host sizes) (memory :
   alone_of : (lg : Log) → IsLog host.drives lg → IsNewestWritten lg newest.mark newest.table → Alone host.drives (MakeStripe volume slice) newest.table table made lg
   alone_of lg is newest_is = record {
     some = subst log.IsBegun (sym newest_is.newest.family) tt;
-    each = λ v found. ap (λ (w : Version). w.table) (only_found newest_is.newest.version newest_is.newest.older v (subst log.IsRising newest_is.newest.family is.rising) newest_is.written (subst (λ (f : List Version). MayBeFound f v) newest_is.newest.family found)) ∙ newest_is.newest.same;
+    each = λ v found. inl (ap (λ (w : Version). w.table) (only_found newest_is.newest.version newest_is.newest.older v (subst log.IsRising newest_is.newest.family is.rising) newest_is.written (subst (λ (f : List Version). MayBeFound f v) newest_is.newest.family found)) ∙ newest_is.newest.same);
   }
 
   module _ (t : Tale) (h : History) (known : IsKnown host memory h t) where
@@ -118,7 +119,7 @@ module _ (host : Host) (sizes : List ℕ) (ready : IsReady host sizes) (memory :
     -- no table that a boot may find has the volume
     unnamed : (w : Map) → IsNamed host.drives h.databases key volume w → ⊥
     unnamed w named =
-        let lies = subst (λ (x : Table). IsMapOf host.drives x volume w) (alone.each named.version named.found) named.map in
+        let lies = map_was host.drives newest.table named.version.table volume w (alone.each named.version named.found) named.map in
         never_old volume w lies refl
 
     abbrev begins : Event
@@ -225,8 +226,8 @@ module _ (host : Host) (sizes : List ℕ) (ready : IsReady host sizes) (memory :
       grown_stands = subst (λ (k : History). Stands host.drives k t) (sym grows.is) grows.happens.stands
 
       -- then the table may be written
-      pub ready_grown : (other : Table) → other ≡ table → IsTableReady host.drives g key t other
-      ready_grown other same = subst (λ (x : Table). IsTableReady host.drives g key t x) (sym same) (record {
+      pub ready_grown : (other : Table) → IsSameOrSettled table other → IsTableReady host.drives g key t other
+      ready_grown other same = ready_more host.drives g key t table other same (record {
         laid = laid;
         apart = λ k number beside v w differ lies named. absurd (own_alone host memory.begun h known.its k beside w differ (subst (λ (ds : List Database). IsNamed host.drives ds k beside w) grows.databases named));
         follows = λ number w lies. by number w lies (tables_lie.made host.drives newest.table table volume slice number w made.0 lies);
@@ -250,5 +251,5 @@ module _ (host : Host) (sizes : List ℕ) (ready : IsReady host sizes) (memory :
             let maps : w ≡ map = sym (laid.one volume map w new_run.lies here) in
             ap (λ (n : VolId). g.woken key n) same_number ∙ grows.own (subst (λ (v : Map). IsUpon (is_up memory) v) maps upon) ∙ ap (λ (v : Map). v.blocks) (sym maps)
 
-    pub only_asked : (es : List log.Event) → log.IsCourse host.drives (log_of h.databases key) es → IsPart (log.begun_by es) (Some (MakeStripe volume slice) ∷ []) → (other : Table) → IsAsked es other → other ≡ table
+    pub only_asked : (es : List log.Event) → log.IsCourse host.drives (log_of h.databases key) es → IsPart (log.begun_by es) (Some (MakeStripe volume slice) ∷ []) → (other : Table) → IsAsked es other → IsSameOrSettled table other
     only_asked es course within other asked = asked_is host.drives (MakeStripe volume slice) newest.table table made (log_of h.databases key) es is_log alone course within other asked

@@ -1,11 +1,12 @@
 -- What a line leaves in memory and on the drive, where it did what was asked.
 use Rattle.std.proofs.Common.{◌≡◌, ⊎_elim, inl, inr, ◌+◌, ◌-◌, ℕ, suc, List, [], ◌∷◌, length, slice_index_or, Some, refl, sym, ◌∙◌, ap, arith}
-use Rattle.mdv_engine_law.specs.Below.{Area, DriveBlock, Geometry, HasNoTable, Identity, IsOpenedAt, IsSettled, KeptOutside, Opened, Settling, SliceLine, Table, Tale, active_of, last, nowhere, seats_area, values_reply}
+use Rattle.mdv_engine_law.specs.Below.{Area, DriveBlock, Geometry, HasNoTable, Identity, IsOpenedAt, IsSettled, KeptOutside, Opened, Settling, SliceLine, Table, Tale, last, nowhere, seats_area, values_reply}
 use Rattle.mdv_shelf.specs.Failing.{Outcomes}
 use Rattle.mdv_standing.specs.Creating.{first_mark}
 use Rattle.mdv_store.specs.Commit as commit
 use Rattle.mdv_store.specs.Create as create
 use Rattle.mdv_store.specs.Create.{drives_asked}
+use Rattle.mdv_store.specs.Opened.{shortage}
 use Rattle.mdv_store.specs.Seats.{AreTheirs, drives_of}
 use Rattle.mdv_shelf.specs.Calls.{Shows}
 use Rattle.mdv_shelf.proofs.Settled.{covered}
@@ -87,10 +88,10 @@ module _ (host : Host) (memory next : Memory) (t u : Tale) where
   }
 
   -- and a change that does
-  pub leaves_table : (calls : Outcomes) (o new : Opened) (table : Table) → memory.opened ≡ Some o → commit.IsLostNow calls o new table → AreCalmBeside (drives_of o.seats) calls → KeptOutside (seats_area o.seats) t u
-      → IsOpenedAt host.drives (record new { mark = commit.next_mark o.mark; table = table }) u → LeavesTable calls host o table (active_of new.seats) (length new.seats) (kept_at memory t) (kept_at next u)
-  leaves_table calls o new table is lost calm kept opened = record {
-    lost = record { new = new; calm = calm; lost = lost; active_is = refl; listed_is = refl };
+  pub leaves_table : (calls : Outcomes) (o new : Opened) (table : Table) (active listed : ℕ) → memory.opened ≡ Some o → commit.IsLostNow calls o new table → shortage new ≡ Some (record { active = active; listed = listed }) → AreCalmBeside (drives_of o.seats) calls → KeptOutside (seats_area o.seats) t u
+      → IsOpenedAt host.drives (record new { mark = commit.next_mark o.mark; table = table }) u → LeavesTable calls host o table active listed (kept_at memory t) (kept_at next u)
+  leaves_table calls o new table active listed is lost few calm kept opened = record {
+    lost = record { new = new; calm = calm; lost = lost; few = few };
     left = open_on host.drives (record new { mark = commit.next_mark o.mark; table = table }) u opened;
     beside = same_beside (opened_area memory.opened) t u (opened_kept t u memory.opened o is kept);
   }

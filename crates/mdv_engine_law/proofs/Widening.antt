@@ -69,7 +69,7 @@ module _ (failed more : Outcomes) (cause : AreWithin failed more) where
     unmade_more is = record { drive = is.drive; one_of = is.one_of; here = (cause is.drive.0).some is.here; elsewhere = λ other differs. (cause other.0).none (is.elsewhere other differs) }
 
     pub lost_more : (active listed : ℕ) → create.IsLost failed key identity lines count blocks active listed → create.IsLost more key identity lines count blocks active listed
-    lost_more active listed is = record { now = is.now; tried = left_more _ _ _ is.tried; few = is.few; active_is = is.active_is; listed_is = is.listed_is }
+    lost_more active listed is = record { now = is.now; tried = left_more _ _ _ is.tried; few = is.few }
 
   -- and a commit
   module _ (old new : Opened) (table : Table) where
@@ -80,10 +80,10 @@ module _ (failed more : Outcomes) (cause : AreWithin failed more) where
     committed_more is = record { tried = tried_more is.tried; enough = is.enough; is = is.is }
 
     pub now_more : commit.IsLostNow failed old new table → commit.IsLostNow more old new table
-    now_more is = record { tried = tried_more is.tried; few = is.few; is = is.is }
+    now_more is = record { tried = tried_more is.tried; is = is.is }
 
   pub lost_commit_more : (old : Opened) (table : Table) (active listed : ℕ) → IsLostCommit failed old table active listed → IsLostCommit more old table active listed
-  lost_commit_more old table active listed is = record { new = is.new; calm = beside_more _ is.calm; lost = now_more old is.new table is.lost; active_is = is.active_is; listed_is = is.listed_is }
+  lost_commit_more old table active listed is = record { new = is.new; calm = beside_more _ is.calm; lost = now_more old is.new table is.lost; few = is.few }
 
   -- and a boot's end
   pub end_more : (One Other : _ → Table → Type 0) → ((hand : _) (table : Table) → One hand table → Other hand table) → (site : Site) (survey : Survey) (e : BootEnd) → IsEndBy failed One site survey e → IsEndBy more Other site survey e
@@ -92,7 +92,7 @@ module _ (failed more : Outcomes) (cause : AreWithin failed more) where
   end_more One Other so site survey (end.TwoDatabases a b) is = is
   end_more One Other so site survey (end.NoQuorum readable needed) is = is
   end_more One Other so site survey (end.Lost active listed) is =
-      record { newest = is.newest; replica = is.replica; seats = is.seats; number = is.number; drawn = is.drawn; now = is.now; written = written_more One Other so _ _ _ _ is.written; left = left_more _ _ _ is.left; few = is.few; active_is = is.active_is; listed_is = is.listed_is }
+      record { newest = is.newest; replica = is.replica; seats = is.seats; number = is.number; drawn = is.drawn; now = is.now; written = written_more One Other so _ _ _ _ is.written; left = left_more _ _ _ is.left; few = is.few }
   end_more One Other so site survey end.Spent is = is
   end_more One Other so site survey end.Memory is = is
 

@@ -5,7 +5,8 @@ use Rattle.mdv_standing.specs.Creating.{first_mark}
 use Rattle.mdv_store.specs.Commit as commit
 use Rattle.mdv_store.specs.Create as create
 use Rattle.mdv_store.specs.Create.{drives_asked}
-use Rattle.mdv_store.specs.Seats.{active_of, drives_of}
+use Rattle.mdv_store.specs.Opened.{shortage}
+use Rattle.mdv_store.specs.Seats.{drives_of}
 use Rattle.mdv_tab.specs.Text.{IsFaultOf}
 use Rattle.mdv_tab.specs.declared.read.TabFault.TheVariants as fault
 use Rattle.mdv_table.specs.Change.{table_after}
@@ -50,13 +51,12 @@ pub record FailedBlocks (calls : Outcomes) (host : Host) (memory : Memory) (volu
   pub there : AreBlocksAt host memory volume at count place
   pub failed : FailedOn place.drive calls
 
--- places of the open database were lost, so that fewer than half of them took the table; no call failed beside their drives
+-- places of the open database were lost, so that of a list, the first one of which that is so, fewer than half took the table; no call failed beside their drives
 pub record IsLostCommit (calls : Outcomes) (old : Opened) (table : Table) (active listed : ℕ) : Type 0 where
   pub new : Opened
   pub calm : AreCalmBeside (drives_of old.seats) calls
   pub lost : commit.IsLostNow calls old new table
-  pub active_is : active ≡ active_of new.seats
-  pub listed_is : listed ≡ length new.seats
+  pub few : shortage new ≡ Some (record { active = active; listed = listed })
 
 -- Why a command is answered as it is, whatever is known of the drives' blocks: a transfer is done where no call failed, and tells one on the drive of its blocks; a creation tells one that failed in its formats, and ends the run where too few
 -- places took its table, as a change does, and neither has a call that failed on a drive beside those of its places; a print makes no call.

@@ -4,9 +4,8 @@ use Rattle.std.proofs.lemmas.List.Elements.{All-map}
 use Rattle.std.proofs.lemmas.List.Folds.{flat_map-map}
 use Rattle.std.specs.List.{All, find, flat_map}
 use Rattle.mdv_base.specs.declared.name.Named.TheVariants.{Volume as NamedVolume, Pool as NamedPool}
-use Rattle.mdv_base.specs.declared.name.VolId.{VolId}
 use Rattle.mdv_plan.specs.Named.{base_below, kind_below}
-use Rattle.mdv_print.specs.Order.{uppermost, volume_of, with_below}
+use Rattle.mdv_print.specs.Order.{uppermost, with_below}
 use Rattle.mdv_print.specs.Text.{named_text, volume_line}
 use Rattle.mdv_table.specs.Volumes.{IsVolumes}
 use Rattle.mdv_listing.specs.Below.{Base, Named, Plan, Slice, Stripe, Volume, VolumeKind, WholeVolume, names_text}

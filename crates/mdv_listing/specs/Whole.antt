@@ -1,6 +1,6 @@
 -- A plan of volumes on one slice each, as a plan of volumes of all kinds.
 use Rattle.std.specs.Prelude.{None, [], ◌∷◌, map}
-use Rattle.mdv_listing.specs.Below.{Base, Component, OneStripe, Plan, Slice, Stripe, Volume, VolumeKind, WholeBase, WholeComponent, WholeKind, WholeOne, WholePlan, WholeRow, WholeSlice, WholeStripe, WholeVolume, no_set, places_of}
+use Rattle.mdv_listing.specs.Below.{Base, Component, Lists, One, OneStripe, Plan, Slice, Stripe, Two, Volume, VolumeKind, WholeBase, WholeComponent, WholeKind, WholeLists, WholeOne, WholePlan, WholeRow, WholeSlice, WholeStripe, WholeTwo, WholeVolume, no_set}
 
 abbrev pub whole_base : Base → WholeBase
 whole_base (Slice s) = WholeSlice s
@@ -19,6 +19,11 @@ whole_kind (Stripe s) = WholeStripe (record { rows = whole_row s ∷ []; spares 
 abbrev pub whole_volume : Volume → WholeVolume
 whole_volume v = record { number = v.number; kind = whole_kind v.kind }
 
+-- the same places
+abbrev pub whole_lists : Lists → WholeLists
+whole_lists (One places) = WholeOne places
+whole_lists (Two old new) = WholeTwo old new
+
 -- the same places and volumes, and nothing else
 abbrev pub whole_of : Plan → WholePlan
-whole_of p = record { lists = WholeOne (places_of p.lists); set = no_set; pending = []; pools = []; volumes = map whole_volume p.volumes }
+whole_of p = record { lists = whole_lists p.lists; set = no_set; pending = []; pools = []; volumes = map whole_volume p.volumes }

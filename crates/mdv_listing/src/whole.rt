@@ -1,30 +1,40 @@
 //! The table in the form of tables of all kinds of volumes.
-ghost use Rattle.std.specs.Prelude.{◌≡◌, ◌≤◌, length, map, IfOk};
-ghost use Rattle.mdv_listing.specs.Whole.{whole_base, whole_component, whole_kind, whole_of, whole_row, whole_volume};
+ghost use Rattle.std.specs.Prelude.{◌≡◌, map, IfOk};
+ghost use Rattle.mdv_listing.specs.Whole.{whole_base, whole_component, whole_kind, whole_lists, whole_of, whole_row, whole_volume};
 
-use mdv_base::{Place, Places};
+use mdv_base::Places;
 use mdv_plan::{
-    Base as WholeBase, Component as WholeComponent, Listed, Row, Sorted, Stripe as WholeStripe,
-    Table as WholeTable, Volume as WholeVolume, VolumeKind as WholeKind,
+    Base as WholeBase, Component as WholeComponent, Listed, Lists as WholeLists, Row, Sorted,
+    Stripe as WholeStripe, Table as WholeTable, Volume as WholeVolume, VolumeKind as WholeKind,
 };
-use mdv_table::{Base, Component, Stripe, Table, Volume, VolumeKind};
+use mdv_table::{Base, Component, Lists, Stripe, Table, Volume, VolumeKind};
 use std::alloc::{AllocError, Global};
 
 pub(crate) fn whole_table(alloc: Global, table: &Table) -> Result<WholeTable, AllocError>
     ensures { IfOk result (λ whole. whole.plan ≡ whole_of table.now.plan) }
 {
     let volumes = whole_volumes(alloc, table.plan.volumes.as_slice())?;
-    let mut whole = WholeTable::empty(alloc, copy_of(table.plan.lists.places()));
+    let mut whole = WholeTable::empty(alloc, Places::new());
+    whole.plan.lists = whole_lists(&table.plan.lists);
     whole.plan.volumes = Sorted::from_ascending(volumes);
     Ok(whole)
 }
 
-fn copy_of(places: &[Place]) -> Places
-    requires { length places.now ≤ 50 }
+fn whole_lists(lists: &Lists) -> WholeLists
+    ensures { result ≡ whole_lists lists.now }
+{
+    match lists {
+        Lists::One(places) => WholeLists::One(copy_of(places)),
+        Lists::Two(old, new) => WholeLists::Two(copy_of(old), copy_of(new)),
+    }
+}
+
+fn copy_of(places: &Places) -> Places
     ensures { result ≡ places.now }
 {
+    let _few = places.is_full();
     let mut copy = Places::new();
-    for place in places {
+    for place in places.as_slice() {
         copy.push(*place);
     }
     copy

@@ -19,8 +19,9 @@ use Rattle.mdv_record.proofs.Composing.{IsCode, code_pair, code_made}
 use Rattle.mdv_record.proofs.Counted.{places_text-counted, volumes_text-counted}
 use Rattle.mdv_record.proofs.Fields.{same_fronts, same_slice}
 use Rattle.mdv_record.proofs.Fitting.{plan_fits}
+use Rattle.mdv_record.proofs.Listing.{code_lists_of}
 use Rattle.mdv_record.proofs.Lists.{code_parts}
-use Rattle.mdv_record.proofs.Parts.{place_parts, lists_parts, base_parts, component_parts, stripe_parts, kind_parts, volume_parts, front_parts}
+use Rattle.mdv_record.proofs.Parts.{place_parts, base_parts, component_parts, stripe_parts, kind_parts, volume_parts, front_parts}
 use Rattle.mdv_record.proofs.Records.{front_of, fits_front, record_text-front}
 
 code_slice : IsCode FitsSlice slice_text
@@ -58,7 +59,7 @@ code_places = record {
 }
 
 code_lists : IsCode FitsLists lists_text
-code_lists = code_made lists_parts (code_pair (code_known (1 ∷ [])) code_places)
+code_lists = code_lists_of code_places
 
 code_base : IsCode FitsBase base_text
 code_base = code_made base_parts (code_pair (code_known (0 ∷ [])) code_slice)

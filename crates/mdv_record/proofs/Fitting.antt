@@ -1,8 +1,8 @@
 -- What a table of a geometry says fits the fields of a record.
-use Rattle.std.proofs.Common.{◌<◌, ◌^◌, get_or, arith}
+use Rattle.std.proofs.Common.{◌<◌, ◌^◌, List, get_or, arith}
 use Rattle.std.proofs.lemmas.List.Elements.{All-weaker}
-use Rattle.mdv_record.specs.Below.{SliceName, Place, Geometry, SliceAt, HasSlice, Lists, One, Plan, Base, Slice, Component, VolumeKind, Stripe, IsSound, IsPlanOf, IsListsOf, IsPlaceOf, IsKindOf, IsComponentOn}
-use Rattle.mdv_record.specs.Fits.{FitsSlice, FitsPlace, FitsLists, FitsBase, FitsKind, FitsPlan}
+use Rattle.mdv_record.specs.Below.{SliceName, Place, Geometry, SliceAt, HasSlice, Lists, One, Two, Plan, Base, Slice, Component, VolumeKind, Stripe, IsSound, IsPlanOf, IsListsOf, IsPlacesOf, IsPlaceOf, IsKindOf, IsComponentOn}
+use Rattle.mdv_record.specs.Fits.{FitsSlice, FitsPlace, FitsPlaces, FitsLists, FitsBase, FitsKind, FitsPlan}
 
 module _ (g : Geometry) (sound : IsSound g) where
   slice_fits : (s : SliceName) (at : SliceAt) → HasSlice g.slices s at → FitsSlice s
@@ -13,8 +13,12 @@ module _ (g : Geometry) (sound : IsSound g) where
   place_fits : (p : Place) → IsPlaceOf g p → FitsPlace p
   place_fits p is = record { slice = slice_fits p.slice is.at is.has; start = is.lies.start; blocks = omega (arith, is.lies.most) }
 
+  places_fit : (places : List Place) → IsPlacesOf g places → FitsPlaces places
+  places_fit places is = record { few = is.few; each = All-weaker (IsPlaceOf g) FitsPlace place_fits places is.each }
+
   lists_fit : (l : Lists) → IsListsOf g l → FitsLists l
-  lists_fit (One places) is = record { few = is.few; each = All-weaker (IsPlaceOf g) FitsPlace place_fits places is.each }
+  lists_fit (One places) is = places_fit places is
+  lists_fit (Two old new) is = (places_fit old is.0, places_fit new is.1)
 
   base_fits : (c : Component) (b : Base) → IsComponentOn g c b → FitsBase b
   base_fits c (Slice s) is = slice_fits s is.at is.has

@@ -4,7 +4,7 @@ use Rattle.std.proofs.lemmas.List.{length-append, take-append-drop, take_more, a
 use Rattle.std.proofs.lemmas.List.Concat.{flat_map-append}
 use Rattle.std.specs.Prelude.{flat_map, codes}
 use Rattle.byteorder.specs.Endian.{big_bytes}
-use Rattle.mdv_record.specs.Below.{SliceName, Place, Lists, One, Base, Slice, Component, Volume, VolumeKind, Stripe, places_of, Table}
+use Rattle.mdv_record.specs.Below.{SliceName, Place, Lists, One, Two, Base, Slice, Component, Volume, VolumeKind, Stripe, Table}
 use Rattle.mdv_table.specs.declared.volume.Stripe.{Stripe as OneStripe}
 use Rattle.mdv_record.specs.Text.{empty_parts, slice_text, place_text, places_text, lists_text, base_text, component_text, stripe_text, kind_text, volume_text, volumes_text, plan_text, record_text}
 
@@ -45,9 +45,15 @@ pub length-places_text : (places : List Place) → length (places_text places) �
 unfolding places_text
 length-places_text places = omega (arith, length-flat_map_of place_text 12 length-place_text places)
 
-pub length-lists_text : (l : Lists) → length (lists_text l) ≡ 2 + 12 * length (places_of l)
+-- how many bytes lists have
+abbrev pub lists_size : Lists → ℕ
+lists_size (One places) = 2 + 12 * length places
+lists_size (Two old new) = 3 + 12 * (length old + length new)
+
+pub length-lists_text : (l : Lists) → length (lists_text l) ≡ lists_size l
 unfolding lists_text
 length-lists_text (One places) = omega (arith, length-places_text places)
+length-lists_text (Two old new) = omega (arith, length-append (places_text old) (places_text new), length-places_text old, length-places_text new)
 
 pub length-volumes_text : (vs : List Volume) → length (volumes_text vs) ≡ 2 + length (flat_map volume_text vs)
 unfolding volumes_text
@@ -76,10 +82,6 @@ parts_fit text xs i d within =
 pub parts_fit_of : {A : Type 0} (text : A → List ℕ) (size : ℕ) → ((a : A) → length (text a) ≡ size) → (xs : List A) (i : ℕ) → i < length xs → length (flat_map text (take i xs)) + size ≤ length (flat_map text xs)
 parts_fit_of text size each [] i within = absurd (omega arith)
 parts_fit_of text size each (x ∷ xs) i within = omega (arith, parts_fit text (x ∷ xs) i x within, each (get_or (x ∷ xs) i x))
-
-pub lists_text-places : (l : Lists) → lists_text l ≡ 1 ∷ places_text (places_of l)
-unfolding lists_text
-lists_text-places (One places) = refl
 
 pub length-record_text : (t : Table) → length (record_text t) ≡ 20 + length (lists_text t.plan.lists) + length (volumes_text t.plan.volumes)
 unfolding record_text plan_text

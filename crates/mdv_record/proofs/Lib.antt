@@ -5,9 +5,11 @@ pub mod Fields
 pub mod Fitting
 pub mod Laying
 pub mod Lengths
+pub mod Listing
 pub mod Lists
 pub mod Parsed
 pub mod Parts
 pub mod Records
 pub mod Rooms
+pub mod Settling
 pub mod Volumes

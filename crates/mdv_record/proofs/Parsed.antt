@@ -9,14 +9,14 @@ use Rattle.std.specs.Prelude.{◌↔◌, ◌&&◌, if◌then◌else◌, nat_le, 
 use Rattle.std.specs.Str.{bytes_eq}
 use Rattle.byteorder.specs.Endian.{big_bytes, big_number}
 use Rattle.byteorder.specs.Numbers.{big_number-reads_back}
-use Rattle.mdv_record.specs.Below.{Geometry, SliceName, Place, Lists, One, Table, Base, Slice, Component, Volume, VolumeKind, Stripe, IsSound, is_of_geometry, places_of}
+use Rattle.mdv_record.specs.Below.{Geometry, SliceName, Place, Lists, One, Two, Table, Base, Slice, Component, Volume, VolumeKind, Stripe, IsSound, is_of_geometry, places_of}
 use Rattle.mdv_table.specs.declared.volume.Stripe.{Stripe as OneStripe}
 use Rattle.mdv_table.proofs.Ascending.{few}
 use Rattle.mdv_table.proofs.Testing.{is_of_geometry-true}
 use Rattle.mdv_record.specs.declared.record.RecordError.{RecordError}
 use Rattle.mdv_record.specs.declared.record.RecordError.TheVariants.{NotARecord}
-use Rattle.mdv_record.specs.Fits.{FitsPlace, FitsLists, FitsComponent, FitsStripe, FitsKind, FitsVolume, FitsVolumes, FitsPlan}
-use Rattle.mdv_record.specs.Parsing.{slice_from, place_from, many_from, base_from, component_from, stripe_from, kind_from, volume_from, volumes_from, table_from, read_of, IsTextOf}
+use Rattle.mdv_record.specs.Fits.{FitsPlace, FitsPlaces, FitsLists, FitsComponent, FitsStripe, FitsKind, FitsVolume, FitsVolumes, FitsPlan}
+use Rattle.mdv_record.specs.Parsing.{slice_from, place_from, many_from, base_from, component_from, stripe_from, kind_from, volume_from, volumes_from, places_from, behind_places, lists_from, behind_lists, table_from, read_of, IsTextOf}
 use Rattle.mdv_record.specs.Record.{IsDecoded, IsRecordOf}
 use Rattle.mdv_record.specs.Room.{least_slot_bytes}
 use Rattle.mdv_record.specs.Text.{slice_text, place_text, places_text, lists_text, empty_parts, base_text, quiet_state, component_text, stripe_text, kind_text, volume_text, volumes_text, plan_text, record_text}
@@ -90,14 +90,32 @@ volumes_read vs fits =
     ∙ ap (many_from volume_from 50 (length vs)) (sym (append-nil (flat_map volume_text vs)))
     ∙ many_read volume_text volume_from 50 length-volume_text volume_read vs [] fits.each
 
+-- one list, and what stands behind it
+places_read : (ps : List Place) (rest : List ℕ) → FitsPlaces ps → (places_from (places_text ps ++ rest) ≡ ps) × (behind_places (places_text ps ++ rest) ≡ rest)
+unfolding places_text
+places_read ps rest fits = (
+  many_read place_text place_from 12 length-place_text place_read ps rest fits.each,
+  behind (12 * length ps) (flat_map place_text ps) rest (length-flat_map_of place_text 12 length-place_text ps),
+)
+
+lists_read : (l : Lists) (rest : List ℕ) → FitsLists l → (lists_from (lists_text l ++ rest) ≡ l) × (behind_lists (lists_text l ++ rest) ≡ rest)
+unfolding lists_text
+lists_read (One ps) rest fits = let read = places_read ps rest fits in (ap One read.0, read.1)
+lists_read (Two ps qs) rest fits =
+    let whole = append_assoc (places_text ps) (places_text qs) rest in
+    let first = places_read ps (places_text qs ++ rest) fits.0 in
+    let second = places_read qs rest fits.1 in
+    let far = ap behind_places whole ∙ first.1 in
+    let old = ap places_from whole ∙ first.0 in
+    let new = ap places_from far ∙ second.0 in
+    (λ i. Two (old i) (new i), ap behind_places far ∙ second.1)
+
 parts_read : (l : Lists) (vs : List Volume) → FitsLists l → FitsVolumes vs → table_from (record_text (table_of l vs)) ≡ table_of l vs
-unfolding table_from record_text plan_text lists_text places_text
-parts_read (One places) vs fits also =
-    let rest = empty_parts ++ volumes_text vs in
-    let listed = many_read place_text place_from 12 length-place_text place_read places rest fits.each in
-    let far = behind (12 * length places) (flat_map place_text places) rest (length-flat_map_of place_text 12 length-place_text places) in
-    let volumes = ap (λ (l : List ℕ). volumes_from (drop 8 l)) far ∙ volumes_read vs also in
-    λ i. table_of (One (listed i)) (volumes i)
+unfolding table_from record_text plan_text
+parts_read l vs fits also =
+    let read = lists_read l (empty_parts ++ volumes_text vs) fits in
+    let volumes = ap (λ (l : List ℕ). volumes_from (drop 8 l)) read.1 ∙ volumes_read vs also in
+    λ i. table_of (read.0 i) (volumes i)
 
 table_read : (t : Table) → FitsPlan t.plan → table_from (record_text t) ≡ t
 table_read t fits = parts_read t.plan.lists t.plan.volumes fits.lists fits.volumes

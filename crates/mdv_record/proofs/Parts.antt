@@ -1,12 +1,12 @@
 -- The parts of which each text is made, in order.
-use Rattle.std.proofs.Common.{◌≡◌, ◌<◌, ◌^◌, ℕ, refl, List, [], ◌∷◌, codes}
+use Rattle.std.proofs.Common.{◌≡◌, ◌<◌, ◌^◌, ℕ, refl, [], ◌∷◌, codes}
 use Rattle.byteorder.specs.Endian.{big_bytes}
-use Rattle.mdv_record.specs.Below.{SliceName, Place, Lists, One, Base, Slice, Component, Volume, VolumeKind, Stripe}
+use Rattle.mdv_record.specs.Below.{SliceName, Place, Lists, Base, Slice, Component, Volume, VolumeKind, Stripe}
 use Rattle.mdv_table.specs.declared.volume.Stripe.{Stripe as OneStripe}
 use Rattle.mdv_record.specs.declared.decoding.Front.{Front}
-use Rattle.mdv_record.specs.Fits.{FitsSlice, FitsPlace, FitsPlaces, FitsLists, FitsBase, FitsComponent, FitsStripe, FitsKind, FitsVolume}
+use Rattle.mdv_record.specs.Fits.{FitsSlice, FitsPlace, FitsLists, FitsBase, FitsComponent, FitsStripe, FitsKind, FitsVolume}
 use Rattle.mdv_record.specs.Reading.{Always, known_text}
-use Rattle.mdv_record.specs.Text.{slice_text, place_text, places_text, lists_text, empty_parts, base_text, quiet_state, component_text, stripe_head, stripe_text, kind_text, volume_text}
+use Rattle.mdv_record.specs.Text.{slice_text, place_text, lists_text, empty_parts, base_text, quiet_state, component_text, stripe_head, stripe_text, kind_text, volume_text}
 use Rattle.mdv_record.specs.Whole.{FitsFront, front_text}
 use Rattle.mdv_record.proofs.Composing.{PairFits, pair_text, IsMadeOf}
 
@@ -33,28 +33,6 @@ place_parts = record {
   parts_fit = λ w fits. record { first = fits.slice; second = record { first = fits.start; second = fits.blocks } };
   text = λ w. refl;
 }
-
-abbrev pub lists_of : Unit {0} × List Place → Lists
-lists_of p = One p.1
-
-lists_parts_of : Lists → Unit {0} × List Place
-lists_parts_of (One places) = (tt, places)
-
-lists_whole : (l : Lists) → lists_of (lists_parts_of l) ≡ l
-unfolding lists_parts_of
-lists_whole (One places) = refl
-
-lists_fit : (l : Lists) → FitsLists l → PairFits Always FitsPlaces (lists_parts_of l)
-unfolding lists_parts_of
-lists_fit (One places) fits = record { first = tt; second = fits }
-
-lists_spelled : (l : Lists) → lists_text l ≡ pair_text (known_text (1 ∷ [])) places_text (lists_parts_of l)
-unfolding lists_parts_of lists_text pair_text known_text
-lists_spelled (One places) = refl
-
-pub lists_parts : IsMadeOf (PairFits Always FitsPlaces) (pair_text (known_text (1 ∷ [])) places_text) FitsLists lists_text lists_of
-unfolding lists_parts_of
-lists_parts = record { parts = lists_parts_of; whole = lists_whole; again = λ p. refl; fits = λ p fits. fits.second; parts_fit = lists_fit; text = lists_spelled }
 
 abbrev pub base_of : Unit {0} × SliceName → Base
 base_of p = Slice p.1

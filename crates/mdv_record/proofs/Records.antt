@@ -2,7 +2,7 @@
 use Rattle.std.proofs.Common.{◌≡◌, ◌<◌, ◌≤◌, ◌+◌, ◌^◌, ℕ, refl, sym, ◌∙◌, ap, List, [], ◌++◌, append_assoc, length, None, Some, Result, Ok, Err, MatchResult, IsErr, arith, codes}
 use Rattle.std.proofs.lemmas.List.{append-nil, length-append}
 use Rattle.byteorder.specs.Endian.{big_bytes}
-use Rattle.mdv_record.specs.Below.{Lists, One, Table, Volume, places_of}
+use Rattle.mdv_record.specs.Below.{Lists, One, Two, Table, Volume}
 use Rattle.mdv_table.proofs.Ascending.{few}
 use Rattle.mdv_record.specs.declared.decoding.Front.{Front}
 use Rattle.mdv_record.specs.declared.record.RecordError.{RecordError}
@@ -25,13 +25,14 @@ record_text-front t =
     sym (record_text-parts t size t.plan.volumes refl refl)
     ∙ ap (λ (l : List ℕ). codes "MDVREC01" ++ (big_bytes 4 size ++ l)) (sym (append_assoc (lists_text t.plan.lists) empty_parts (volumes_text t.plan.volumes)))
 
-few_places : (l : Lists) → FitsLists l → length (places_of l) ≤ 50
-few_places (One places) fits = fits.few
+short_lists : (l : Lists) → FitsLists l → length (lists_text l) ≤ 1203
+short_lists (One places) fits = omega (arith, length-lists_text (One places), fits.few)
+short_lists (Two old new) fits = omega (arith, length-lists_text (Two old new), fits.0.few, fits.1.few)
 
 -- a record is short enough for its length
 pub short_record : (t : Table) → FitsPlan t.plan → length (record_text t) < 2 ^ 32
 short_record t fits =
-    omega (arith, length-record_text t, length-lists_text t.plan.lists, few_places t.plan.lists fits.lists, length-volumes_text t.plan.volumes, length-parts t.plan.volumes, few t.plan.volumes fits.volumes.numbers)
+    omega (arith, length-record_text t, short_lists t.plan.lists fits.lists, length-volumes_text t.plan.volumes, length-parts t.plan.volumes, few t.plan.volumes fits.volumes.numbers)
 
 pub fits_front : (t : Table) → FitsPlan t.plan → FitsFront (front_of t)
 fits_front t fits = record { bytes = short_record t fits; lists = fits.lists }

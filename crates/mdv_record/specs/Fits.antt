@@ -1,6 +1,6 @@
 -- What the fields of a record can hold.
 use Rattle.std.specs.Prelude.{◌<◌, ◌≤◌, ◌^◌, List, length, All}
-use Rattle.mdv_record.specs.Below.{SliceName, Place, Lists, One, Plan, Base, Slice, Component, Volume, VolumeKind, Stripe, IsVolumes}
+use Rattle.mdv_record.specs.Below.{SliceName, Place, Lists, One, Two, Plan, Base, Slice, Component, Volume, VolumeKind, Stripe, IsVolumes}
 use Rattle.mdv_table.specs.declared.volume.Stripe.{Stripe as OneStripe}
 
 pub record FitsSlice (s : SliceName) : Type 0 where
@@ -21,6 +21,7 @@ pub record FitsPlaces (places : List Place) : Type 0 where
 
 abbrev pub FitsLists : Lists → Type 0
 FitsLists (One places) = FitsPlaces places
+FitsLists (Two old new) = FitsPlaces old × FitsPlaces new
 
 abbrev pub FitsBase : Base → Type 0
 FitsBase (Slice s) = FitsSlice s

@@ -1,8 +1,8 @@
 -- The table whose text some bytes are: each part is read from their front, and at the end the text of what was read is held against them.
-use Rattle.std.specs.Prelude.{◌≡◌, ◌*◌, ◌&&◌, ℕ, zero, suc, List, [], ◌∷◌, length, drop, slice_index, nat_le, Option, None, Some, if◌then◌else◌}
+use Rattle.std.specs.Prelude.{◌≡◌, ◌*◌, ◌==◌, ◌&&◌, ℕ, zero, suc, List, [], ◌∷◌, length, drop, slice_index, nat_le, Option, None, Some, if◌then◌else◌}
 use Rattle.std.specs.Str.{bytes_eq}
 use Rattle.byteorder.specs.Endian.{big_number}
-use Rattle.mdv_record.specs.Below.{Geometry, SliceName, Place, One, Table, Base, Slice, Component, Volume, VolumeKind, Stripe, is_of_geometry, places_of}
+use Rattle.mdv_record.specs.Below.{Geometry, SliceName, Place, Lists, One, Two, Table, Base, Slice, Component, Volume, VolumeKind, Stripe, is_of_geometry, places_of}
 use Rattle.mdv_record.specs.Room.{least_slot_bytes}
 use Rattle.mdv_record.specs.Text.{record_text}
 use Rattle.mdv_table.specs.declared.volume.Stripe.{Stripe as OneStripe}
@@ -38,12 +38,30 @@ volume_from bytes = record { number = record { 0 = big_number 2 bytes }; kind = 
 abbrev pub volumes_from : List ℕ → List Volume
 volumes_from bytes = many_from volume_from 50 (big_number 2 bytes) (drop 2 bytes)
 
--- Byte 13 says how many places there are, of 12 bytes each; behind them are the eight empty parts, and the volumes.
+-- a count of one byte, and places of 12 bytes each
+abbrev pub places_from : List ℕ → List Place
+places_from bytes = many_from place_from 12 (slice_index bytes 0) (drop 1 bytes)
+
+-- and what stands behind them
+abbrev pub behind_places : List ℕ → List ℕ
+behind_places bytes = drop (12 * slice_index bytes 0) (drop 1 bytes)
+
+-- a byte says how many lists there are, and each follows
+abbrev pub lists_from : List ℕ → Lists
+lists_from bytes =
+    let first = drop 1 bytes in
+    if slice_index bytes 0 == 2 then Two (places_from first) (places_from (behind_places first)) else One (places_from first)
+
+abbrev pub behind_lists : List ℕ → List ℕ
+behind_lists bytes =
+    let rest = behind_places (drop 1 bytes) in
+    if slice_index bytes 0 == 2 then behind_places rest else rest
+
+-- From byte 12 on there are the lists; behind them are the eight empty parts, and the volumes.
 unfoldable pub table_from : List ℕ → Table
 table_from bytes =
-    let count = slice_index bytes 13 in
-    let places = drop 14 bytes in
-    record { plan = record { lists = One (many_from place_from 12 count places); volumes = volumes_from (drop 8 (drop (12 * count) places)) }; status = record {} }
+    let lists = drop 12 bytes in
+    record { plan = record { lists = lists_from lists; volumes = volumes_from (drop 8 (behind_lists lists)) }; status = record {} }
 
 -- the table of the geometry whose text the bytes are, where there is one and each slot of the places that it lists has room for them
 unfoldable pub read_of : Geometry → List ℕ → Option Table

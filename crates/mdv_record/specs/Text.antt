@@ -1,7 +1,7 @@
 -- The text of a table, part by part. Numbers are big-endian.
 use Rattle.std.specs.Prelude.{ℕ, List, [], ◌∷◌, ◌++◌, ◌+◌, length, replicate, codes, flat_map}
 use Rattle.byteorder.specs.Endian.{big_bytes}
-use Rattle.mdv_record.specs.Below.{SliceName, Place, Lists, One, Plan, Table, Base, Slice, Component, Volume, VolumeKind, Stripe}
+use Rattle.mdv_record.specs.Below.{SliceName, Place, Lists, One, Two, Plan, Table, Base, Slice, Component, Volume, VolumeKind, Stripe}
 use Rattle.mdv_table.specs.declared.volume.Stripe.{Stripe as OneStripe}
 
 unfoldable pub slice_text : SliceName → List ℕ
@@ -18,6 +18,7 @@ places_text places = length places ∷ flat_map place_text places
 -- how many lists, and each
 unfoldable pub lists_text : Lists → List ℕ
 lists_text (One places) = 1 ∷ places_text places
+lists_text (Two old new) = 2 ∷ (places_text old ++ places_text new)
 
 -- The empty parts: of a set no owner, hosts, drives and mediators (1, 1, 2 and 1 bytes), no pending sets
 -- (1 byte) and no pools (2 bytes).

@@ -1,10 +1,11 @@
 ghost use Rattle.std.specs.Prelude.{◌≡◌, ◌+◌, ◌<◌, ◌≤◌, ◌^◌, ◌↔◌, length, IsErr, IfOk, IfErr, OnErr};
 ghost use Rattle.mdv_record.specs.Record.{IsEncoded};
 ghost use Rattle.mdv_record.specs.Spelling.{IsLaid};
-ghost use Rattle.mdv_record.specs.Text.{record_text, lists_text, volume_text, volumes_text};
+ghost use Rattle.mdv_record.specs.Text.{record_text, lists_text, places_text, volume_text, volumes_text};
 
 use crate::record::TooLong;
 use crate::spelling::{EMPTY_PARTS, HEAD, lay, lay_lists, lay_number32, lay_volumes};
+use mdv_base::Places;
 use mdv_table::{Lists, Table, Volume, VolumeKind};
 
 /// Writes the table's text to the front of `out`, and tells how many bytes it has. It takes no memory.
@@ -48,9 +49,21 @@ pub fn text_bytes(table: &Table) -> u64
 #[tactic(auto, using(crate::proofs::Lengths::lengths))]
 fn lists_bytes(lists: &Lists) -> u64
     ensures value { result ≡ length (lists_text lists.now) }
-    ensures short { result ≤ 602 }
+    ensures short { result ≤ 1203 }
 {
-    2 + 12 * lists.places().len() as u64
+    match lists {
+        Lists::One(places) => 1 + places_bytes(places),
+        Lists::Two(old, new) => 1 + places_bytes(old) + places_bytes(new),
+    }
+}
+
+#[tactic(auto, using(crate::proofs::Lengths::lengths))]
+fn places_bytes(places: &Places) -> u64
+    ensures value { result ≡ length (places_text places.now) }
+    ensures short { result ≤ 601 }
+{
+    let _few = places.is_full();
+    1 + 12 * places.as_slice().len() as u64
 }
 
 #[tactic(auto, using(crate::proofs::Lengths::lengths))]

@@ -5,6 +5,7 @@ ghost use Rattle.mdv_record.specs.Parsing.{IsTextOf};
 ghost use Rattle.mdv_record.specs.Record.{IsDecoded, IsRecordOf};
 ghost use Rattle.mdv_record.specs.Text.{record_text};
 ghost use Rattle.mdv_table.specs.declared.table.Table.{Table};
+ghost use Rattle.mdv_table.specs.Plan.{settled};
 ghost use Rattle.mdv_table.specs.Slices.{IsSound};
 ghost use Rattle.mdv_table.specs.Table.{IsOfGeometry};
 
@@ -25,4 +26,11 @@ pub fn reads_what_was_written()
 pub fn texts_are_read()
     ensures { (g : Geometry) (text : List ℕ) (t : Table) → IsSound g →
         IsTextOf g text t ↔ IsRecordOf g text t }
+{}
+
+/// Where the text of a table that changes its places fits all of them, the text of the table once that change is over
+/// fits those that it then lists.
+pub fn settled_fits()
+    ensures { (g : Geometry) (bytes : List ℕ) (t : Table) → IsRecordOf g bytes t →
+        IsRecordOf g (record_text (settled t)) (settled t) }
 {}

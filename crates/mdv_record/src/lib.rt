@@ -12,6 +12,6 @@ mod spelling;
 
 pub use decoding::decode;
 pub use encoding::{encode, text_bytes};
-pub use law::{reads_what_was_written, spells_one_table, texts_are_read};
+pub use law::{reads_what_was_written, settled_fits, spells_one_table, texts_are_read};
 pub use record::{RecordError, TooLong};
 pub use room::least_room;

@@ -70,6 +70,11 @@ pub(crate) fn read_lists(rest: &mut Reader) -> Option<Lists>
 {
     match rest.byte()? {
         1 => Some(Lists::One(read_places(rest)?)),
+        2 => {
+            let old = read_places(rest)?;
+            let new = read_places(rest)?;
+            Some(Lists::Two(old, new))
+        }
         _ => None,
     }
 }

@@ -4,13 +4,24 @@ ghost use Rattle.mdv_record.specs.Below.{places_of};
 ghost use Rattle.mdv_record.specs.Room.{least_room as spec_least_room, least_slot_bytes, slot_room as spec_slot_room};
 
 use mdv_base::{BLOCK_BYTES, Place};
-use mdv_table::Table;
+use mdv_table::{Lists, Table};
 
 // The blocks of a slot of the longest place.
 const MOST_ROOM: usize = 4094;
 
-/// How many blocks the smallest slot of these places has.
-pub fn least_room(places: &[Place]) -> usize
+/// How many blocks the smallest slot of the listed places has.
+pub fn least_room(lists: &Lists) -> usize
+    ensures value { result ≡ spec_least_room (places_of lists.now) }
+    ensures most { result ≤ 4094 }
+{
+    match lists {
+        Lists::One(places) => least_of(places.as_slice()),
+        Lists::Two(old, new) => least_of(old.as_slice()).min(least_of(new.as_slice())),
+    }
+}
+
+// The same of one list.
+fn least_of(places: &[Place]) -> usize
     ensures value { result ≡ spec_least_room places.now }
     ensures most { result ≤ 4094 }
 {
@@ -32,5 +43,5 @@ fn slot_room(blocks: u32) -> usize
 pub(crate) fn has_room(table: &Table, bytes: usize) -> bool
     ensures { IsTrue result ↔ (bytes ≤ least_slot_bytes (places_of table.now.plan.lists)) }
 {
-    bytes <= BLOCK_BYTES * least_room(table.plan.lists.places())
+    bytes <= BLOCK_BYTES * least_room(&table.plan.lists)
 }

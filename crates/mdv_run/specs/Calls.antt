@@ -13,14 +13,14 @@ use Rattle.mdv_words.specs.Line as words
 use Rattle.mdv_run.specs.declared.session.Turn.{Turn}
 use Rattle.mdv_run.specs.declared.session.Turn.TheVariants.{On, Over}
 
--- what a boot takes: two calls for each of the host's own drives, those of its looks, and eight for each of fifty places
+-- what a boot takes: two calls for each of the host's own drives, those of its looks, and eight for each of a hundred places
 abbrev pub boot_calls : Host → ℕ
-boot_calls host = 2 * length host.site.drives + most_reads host.site + 8 * 50
+boot_calls host = 2 * length host.site.drives + most_reads host.site + 8 * 100
 
--- What a command takes: a creation twelve for each place, and two more for each that is blanked before; a change six for each of fifty places; a read one, a write two, and a print none.
+-- What a command takes: a creation twelve for each place, and two more for each that is blanked before; a change six for each of a hundred places; a read one, a write two, and a print none.
 abbrev pub command_calls : Host → Command → ℕ
 command_calls host (Create slices force count blocks) = 2 * blanked_asked (lines_asked host slices) count + 12 * places_on (lines_asked host slices) count
-command_calls host (command.MakeStripe volume slice) = 6 * 50
+command_calls host (command.MakeStripe volume slice) = 6 * 100
 command_calls host (Read volume at count) = 1
 command_calls host (Write volume at block) = 2
 command_calls host (command.Print names) = 0

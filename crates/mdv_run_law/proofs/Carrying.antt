@@ -1,5 +1,5 @@
 -- Where nothing failed and memory wasn't wanting, a line comes to one answer.
-use Rattle.std.proofs.Common.{◌≡◌, inl, inr, ℕ, zero, suc, ◌+◌, ◌*◌, ◌≤◌, ◌<◌, true, false, nat_le, List, [], ◌∷◌, length, map, Option, Some, Contains, refl, sym, ◌∙◌, ap, subst, arith}
+use Rattle.std.proofs.Common.{◌≡◌, inl, inr, ℕ, zero, suc, ◌+◌, ◌*◌, ◌≤◌, ◌<◌, true, false, nat_le, List, [], ◌∷◌, length, map, Option, Some, Contains, refl, sym, ◌∙◌, ap, subst, arith, None}
 use Rattle.std.specs.List.{range_with_len}
 use Rattle.std.specs.Prelude.{IsTrue}
 use Rattle.std.proofs.lemmas.Bool.Decides.{nat_tests}
@@ -32,7 +32,7 @@ use Rattle.mdv_store.specs.Commit.{next_mark}
 use Rattle.mdv_store.specs.Commit as commit
 use Rattle.mdv_store.specs.Create as create
 use Rattle.mdv_store.specs.Create.{seats_asked, table_of}
-use Rattle.mdv_store.specs.Seats.{AreLeft, TakesSlot, active_of, is_half_active, replicas_of, seats_area}
+use Rattle.mdv_store.specs.Seats.{AreLeft, TakesSlot, active_of, replicas_of, seats_area}
 use Rattle.mdv_store.specs.declared.seats.Seat.{Seat}
 use Rattle.mdv_survey.specs.declared.replica.Replica.{Replica}
 use Rattle.mdv_table.specs.Change.{table_after}
@@ -41,9 +41,12 @@ use Rattle.mdv_run_law.specs.Run.{AreOnce, IsAnswered, IsOfTable, IsSaid, IsSame
 use Rattle.mdv_tab.proofs.OneTab.{one_tab, never_bad, never_either, never_many}
 use Rattle.mdv_run_law.proofs.Keeping.{IsHeld, IsSatisfied, One, Same, Settled, boot_same, its_site, ok, plan_of, put_same, same_through, stays_same, there_each, there_settled}
 use Rattle.mdv_run_law.proofs.Moving.{IsAway, IsClear, alike_beside, areas_in_site, one_text}
-use Rattle.mdv_run_law.proofs.Passing.{NoneFailed, left_active, left_count, left_is, seats_with, slotted, slotted_is}
+use Rattle.mdv_run_law.proofs.Passing.{NoneFailed, left_active, left_is, never_short, seats_with, slotted, slotted_is}
 use Rattle.mdv_run_law.proofs.Placing.{one_at, at_beside, opened_twice}
 use Rattle.mdv_run_law.proofs.Written.{alike_behind, have, made, made_beside, written}
+use Rattle.mdv_store.specs.Shares.{short_of}
+use Rattle.mdv_store.specs.declared.seats.Need.TheVariants.{Half}
+use Rattle.mdv_store.proofs.Shares.{half_none}
 
 -- blocks that are the same one by one
 same_blocks : (c d : ℕ → List ℕ) (first count : ℕ) → ((k : ℕ) → k < count → c (first + k) ≡ d (first + k)) → map c (range_with_len first count) ≡ map d (range_with_len first count)
@@ -52,15 +55,6 @@ same_blocks c d first (suc count) same =
     let here : c first ≡ d first = ap c (omega arith) ∙ same 0 (omega arith) ∙ ap d (omega arith) in
     let rest = same_blocks c d (first + 1) count (λ k less. ap c (omega arith) ∙ same (suc k) (omega arith) ∙ ap d (omega arith)) in
     cc (here, rest)
-
--- where none failed as many are active as before, so half of them are
-never_lost : (calls : Outcomes) → NoneFailed calls → (Took : Replica → Replica → Type 0) (old new : List Seat) → AreLeft calls Took old new → IsTrue (is_half_active old) → is_half_active new ≡ false → ⊥
-never_lost calls calm Took old new left half few = by (length old) (length new) (active_of old) (active_of new) (left_count calls calm Took old new left) (left_active calls calm Took old new left) half few where
-  by : (l n a b : ℕ) → n ≡ l → b ≡ a → nat_le l (2 * a) ≡ true → nat_le n (2 * b) ≡ false → ⊥
-  by l n a b counts actives half few = grind (arith, nat_tests)
-
-all_half : (l a : ℕ) → a ≡ l → nat_le l (2 * a) ≡ true
-all_half l a all = grind (arith, nat_tests)
 
 line_of : (slices : List SliceLine) → 1 ≤ length slices → (line : SliceLine) × Contains slices line
 line_of [] some = absurd (omega (arith, some))
@@ -250,11 +244,14 @@ module _ (calls also : Outcomes) (calm : NoneFailed calls) (calm_too : NoneFaile
       never_unmade : (failed : Outcomes) → NoneFailed failed → (identity : Identity) (lines : List SliceLine) (count blocks active listed : ℕ) → create.IsLost failed (key_of host) identity lines count blocks active listed → ⊥
       never_unmade failed quiet identity lines count blocks active listed lost =
           let asked : List Seat = seats_asked (key_of host) identity lines count blocks in
-          never_lost failed quiet _ (seats_asked (key_of host) identity lines count blocks) lost.now lost.tried
-          (all_half (length asked) (active_of asked) (asked_active (key_of host) identity count blocks lines ∙ sym (seats_length (key_of host) identity count blocks lines))) lost.few
+          let all = asked_active (key_of host) identity count blocks lines ∙ sym (seats_length (key_of host) identity count blocks lines) in
+          never_short failed quiet _ Half Half (λ share so. so) (table_of asked).plan.lists asked lost.now (record { active = active; listed = listed }) lost.tried
+          (half_none asked (map (λ (s : Seat). s.place) asked) refl (omega (arith, all))) lost.few
 
       never_uncommitted : (failed : Outcomes) → NoneFailed failed → (o : Opened) (table : Table) (active listed : ℕ) → IsLostCommit failed o table active listed → ⊥
-      never_uncommitted failed quiet o table active listed is = never_lost failed quiet _ o.seats is.new.seats is.lost.tried.left is.lost.tried.half is.lost.few
+      never_uncommitted failed quiet o table active listed is =
+          never_short failed quiet _ Half Half (λ share so. so) o.table.plan.lists o.seats is.new.seats (record { active = active; listed = listed }) is.lost.tried.left is.lost.tried.half
+          (ap (λ (t : Table). short_of Half is.new.seats t.plan.lists) (sym (ap (λ (x : Opened). x.table) is.lost.is)) ∙ is.few)
 
       -- over for want of numbers alone
       over_is : (failed : Outcomes) → NoneFailed failed → (cmd : Command) (end : Ended) (x y : Kept) → GivesUp failed host x cmd end y → end ≡ ended.Spent

@@ -1,7 +1,7 @@
 -- What a boot comes to of which no call failed, where memory wasn't wanting: what it read settles it.
 use Rattle.std.proofs.Common.{◌≡◌, inl, inr, ℕ, suc, ◌+◌, ◌*◌, ◌/◌, ◌≤◌, ◌<◌, ◌^◌, ◌&&◌, not, nat_le, nat_lt, Bool, true, false, cond, List, [], ◌∷◌, Option, None, Some, MatchOption, Contains, length, slice_get, refl, sym, ◌∙◌, ap, subst, arith}
 use Rattle.std.specs.List.{cons_option, find}
-use Rattle.std.proofs.lemmas.Bool.{and_from, and_parts, false≢true}
+use Rattle.std.proofs.lemmas.Bool.{and_from, and_parts, false≢true, ltb-true}
 use Rattle.std.proofs.lemmas.Bool.Decides.{nat_tests}
 use Rattle.std.proofs.lemmas.List.{length-map}
 use Rattle.std.proofs.lemmas.List.Folds.{list_any_at}
@@ -15,7 +15,7 @@ use Rattle.mdv_shelf.specs.Failing.{Outcomes}
 use Rattle.mdv_shown.specs.declared.site.Site.{Site}
 use Rattle.mdv_table.specs.Plan.{places_of}
 use Rattle.mdv_table.specs.declared.plan.Lists.{Lists}
-use Rattle.mdv_table.specs.declared.plan.Lists.TheVariants.{One}
+use Rattle.mdv_table.specs.declared.plan.Lists.TheVariants.{One, Two}
 use Rattle.mdv_table.specs.declared.table.Table.{Table}
 use Rattle.mdv_survey.specs.Choice.{IsChoiceAmong, IsEnough, IsNotEnough, IsTheOne, failing, is_found_at, is_of, is_read, is_there, needed_of, place_of, readable_of, same_identity, same_place, shows_other, shows_table}
 use Rattle.mdv_survey.specs.declared.choosing.Choice.TheVariants as chosen
@@ -23,7 +23,7 @@ use Rattle.mdv_survey.specs.declared.replica.Newest.{Newest}
 use Rattle.mdv_survey.specs.declared.replica.Replica.{Replica}
 use Rattle.mdv_survey.specs.declared.replica.Survey.{Survey}
 use Rattle.mdv_survey.proofs.Identities.{find_some}
-use Rattle.mdv_store.specs.Boot.{IsAdopted, IsEndBy, IsInHand, IsShort, TakesBoth, greatest_number, is_memory, is_seated, seat_for, seats_of}
+use Rattle.mdv_store.specs.Boot.{IsAdopted, IsEndBy, IsInHand, IsShort, TakesBoth, greatest_number, is_memory, is_seated, seat_for, seats_of, need_of}
 use Rattle.mdv_store.specs.Opened.{Opened}
 use Rattle.mdv_store.specs.Seats.{active_of, replicas_of}
 use Rattle.mdv_store.specs.Text.{blocks_for}
@@ -31,27 +31,34 @@ use Rattle.mdv_store.specs.declared.booting.BootEnd.{BootEnd}
 use Rattle.mdv_store.specs.declared.booting.BootEnd.TheVariants as end
 use Rattle.mdv_store.specs.declared.seats.Seat.{Seat}
 use Rattle.mdv_store.proofs.Adoptions.{same_identity_self}
-use Rattle.mdv_run_law.proofs.Passing.{NoneFailed, left_is, never_few, rewritten, rewritten_is, seats_with}
+use Rattle.mdv_run_law.proofs.Passing.{NoneFailed, left_is, never_short, rewritten, rewritten_is, seats_with}
+use Rattle.mdv_store.specs.Shares.{has_active, short_in, short_of}
+use Rattle.mdv_store.specs.declared.seats.Need.TheVariants.{More}
+use Rattle.mdv_store.specs.declared.seats.Share.{Share}
+use Rattle.mdv_store.proofs.Shares.{both_none, list_suffices, more_suffices, seat_at}
+use Rattle.mdv_store.proofs.Seating.{seat_of_replica}
+use Rattle.mdv_databases.proofs.Finding.{count_weaker}
+use Rattle.std.specs.Prelude.{count_by}
 
 abbrev text_blocks : Table → ℕ
 text_blocks table = blocks_for (length (record_text table))
 
 -- step by step, from the replicas that were read and the newest table that they show
-abbrev by_lists : List Replica → Replica → List Seat → Option (List Place) → BootEnd
-by_lists rs r seats None = end.NoQuorum (active_of seats) (length seats / 2 + 1)
-by_lists rs r seats (Some list) = end.NoQuorum (readable_of rs r.head.master.identity list) (needed_of list)
+abbrev by_lists : List Replica → Replica → Share → Option (List Place) → BootEnd
+by_lists rs r share None = end.NoQuorum share.active (share.listed / 2 + 1)
+by_lists rs r share (Some list) = end.NoQuorum (readable_of rs r.head.master.identity list) (needed_of list)
 
 abbrev by_number : Key → Newest → Replica → List Seat → ℕ → Bool → BootEnd
 by_number key newest r seats number false = end.Spent
 by_number key newest r seats number true =
     end.Adopted (record { key = key; identity = r.head.master.identity; mark = record { boot = number; count = 0 }; table = newest.table; seats = seats_with (rewritten number (length (record_text newest.table))) seats })
 
-abbrev by_seats : Key → List Replica → Newest → Replica → List Seat → Bool → BootEnd
-by_seats key rs newest r seats false = by_lists rs r seats (failing rs r.head.master.identity newest.table.plan.lists)
-by_seats key rs newest r seats true = (let number = greatest_number r.head.master.identity rs + 1 in by_number key newest r seats number (nat_lt number (2 ^ 63)))
+abbrev by_seats : Key → List Replica → Newest → Replica → List Seat → Option Share → BootEnd
+by_seats key rs newest r seats (Some share) = by_lists rs r share (failing rs r.head.master.identity newest.table.plan.lists)
+by_seats key rs newest r seats None = (let number = greatest_number r.head.master.identity rs + 1 in by_number key newest r seats number (nat_lt number (2 ^ 63)))
 
 abbrev seated : Key → List Replica → Newest → Replica → List Seat → BootEnd
-seated key rs newest r seats = by_seats key rs newest r seats (nat_lt (length seats) (2 * active_of seats))
+seated key rs newest r seats = by_seats key rs newest r seats (short_of More seats newest.table.plan.lists)
 
 abbrev by_replica : Key → List Replica → Newest → Option Replica → BootEnd
 by_replica key rs newest None = end.Empty
@@ -90,7 +97,7 @@ module _ (key : Key) (rs : List Replica) (newest : Newest) (r : Replica) (the : 
     by None first = ap (by_replica key rs newest) the.one_of
     by (Some one) first = behind one first (find (shows_other one.head.master.identity) rs) refl
 
--- no more seats are active than places were found
+-- where a seat is active the place was found
 module _ (rs : List Replica) (identity : Identity) (text : ℕ) where
   is_found : (p : Place) (r : Replica) → Contains rs r → is_seated identity p text r ≡ true → is_found_at rs identity p ≡ true
   is_found p r has is =
@@ -98,24 +105,11 @@ module _ (rs : List Replica) (identity : Identity) (text : ℕ) where
       let place = and_parts (same_place (place_of r) p) (nat_le text (slot_blocks r.first.blocks)) parts.1 in
       list_any_at (is_there identity p) rs has.0 r has.1 (ap (is_there identity p) has.2 ∙ and_from (is_of identity r) (same_place (place_of r) p) parts.0 place.0)
 
-  active_found : (places : List Place) → active_of (seats_of rs identity text places) ≤ readable_of rs identity places
-  active_found [] = omega arith
-  active_found (p ∷ places) =
-      subst (λ (n : ℕ). active_of (seats_of rs identity text (p ∷ places)) ≤ n) (sym (sum_by-cons (λ (q : Place). cond (is_found_at rs identity q) 1 0) p places))
-      (by (find (is_seated identity p text) rs) refl (active_found places))
-    where
-      rest : List Seat
-      rest = seats_of rs identity text places
-
-      by : (o : Option Replica) → find (is_seated identity p text) rs ≡ o → active_of rest ≤ readable_of rs identity places
-          → length (cons_option o (replicas_of rest)) ≤ cond (is_found_at rs identity p) 1 0 + readable_of rs identity places
-      by None is less = more (is_found_at rs identity p) (active_of rest) (readable_of rs identity places) less where
-        more : (b : Bool) (n m : ℕ) → n ≤ m → n ≤ cond b 1 0 + m
-        more true n m less = omega (arith, less)
-        more false n m less = omega (arith, less)
-      by (Some r) is less =
-          let one = find_some (is_seated identity p text) rs r is in
-          subst (λ (b : Bool). suc (active_of rest) ≤ cond b 1 0 + readable_of rs identity places) (sym (is_found p r one.0 one.1)) (omega (arith, less))
+  active_found : (places : List Place) (p : Place) → has_active (seats_of rs identity text places) p ≡ true → is_found_at rs identity p ≡ true
+  active_found places p so =
+      let at = seat_at (seats_of rs identity text places) p so in
+      let is = seat_of_replica rs identity text places at.0 at.1 at.2 at.3 in
+      is_found p at.1 is.found (subst (λ (q : Place). is_seated identity q text at.1 ≡ true) at.4 is.seated)
 
 lt_yes : (a b : ℕ) → a < b → nat_lt a b ≡ true
 lt_yes a b less = grind (arith, nat_tests)
@@ -123,20 +117,28 @@ lt_yes a b less = grind (arith, nat_tests)
 lt_no : (a b : ℕ) → b ≤ a → nat_lt a b ≡ false
 lt_no a b most = grind (arith, nat_tests)
 
--- a list that fails has too few seats that are active
-failing_few : (rs : List Replica) (identity : Identity) (text : ℕ) (lists : Lists) (list : List Place) → failing rs identity lists ≡ Some list
-    → 2 * active_of (seats_of rs identity text (places_of lists)) ≤ length (seats_of rs identity text (places_of lists))
-failing_few rs identity text (One places) list fails = by (is_read rs identity places) refl fails where
-  few : (most : nat_lt (length places) (2 * readable_of rs identity places) ≡ false) → 2 * readable_of rs identity places ≤ length places
-  few most = grind (arith, nat_tests)
+-- where of each list enough is active none fails
+module _ (rs : List Replica) (identity : Identity) (seats : List Seat) (found : (p : Place) → has_active seats p ≡ true → is_found_at rs identity p ≡ true) where
+  list_read : (list : List Place) → short_in More seats list ≡ None → is_read rs identity list ≡ true
+  list_read list none =
+      let enough = list_suffices More seats list none in
+      let most = ltb-true (length list) (2 * count_by (has_active seats) list) enough in
+      let within = count_weaker (has_active seats) (is_found_at rs identity) list (λ p has is. found p is) in
+      lt_yes (length list) (2 * readable_of rs identity list) (omega (arith, most, within))
 
-  by : (b : Bool) → is_read rs identity places ≡ b → cond b None (Some places) ≡ Some list → 2 * active_of (seats_of rs identity text places) ≤ length (seats_of rs identity text places)
-  by true is same = absurd (cc (same))
-  by false is same =
-      let count = length-map places (seat_for rs identity text) in
-      let active = active_found rs identity text places in
-      let least = few is in
-      omega (arith, count, active, least)
+  none_fails : (lists : Lists) → short_of More seats lists ≡ None → failing rs identity lists ≡ None
+  none_fails (One list) none = ap (λ (b : Bool). cond b None (Some list)) (list_read list none)
+  none_fails (Two old new) none =
+      let both = both_none More seats (short_in More seats old) (short_in More seats new) none in
+      ap (λ (b : Bool). cond b (cond (is_read rs identity new) None (Some new)) (Some old)) (list_read old both.0) ∙ ap (λ (b : Bool). cond b None (Some new)) (list_read new both.1)
+
+-- where a list fails too few seats are active of one
+failing_few : (rs : List Replica) (identity : Identity) (text : ℕ) (lists : Lists) (list : List Place) → failing rs identity lists ≡ Some list
+    → (share : Share) × (short_of More (seats_of rs identity text (places_of lists)) lists ≡ Some share)
+failing_few rs identity text lists list fails = by (short_of More (seats_of rs identity text (places_of lists)) lists) refl where
+  by : (o : Option Share) → short_of More (seats_of rs identity text (places_of lists)) lists ≡ o → (share : Share) × (short_of More (seats_of rs identity text (places_of lists)) lists ≡ Some share)
+  by None none = absurd (let none_so = none_fails rs identity (seats_of rs identity text (places_of lists)) (active_found rs identity text (places_of lists)) lists none in cc (none_so, fails))
+  by (Some share) some = (share, some)
 
 module _ (failed : Outcomes) (calm : NoneFailed failed) (site : Site) (survey : Survey) where
   abbrev rs : List Replica
@@ -151,11 +153,11 @@ module _ (failed : Outcomes) (calm : NoneFailed failed) (site : Site) (survey : 
     abbrev number : ℕ
     number = greatest_number replica.head.master.identity rs + 1
 
-    enough_seats : length seats < 2 * active_of seats → seated site.key rs newest replica seats ≡ by_number site.key newest replica seats number (nat_lt number (2 ^ 63))
-    enough_seats most = ap (by_seats site.key rs newest replica seats) (lt_yes (length seats) (2 * active_of seats) most)
+    enough_seats : short_of More seats newest.table.plan.lists ≡ None → seated site.key rs newest replica seats ≡ by_number site.key newest replica seats number (nat_lt number (2 ^ 63))
+    enough_seats none = ap (by_seats site.key rs newest replica seats) none
 
-    few_seats : 2 * active_of seats ≤ length seats → seated site.key rs newest replica seats ≡ by_lists rs replica seats (failing rs replica.head.master.identity newest.table.plan.lists)
-    few_seats few = ap (by_seats site.key rs newest replica seats) (lt_no (length seats) (2 * active_of seats) few)
+    few_seats : (share : Share) → short_of More seats newest.table.plan.lists ≡ Some share → seated site.key rs newest replica seats ≡ by_lists rs replica share (failing rs replica.head.master.identity newest.table.plan.lists)
+    few_seats share few = ap (by_seats site.key rs newest replica seats) few
 
   adopted_is : (Wrote : _) (o : Opened) → IsAdopted failed Wrote site survey o → end.Adopted o ≡ end_of site.key rs survey.newest
   adopted_is Wrote o is =
@@ -174,16 +176,17 @@ module _ (failed : Outcomes) (calm : NoneFailed failed) (site : Site) (survey : 
     of_newest newest newest_is is =
         let seats = seats_of rs is.replica.head.master.identity (text_blocks newest.table) (places_of newest.table.plan.lists) in
         let hand : IsInHand survey newest is.replica seats = record { newest_is = newest_is; the = is.the; seats_are = refl } in
+        let few = failing_few rs is.replica.head.master.identity (text_blocks newest.table) newest.table.plan.lists is.list is.fails in
         (λ i. end.NoQuorum (is.readable_is i) (is.needed_is i))
-        ∙ ap (by_lists rs is.replica seats) (sym is.fails)
-        ∙ sym (few_seats newest is.replica seats hand (failing_few rs is.replica.head.master.identity (text_blocks newest.table) newest.table.plan.lists is.list is.fails))
+        ∙ ap (by_lists rs is.replica few.0) (sym is.fails)
+        ∙ sym (few_seats newest is.replica seats hand few.0 few.1)
         ∙ sym (in_hand newest is.replica seats hand)
 
     by : (o : Option Newest) → survey.newest ≡ o → MatchOption o (chosen.NoQuorum readable needed ≡ chosen.Empty) (λ (n : Newest). IsChoiceAmong rs n (chosen.NoQuorum readable needed)) → end.NoQuorum readable needed ≡ end_of site.key rs survey.newest
     by None is never = absurd (cc (never))
     by (Some n) is among = of_newest n is among
-  short_is readable needed (inr (was, newest, replica, seats, hand, few, readable_is, needed_is)) =
-      (λ i. end.NoQuorum (readable_is i) (needed_is i)) ∙ ap (by_lists rs replica seats) (sym none) ∙ sym (few_seats newest replica seats hand few) ∙ sym (in_hand newest replica seats hand) where
+  short_is readable needed (inr (was, newest, replica, seats, hand, share, few, readable_is, needed_is)) =
+      (λ i. end.NoQuorum (readable_is i) (needed_is i)) ∙ ap (by_lists rs replica share) (sym none) ∙ sym (few_seats newest replica seats hand share few) ∙ sym (in_hand newest replica seats hand) where
         some_same : {A : Type 0} (a b : A) → Some a ≡ Some b → a ≡ b
         some_same a b is = cc (is)
 
@@ -210,7 +213,7 @@ module _ (failed : Outcomes) (calm : NoneFailed failed) (site : Site) (survey : 
     by (Some n) two =
         (λ i. end.TwoDatabases (two.a_is i) (two.b_is i)) ∙ ap (by_other site.key rs n two.one) (sym two.second) ∙ ap (by_first site.key rs n) (sym two.first)
   end_is Wrote (end.NoQuorum readable needed) so is = short_is readable needed is
-  end_is Wrote (end.Lost active listed) so is = absurd (never_few failed calm _ site.key is.seats is.now is.left is.drawn.enough is.few)
+  end_is Wrote (end.Lost active listed) so is = absurd (never_short failed calm _ More (need_of site.key) (more_suffices (need_of site.key)) is.newest.table.plan.lists is.seats is.now (record { active = active; listed = listed }) is.left is.drawn.enough is.few)
   end_is Wrote end.Spent so is =
       ap (by_number site.key is.newest is.replica is.seats (number is.newest is.replica is.seats is.hand)) (sym (lt_no (number is.newest is.replica is.seats is.hand) (2 ^ 63) is.spent))
       ∙ sym (enough_seats is.newest is.replica is.seats is.hand is.enough) ∙ sym (in_hand is.newest is.replica is.seats is.hand)

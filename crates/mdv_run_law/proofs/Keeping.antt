@@ -37,6 +37,7 @@ use Rattle.mdv_run_law.proofs.Passing.{NoneFailed, left_active, left_is, rewritt
 use Rattle.mdv_run_law.proofs.Placing.{put_at}
 use Rattle.mdv_run_law.proofs.Surveyed.{IsAllOf, one_survey}
 use Rattle.mdv_run_law.proofs.Written.{alike_behind, its_each, written}
+use Rattle.mdv_store.proofs.Shares.{some_more}
 
 -- an answer that tells nothing of a want of memory
 pub record IsSatisfied (answer : Answer) : Type 0 where
@@ -242,7 +243,7 @@ module _ (host : Host) (has : IsOfTable host) (once : AreOnce host.drives.slices
     adopted_held : (o : Opened) → Booted calls k n (end.Adopted o) → IsHeld o n.content
     adopted_held o is = record {
       key = ap (λ (x : Opened). x.key) is.by.is;
-      some = (let active = left_active calls calm _ is.by.seats o.seats is.by.left in let most = is.by.drawn.enough in omega (arith, active, most));
+      some = (let active = left_active calls calm _ is.by.seats o.seats is.by.left in let most = some_more is.by.seats is.by.newest.table.plan.lists is.by.drawn.enough in omega (arith, active, most));
       on = is.content;
     }
 

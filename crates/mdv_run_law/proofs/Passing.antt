@@ -15,9 +15,14 @@ use Rattle.mdv_replica.specs.declared.replica.Slot.TheVariants.{First, Second}
 use Rattle.mdv_shelf.specs.Failing.{Outcomes}
 use Rattle.mdv_votes.specs.Family.{mark_below}
 use Rattle.mdv_survey.specs.declared.replica.Replica.{Replica}
-use Rattle.mdv_store.specs.Boot.{TakesBoth, is_enough}
+use Rattle.mdv_store.specs.Boot.{TakesBoth}
 use Rattle.mdv_store.specs.Seats.{AreLeft, IsSpareOf, TakesSlot, active_of, drive_of, replicas_of}
 use Rattle.mdv_store.specs.declared.seats.Seat.{Seat}
+use Rattle.mdv_store.specs.Shares.{short_of, suffices}
+use Rattle.mdv_store.specs.declared.seats.Need.{Need}
+use Rattle.mdv_store.specs.declared.seats.Share.{Share}
+use Rattle.mdv_store.proofs.Shares.{short_fewer}
+use Rattle.mdv_table.specs.declared.plan.Lists.{Lists}
 
 -- the slot that takes the next table
 abbrev pub spare_of : Gate → Gate → Slot
@@ -107,19 +112,9 @@ module _ (failed : Outcomes) (calm : NoneFailed failed) where
   left_active Took (s ∷ ss) [] left = absurd left
   left_active Took (s ∷ ss) (n ∷ ns) left = as_many Took s.replica n.replica (replicas_of ss) (replicas_of ns) left.0.1 (left_active Took ss ns left.1)
 
-  pub left_count : (Took : Replica → Replica → Type 0) (old new : List Seat) → AreLeft failed Took old new → length new ≡ length old
-  left_count Took [] [] left = refl
-  left_count Took [] (n ∷ ns) left = absurd left
-  left_count Took (s ∷ ss) [] left = absurd left
-  left_count Took (s ∷ ss) (n ∷ ns) left = ap (λ (k : ℕ). suc k) (left_count Took ss ns left.1)
-
-  -- enough of them are left
-  enough_by : (key : Key) (seats : List Seat) → length seats < 2 * active_of seats → is_enough key seats ≡ false → ⊥
-  enough_by (Local host) seats most few = grind (arith, nat_tests)
-  enough_by (Set name) seats most few = grind (arith, nat_tests)
-
-  pub never_few : (Took : Replica → Replica → Type 0) (key : Key) (old new : List Seat) → AreLeft failed Took old new → length old < 2 * active_of old → is_enough key new ≡ false → ⊥
-  never_few Took key old new left most few =
-      let active = left_active Took old new left in
-      let count = left_count Took old new left in
-      enough_by key new (omega (arith, most, active, count)) few
+  -- so of each list as much is left as before
+  pub never_short : (Took : Replica → Replica → Type 0) (had need : Need) → ((share : Share) → suffices had share ≡ true → suffices need share ≡ true) → (lists : Lists) (old new : List Seat) (share : Share) → AreLeft failed Took old new
+      → short_of had old lists ≡ None → short_of need new lists ≡ Some share → ⊥
+  never_short Took had need weaker lists old new share left none short =
+      let fewer = short_fewer failed Took had need weaker lists old new share left none short in
+      omega (arith, fewer, left_active Took old new left)

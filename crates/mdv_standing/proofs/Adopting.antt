@@ -237,8 +237,9 @@ module _ (Spells : List ℕ → Table → Type 0) (site : Site) (identity : Iden
       parent = v;
       one_of = b.one_of;
       changes = refl;
-      made = refl;
+      made = inl refl;
       not_older = all_that (λ x. x.is_written ≡ true → IsBelow v.mark x.mark → ⊥) log.family (not_older site log w b.world.reached b.world.matches v number ok chose);
+      settles = inl refl;
     }),
   )
 

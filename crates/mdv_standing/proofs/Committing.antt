@@ -1,8 +1,8 @@
 -- What the beginning of a change does to the worlds and the log of a database.
-use Rattle.std.proofs.Common.{◌≡◌, ◌⊎◌, ⊎_elim, suc, inl, inr, ℕ, ◌+◌, ◌<◌, ◌^◌, ◌==◌, ◌&&◌, ◌||◌, Bool, true, false, List, [], ◌∷◌, ◌++◌, refl, sym, ◌∙◌, ap, subst, map, cond, Contains, Option, None, Some, append-nil, arith}
-use Rattle.std.proofs.lemmas.Bool.{and_from, cases_lt, cond-false, cond-true, eq-eqb, false_from_ne_true, eqb-true, lt-ltb, or_left, or_right}
+use Rattle.std.proofs.Common.{◌≡◌, ◌⊎◌, ⊎_elim, suc, inl, inr, ℕ, ◌+◌, ◌<◌, ◌^◌, ◌==◌, ◌&&◌, ◌||◌, Bool, true, false, List, [], ◌∷◌, ◌++◌, refl, sym, ◌∙◌, ap, subst, map, cond, All, Contains, Option, None, Some, append-nil, arith}
+use Rattle.std.proofs.lemmas.Bool.{and_from, cases_lt, cond-false, cond-true, eq-eqb, false_from_ne_true, false≢true, eqb-true, lt-ltb, or_left, or_right}
 use Rattle.std.proofs.lemmas.List.{reverse-append}
-use Rattle.std.proofs.lemmas.List.Elements.{Contains-push_cases, filter_map-append}
+use Rattle.std.proofs.lemmas.List.Elements.{All-contains, Contains-get_or, Contains-push_cases, filter_map-append}
 use Rattle.std.specs.Prelude.{nat_lt, not, reverse}
 use Rattle.std.specs.List.{cons_option, filter_map, list_all}
 use Rattle.mdv_votes.specs.Spots.{same_spot, same_spots}
@@ -12,11 +12,12 @@ use Rattle.mdv_quorum.specs.World.{changed, happens, lists_at}
 use Rattle.mdv_shown.proofs.Slots.{never_below}
 use Rattle.mdv_store_law.specs.Log.{IsMade, with_asked}
 use Rattle.mdv_table.specs.Plan.{places_of}
-use Rattle.mdv_standing.specs.Below.{Change, Core, FamilyTable, Geometry, Identity, Image, IsBelow, LeftClosed, Lists, Log, Mark, MayHappen, NextLists, One, Place, Ready, Site, Slotted, Spot, SpotLists, Stage, Table, Version, WritesLog, is_named, is_none, last_number, last_table, log_after, place_at, slice_at, table_at}
+use Rattle.mdv_table.proofs.Settled.{all_of_last}
+use Rattle.mdv_standing.specs.Below.{Change, Core, FamilyTable, Geometry, Identity, Image, IsBelow, LeftClosed, Lists, Log, Mark, MayHappen, NextLists, One, Two, Place, Ready, Site, Slotted, Spot, SpotLists, Stage, Table, Version, WritesLog, is_named, is_none, last_number, last_of, last_table, log_after, place_at, slice_at, table_at}
 use Rattle.mdv_standing.specs.Listed.{HasPlace, HavePlaces}
-use Rattle.mdv_standing.specs.Matching.{IsVersionAt, Matches, Reached, lists_of, spot_in, spots_of, version_at}
+use Rattle.mdv_standing.specs.Matching.{IsVersionAt, Matches, Reached, lists_of, spot_in, spots_in, spots_of, version_at}
 use Rattle.mdv_standing.specs.Worlds.{IsTaking, IsWorld, Turned}
-use Rattle.mdv_standing.specs.Committing.{IsCommit, next_mark}
+use Rattle.mdv_standing.specs.Committing.{IsCommit, MayChangeLists, MayFollow, next_mark}
 use Rattle.mdv_standing.proofs.Reaching.{reached_more, standing}
 use Rattle.mdv_standing.proofs.Voting.{all_that, numbered}
 use Rattle.mdv_standing.proofs.Listed.{past_reading}
@@ -48,16 +49,64 @@ module _ (site : Site) where
   same_list [] = refl
   same_list (p ∷ ps) = and_from (same_spot p p) (same_spots ps ps) (same_self p) (same_list ps)
 
-  pub may_list_again : (set : Bool) (lists : Lists) → (is_lists set (spots_of site lists) ≡ true) × (may_follow (spots_of site lists) (spots_of site lists) ≡ true) × (same_spots (spots_of site lists).mediators (spots_of site lists).mediators ≡ true)
-  may_list_again set (One places) =
-      let l = spots_of site (One places) in (
-        and_from (list_all is_place l.first && all_second l.second) ((list_all (λ (p : Spot). p.mediator) l.mediators && is_distinct l.mediators) && (set || is_none l.mediators))
-            (and_from (list_all is_place l.first) (all_second l.second) (all_places places) refl) (or_right set true refl),
-        or_left ((same_spots l.first l.first && same_second l.second l.second) && (is_one_more l.mediators l.mediators || is_one_more l.mediators l.mediators)) (moves_on l.first l.second l.first l.second && same_spots l.mediators l.mediators)
-            (and_from (same_spots l.first l.first && same_second l.second l.second) (is_one_more l.mediators l.mediators || is_one_more l.mediators l.mediators)
-            (and_from (same_spots l.first l.first) (same_second l.second l.second) (same_list l.first) refl) refl),
+  abbrev MayListNext : Bool → SpotLists → SpotLists → Type 0
+  MayListNext set l next = (is_lists set next ≡ true) × (may_follow l next ≡ true) × (same_spots l.mediators next.mediators ≡ true)
+
+  abbrev MayListAgain : Bool → SpotLists → Type 0
+  MayListAgain set l = MayListNext set l l
+
+  list_again : (set : Bool) (places : List Place) (second : Option (List Spot)) → all_second second ≡ true → same_second second second ≡ true → MayListAgain set (record { first = spots_in site places; second = second; mediators = [] })
+  list_again set places second all same =
+      let l : SpotLists = record { first = spots_in site places; second = second; mediators = [] } in (
+        and_from (list_all is_place l.first && all_second second) ((list_all (λ (p : Spot). p.mediator) l.mediators && is_distinct l.mediators) && (set || is_none l.mediators))
+            (and_from (list_all is_place l.first) (all_second second) (all_places places) all) (or_right set true refl),
+        or_left ((same_spots l.first l.first && same_second second second) && (is_one_more l.mediators l.mediators || is_one_more l.mediators l.mediators)) (moves_on l.first second l.first second && same_spots l.mediators l.mediators)
+            (and_from (same_spots l.first l.first && same_second second second) (is_one_more l.mediators l.mediators || is_one_more l.mediators l.mediators)
+            (and_from (same_spots l.first l.first) (same_second second second) (same_list l.first) same) refl),
         refl,
       )
+
+  pub may_list_again : (set : Bool) (lists : Lists) → MayListAgain set (spots_of site lists)
+  may_list_again set (One places) = list_again set places None refl refl
+  may_list_again set (Two old new) = list_again set old (Some (spots_in site new)) (all_places new) (same_list (spots_in site new))
+
+  -- the second list comes in the place of both
+  may_list_last : (set : Bool) (lists : Lists) → MayListNext set (spots_of site lists) (spots_of site (One (last_of lists)))
+  may_list_last set (One places) = may_list_again set (One places)
+  may_list_last set (Two old new) =
+      let l : SpotLists = spots_of site (Two old new) in
+      let next : SpotLists = spots_of site (One new) in (
+        (may_list_again set (One new)).0,
+        or_right ((same_spots l.first next.first && same_second l.second next.second) && (is_one_more l.mediators next.mediators || is_one_more next.mediators l.mediators))
+            (moves_on l.first l.second next.first next.second && same_spots l.mediators next.mediators)
+            (and_from (same_spots (spots_in site new) (spots_in site new)) (same_spots [] []) (same_list (spots_in site new)) refl),
+        refl,
+      )
+
+  pub may_list_next : (set : Bool) (was next : Lists) → MayFollow was next → MayListNext set (spots_of site was) (spots_of site next)
+  may_list_next set was next (inl same) = subst (λ (l : Lists). MayListNext set (spots_of site was) (spots_of site l)) (sym same) (may_list_again set was)
+  may_list_next set was next (inr over) = subst (λ (l : Lists). MayListNext set (spots_of site was) (spots_of site l)) (sym over) (may_list_last set was)
+
+  -- lists that name a place aren't empty
+  named_some : (places : List Place) (p : Spot) → is_named (spots_of site (One places)) p ≡ true → is_none (spots_of site (One places)).first ≡ false
+  named_some [] p named = absurd (by p.mediator named)
+    where
+      by : (mediator : Bool) → cond mediator false false ≡ true → ⊥
+      by true e = false≢true e
+      by false e = false≢true e
+  named_some (x ∷ places) p named = refl
+
+  next_some : (was next : Lists) (p : Spot) → MayFollow was next → is_none (spots_of site was).first ≡ false → is_named (spots_of site next) p ≡ true → is_none (spots_of site next).first ≡ false
+  next_some was next p (inl same) some named = ap (λ (l : Lists). is_none (spots_of site l).first) same ∙ some
+  next_some was next p (inr over) some named =
+      ap (λ (l : Lists). is_none (spots_of site l).first) over ∙ named_some (last_of was) p (ap (λ (l : Lists). is_named (spots_of site l) p) (sym over) ∙ named)
+
+  -- their places are among those that were listed
+  next_listed : (was next : Lists) (place : Place) → MayFollow was next → Contains (places_of next) place → Contains (places_of was) place
+  next_listed was next place (inl same) listed = subst (λ (l : Lists). Contains (places_of l) place) same listed
+  next_listed was next place (inr over) listed =
+      let all : All (Contains (places_of was)) (places_of was) = λ k d lt. Contains-get_or (places_of was) k d lt in
+      All-contains (Contains (places_of was)) (last_of was) place (all_of_last (Contains (places_of was)) was all) (subst (λ (l : Lists). Contains (places_of l) place) over listed)
 
 module _ (Spells : List ℕ → Table → Type 0) (site : Site) (identity : Identity) (log : Log) (w : Core) (image : Image) (p : Spot) (v : Version) (table : Table) (took : List Spot)
     (b : IsCommit Spells site identity log w image p v table took) where
@@ -68,12 +117,12 @@ module _ (Spells : List ℕ → Table → Type 0) (site : Site) (identity : Iden
   have = ⊎_elim (λ places. places) (λ none. absurd (past_reading w (Ready None) b.known.stage (λ read same. cc (same)) none)) b.world.listed
 
   its : (place : Place) → Contains (places_of table.plan.lists) place → HasPlace Spells site identity image place
-  its place listed = have v place (subst (λ (l : List Version). Contains l v) (sym b.newest) (0, omega arith, refl)) (subst (λ (l : Lists). Contains (places_of l) place) b.same_lists listed)
+  its place listed = have v place (subst (λ (l : List Version). Contains l v) (sym b.newest) (0, omega arith, refl)) (next_listed site v.table.plan.lists table.plan.lists place b.follows listed)
 
   abbrev lists : SpotLists
-  lists = lists_of site v
+  lists = spots_of site table.plan.lists
 
-  last_is : (last_table w).lists ≡ lists
+  last_is : (last_table w).lists ≡ lists_of site v
   last_is = last_lists site log w m v b.older b.newest
 
   last_mark : (last_table w).mark ≡ v.mark
@@ -107,8 +156,8 @@ module _ (Spells : List ℕ → Table → Type 0) (site : Site) (identity : Iden
     | inr less ↦ never_below x.mark v.mark less up
   ]
 
-  pub may_commit_it : (g : Geometry) (asked : Option Change) → IsMade g asked v.table table → MayHappen g log (WritesLog (next_mark v) asked v.changes table)
-  may_commit_it g asked made = (
+  pub may_commit_it : (g : Geometry) (asked : Option Change) → IsMade g asked v.table table → MayChangeLists v table → MayHappen g log (WritesLog (next_mark v) asked v.changes table)
+  may_commit_it g asked made change = (
     all_that (λ x. IsBelow x.mark (next_mark v)) log.family below_next,
     inr (record {
       parent = v;
@@ -116,6 +165,7 @@ module _ (Spells : List ℕ → Table → Type 0) (site : Site) (identity : Iden
       changes = refl;
       made = made;
       not_older = all_that (λ x. x.is_written ≡ true → IsBelow v.mark x.mark → ⊥) log.family none_newer;
+      settles = ⊎_elim (λ same. inl same) (λ written. inr (written, record { older = b.older; is = b.newest })) change;
     }),
   )
 
@@ -184,8 +234,8 @@ module _ (Spells : List ℕ → Table → Type 0) (site : Site) (identity : Iden
     next_is : IsVersionAt site book (w.changes + 1) next version
     next_is = record {
       mark = ap (λ (k : Mark). record { boot = k.boot; count = k.count + 1 }) last_mark;
-      lists = ap (spots_of site) (sym b.same_lists);
-      some = ap (λ (l : SpotLists). is_none l.first) (sym last_was.lists) ∙ last_was.some;
+      lists = refl;
+      some = next_some site v.table.plan.lists table.plan.lists p b.follows (ap (λ (l : SpotLists). is_none l.first) (sym last_was.lists) ∙ last_was.some) b.named;
       changes =
           ap (with_asked asked) (last_was.changes ∙ ap reverse (sym (kept_same m.book book (last_table w).plan (λ n has. book_old n (last_was.numbered n has)))))
           ∙ sym (longer_kept (filter_map book (last_table w).plan))
@@ -199,7 +249,7 @@ module _ (Spells : List ℕ → Table → Type 0) (site : Site) (identity : Iden
 
     lists_fit : may w (NextLists lists) ≡ true
     lists_fit =
-        let again = may_list_again site w.set v.table.plan.lists in
+        let again = may_list_next site w.set v.table.plan.lists table.plan.lists b.follows in
         subst (λ (g : Stage). may_list w lists g ≡ true) (sym b.known.stage)
         (and_from (is_lists w.set lists) (may_follow (last_table w).lists lists && nat_lt ((last_table w).mark.count + 1) (2 ^ 63)) again.0
         (and_from (may_follow (last_table w).lists lists) (nat_lt ((last_table w).mark.count + 1) (2 ^ 63))
@@ -226,7 +276,7 @@ module _ (Spells : List ℕ → Table → Type 0) (site : Site) (identity : Iden
     unfolding world_listed listed_matches
     commit_begins =
         let majority : next.by_majority ≡ false =
-        ap not (ap (λ (l : SpotLists). same_spots l.mediators lists.mediators) last_is ∙ (may_list_again site w.set v.table.plan.lists).2) in
+        ap not (ap (λ (l : SpotLists). same_spots l.mediators lists.mediators) last_is ∙ (may_list_next site w.set v.table.plan.lists table.plan.lists b.follows).2) in
         record {
           events = NextLists lists ∷ (Slotted p LeftClosed ∷ []);
           are = refl;

@@ -1,5 +1,6 @@
 -- A log and the worlds of all images go on together while a database is created.
 use Rattle.std.proofs.Common.{◌≡◌, ℕ, false, true, List, [], ◌∷◌, refl, Option, None}
+use Rattle.mdv_store_law.specs.Log.{HasOneList}
 use Rattle.mdv_standing.specs.Below.{Core, Everywhere, FirstIs, Formats, Geometry, Identity, Image, IsImage, Leaves, Lists, Log, Master, MayFormat, Site, SliceLine, Spot, Table, Tale, after_all, is_in, is_named, is_none, master_on, place_on, spot_on}
 use Rattle.mdv_standing.specs.Creating.{AreAllPlaced, IsCreating, IsFormatting, first_mark, issued_log}
 use Rattle.mdv_standing.specs.Forming.{IsBehind, IsForming, IsToFormat}
@@ -61,11 +62,11 @@ module _ (Spells : List ℕ → Table → Type 0) (site : Site) (identity : Iden
           let to = later_formatted Spells site identity log w.0 from.0 line k first lists done behind.later (formatting first.blocks first.count k place w.0 from.0 from.1 w.1 w.2) (behind.has from.0 from.1) (behind.chain from.0 from.1) image from.2 in
           (after_all w.0 to.events, to.world, to.known))
 
-  pub all_formed : (g : Geometry) (log : Log) (t : Tale) (p : Spot) (table : Table) (done : List Spot) → table.plan.volumes ≡ [] → is_none (spots_of site table.plan.lists).first ≡ false → is_in done p ≡ true → is_named (spots_of site table.plan.lists) p ≡ true
+  pub all_formed : (g : Geometry) (log : Log) (t : Tale) (p : Spot) (table : Table) (done : List Spot) → table.plan.volumes ≡ [] → HasOneList table → is_none (spots_of site table.plan.lists).first ≡ false → is_in done p ≡ true → is_named (spots_of site table.plan.lists) p ≡ true
       → Everywhere (AreAllPlaced Spells site identity table.plan.lists) t → IsForming Spells site identity log t table.plan.lists done → Begins Spells g site identity false log t first_mark None table
-  all_formed g log t p table done none some has named formed forming = record {
+  all_formed g log t p table done none one some has named formed forming = record {
     before = [];
-    may = may_write_first g identity log table forming.issued forming.empty none;
+    may = may_write_first g identity log table forming.issued forming.empty none one;
     writing = record {
       newest = record { version = _; older = log.family; family = refl; marked = refl; same = refl };
       each = λ image is.

@@ -17,7 +17,7 @@ use Rattle.mdv_shown.proofs.Framed.{shows_rest}
 use Rattle.mdv_store_law.specs.Laws.{restarted}
 use Rattle.mdv_store_law.specs.Log.{AreMade, IsLog, empty_log}
 use Rattle.mdv_store_law.proofs.Families.{extends_more, extends_written}
-use Rattle.mdv_standing.specs.Below.{Area, AreApart, Change, Core, First, Geometry, HaveRead, Head, Identity, Image, IsBelow, IsChosen, IsImage, IsSite, KeptOutside, Claimed, Lists, One, Log, Mark, Open, Place, Second, Seen, Site, Slot, Spot, SpotLists, FamilyTable, Table, Tale, Version, covers, gate_of, greatest_seen, is_in, is_majority, is_none, is_written, place_at, place_on, shows, site_area, slice_at, spot_on, spot_seen, spots_seen, start, table_at}
+use Rattle.mdv_standing.specs.Below.{Area, AreApart, Change, Core, First, Geometry, HaveRead, Head, Identity, Image, IsBelow, IsChosen, IsImage, IsSite, KeptOutside, Claimed, Lists, One, Two, Log, Mark, Open, Place, Second, Seen, Site, Slot, Spot, SpotLists, FamilyTable, Table, Tale, Version, covers, gate_of, greatest_seen, is_in, is_majority, is_none, is_written, place_at, place_on, shows, site_area, slice_at, spot_on, spot_seen, spots_seen, start, table_at}
 use Rattle.mdv_standing.specs.Listed.{HoldsNewest}
 use Rattle.mdv_standing.specs.Matching.{Matches, is_set, lists_of, spot_in, spots_of, tables_of, version_at}
 use Rattle.mdv_standing.specs.Worlds.{IsWorld, HasClaimed}
@@ -108,6 +108,7 @@ places_only site (x ∷ places) p e =
 
 first_only : (site : Site) (lists : Lists) (p : Spot) → is_in (spots_of site lists).first p ≡ true → p.mediator ≡ false
 first_only site (One places) p e = places_only site places p e
+first_only site (Two old new) p e = places_only site old p e
 
 all_counted : (list : List Spot) → count_by (λ (q : Spot). true) list ≡ length list
 all_counted [] = refl

@@ -1,12 +1,12 @@
 -- A log and the worlds of all images go on together while a store boots and commits.
-use Rattle.std.proofs.Common.{◌≡◌, ℕ, ◌+◌, ◌<◌, ◌^◌, Bool, true, false, List, [], ◌∷◌, refl, sym, ◌∙◌, ap, subst, Option, None}
+use Rattle.std.proofs.Common.{◌≡◌, inr, ℕ, ◌+◌, ◌<◌, ◌^◌, Bool, true, false, List, [], ◌∷◌, refl, sym, ap, subst, Option, None}
 use Rattle.mdv_shelf.proofs.Everywhere.{last_image}
 use Rattle.mdv_shelf.specs.Tale.{last}
 use Rattle.mdv_shown.proofs.Slots.{OneTable, shows_one}
 use Rattle.mdv_store_law.specs.Log.{IsMade, answered}
 use Rattle.mdv_standing.specs.Below.{Change, Claims, Core, Fills, Geometry, Head, Identity, Image, IsAbove, IsBodyOf, IsChosen, IsImage, IsSpareSlot, Leaves, Log, Mark, Master, MayClaim, MayFill, MayHappen, Seen, Site, SliceLine, Slot, Spot, Table, Tale, WritesLog, Written, after_all, covers, greatest_seen, is_claimed, is_in, is_majority, is_named, is_written, log_after, place_on, spot_on, spots_seen}
 use Rattle.mdv_standing.specs.Adopting.{IsBeginning, IsClaim, IsSlotWrite, drawn}
-use Rattle.mdv_standing.specs.Committing.{IsCommit}
+use Rattle.mdv_standing.specs.Committing.{IsCommit, MayFollow}
 use Rattle.mdv_standing.specs.Matching.{by_majority_on, is_set, spots_of, voted_table}
 use Rattle.mdv_standing.specs.Standing.{Covers, CoversWith}
 use Rattle.mdv_standing.specs.Turning.{Begins, IsBootRead, IsBooting, IsNewest, IsOpen, IsPlaceAt, IsWriting}
@@ -163,7 +163,7 @@ module _ (Spells : List ℕ → Table → Type 0) (site : Site) (identity : Iden
             (after_all w.0 to.events, to.world, subst (λ (x : Mark). IsTaking by_majority x (p ∷ took) (after_all w.0 to.events)) n.marked to.known);
       }
 
-    module _ (g : Geometry) (next : Table) (asked : Option Change) (took : List Spot) (at : IsPlaceAt Spells site identity t next line k first head) (made : IsMade g asked table next) (lists : next.plan.lists ≡ table.plan.lists)
+    module _ (g : Geometry) (next : Table) (asked : Option Change) (took : List Spot) (at : IsPlaceAt Spells site identity t next line k first head) (made : IsMade g asked table next) (lists : MayFollow table.plan.lists next.plan.lists)
         (small : mark.count + 1 < 2 ^ 63) (b : IsOpen Spells site identity log t mark table took) where
       abbrev n : IsNewest log mark table
       n = b.newest
@@ -174,9 +174,9 @@ module _ (Spells : List ℕ → Table → Type 0) (site : Site) (identity : Iden
         own = record { line = line; number = k; first = first; head = head; own = at.each image is; spot = refl };
         older = n.older;
         newest = n.family;
-        named = subst (λ (l : _). is_named (spots_of site l) p ≡ true) (lists ∙ sym (ap (λ (u : Table). u.plan.lists) n.same)) at.named;
+        named = at.named;
         small = subst (λ (x : Mark). x.count + 1 < 2 ^ 63) (sym n.marked) small;
-        same_lists = lists ∙ sym (ap (λ (u : Table). u.plan.lists) n.same);
+        follows = subst (λ (u : Table). MayFollow u.plan.lists next.plan.lists) (sym n.same) lists;
         known = known;
       }
 
@@ -190,7 +190,7 @@ module _ (Spells : List ℕ → Table → Type 0) (site : Site) (identity : Iden
           record {
             before = n.version.changes;
             may = subst (λ (x : Mark). MayHappen g log (WritesLog (record x { count = x.count + 1 }) asked n.version.changes next)) n.marked
-                (may_commit_it Spells site identity log w.0 image p n.version next took (commit w.0 image (last_image t) w.1 w.2) g asked (subst (λ (u : Table). IsMade g asked u next) (sym n.same) made));
+                (may_commit_it Spells site identity log w.0 image p n.version next took (commit w.0 image (last_image t) w.1 w.2) g asked (subst (λ (u : Table). IsMade g asked u next) (sym n.same) made) (inr b.written));
             writing = record {
               newest = record { version = _; older = log.family; family = refl; marked = refl; same = refl };
               each = subst (λ (x : Mark). CoversWith Spells site identity (λ image w. IsTaking false (record x { count = x.count + 1 }) [] w) (after x) t) n.marked
@@ -208,6 +208,7 @@ module _ (Spells : List ℕ → Table → Type 0) (site : Site) (identity : Iden
       let n = b.newest in
       record {
         newest = record { version = record n.version { is_written = true }; older = n.older; family = ap answered n.family; marked = n.marked; same = n.same };
+        written = refl;
         each = λ image is.
             let w = b.each image is in
             let to = answers Spells site identity log w.0 image n.version by_majority took (record {

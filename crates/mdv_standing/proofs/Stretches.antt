@@ -1,11 +1,11 @@
 -- The stretches of a boot, of a commit and of a creation, with the events of each.
-use Rattle.std.proofs.Common.{◌≡◌, ℕ, ◌+◌, ◌<◌, ◌^◌, Bool, true, false, List, [], ◌∷◌, refl, sym, ◌∙◌, ap, subst, Option, None}
+use Rattle.std.proofs.Common.{◌≡◌, ℕ, ◌+◌, ◌<◌, ◌^◌, Bool, true, false, List, [], ◌∷◌, refl, sym, subst, Option, None}
 use Rattle.mdv_shelf.proofs.Everywhere.{last_image}
 use Rattle.mdv_shelf.specs.Tale.{last}
 use Rattle.mdv_store_law.specs.Log.{IsMade}
 use Rattle.mdv_standing.specs.Below.{Change, Claimed, Claims, Core, Everywhere, Filled, Fills, FirstIs, Formatted, Formats, Geometry, Head, Identity, Image, IsAbove, IsBodyOf, IsChosen, IsImage, IsSpareSlot, LeftClosed, Leaves, Lists, Log, Mark, Master, MayClaim, MayFill, MayFormat, MayHappen, Seen, Site, SliceLine, Slot, Slotted, Spot, Table, Tale, Told, Version, WritesLog, Written, after_all, covers, greatest_seen, is_claimed, is_in, is_majority, is_named, is_none, is_written, log_after, master_on, place_on, spot_on, spots_seen}
 use Rattle.mdv_standing.specs.Adopting.{IsBeginning, IsClaim, IsLook, IsSlotWrite, drawn}
-use Rattle.mdv_standing.specs.Committing.{IsCommit}
+use Rattle.mdv_standing.specs.Committing.{IsCommit, MayChangeLists, MayFollow}
 use Rattle.mdv_standing.specs.Creating.{AreAllPlaced, IsCreating, IsFormatting, MayBeFormatted, first_mark, issued_log}
 use Rattle.mdv_standing.specs.Forming.{IsBehind, IsToFormat}
 use Rattle.mdv_standing.specs.Laws.{HasNone}
@@ -128,16 +128,16 @@ module _ (Spells : List ℕ → Table → Type 0) (site : Site) (identity : Iden
           (subst (λ (x : Mark). Fills (place_on line first.blocks first.count k) slot x bytes body old new) (sym n.marked) fills)))
 
     -- a change's table begins to be written
-    module _ (next : Table) (asked : Option Change) (took : List Spot) (at : IsPlaceAt Spells site identity t next line k first head) (lists : next.plan.lists ≡ table.plan.lists) (small : mark.count + 1 < 2 ^ 63) (n : IsNewest log mark table) where
+    module _ (next : Table) (asked : Option Change) (took : List Spot) (at : IsPlaceAt Spells site identity t next line k first head) (lists : MayFollow table.plan.lists next.plan.lists) (small : mark.count + 1 < 2 ^ 63) (n : IsNewest log mark table) where
       commit : (w : Core) (image : Image) → IsImage t image → IsWorld Spells site identity log w image → IsReadyWith took w → IsCommit Spells site identity log w image p n.version next took
       commit w image is world known = record {
         world = world;
         own = record { line = line; number = k; first = first; head = head; own = at.each image is; spot = refl };
         older = n.older;
         newest = n.family;
-        named = subst (λ (l : Lists). is_named (spots_of site l) p ≡ true) (lists ∙ sym (ap (λ (u : Table). u.plan.lists) n.same)) at.named;
+        named = at.named;
         small = subst (λ (x : Mark). x.count + 1 < 2 ^ 63) (sym n.marked) small;
-        same_lists = lists ∙ sym (ap (λ (u : Table). u.plan.lists) n.same);
+        follows = subst (λ (u : Table). MayFollow u.plan.lists next.plan.lists) (sym n.same) lists;
         known = known;
       }
 
@@ -147,20 +147,19 @@ module _ (Spells : List ℕ → Table → Type 0) (site : Site) (identity : Iden
       abbrev after : Mark → Log
       after x = log_after log (WritesLog (later x) asked n.version.changes next)
 
-      pub may_change : (g : Geometry) → IsMade g asked table next → CoversWith Spells site identity (λ image w. IsReadyWith took w) log t → MayHappen g log (WritesLog (record mark { count = mark.count + 1 }) asked n.version.changes next)
-      may_change g made covers =
+      pub may_change : (g : Geometry) → IsMade g asked table next → MayChangeLists n.version next → CoversWith Spells site identity (λ image w. IsReadyWith took w) log t → MayHappen g log (WritesLog (record mark { count = mark.count + 1 }) asked n.version.changes next)
+      may_change g made change covers =
           let image = last t in
           let w = covers image (last_image t) in
           subst (λ (x : Mark). MayHappen g log (WritesLog (later x) asked n.version.changes next)) n.marked
-          (may_commit_it Spells site identity log w.0 image p n.version next took (commit w.0 image (last_image t) w.1 w.2) g asked (subst (λ (u : Table). IsMade g asked u next) (sym n.same) made))
+          (may_commit_it Spells site identity log w.0 image p n.version next took (commit w.0 image (last_image t) w.1 w.2) g asked (subst (λ (u : Table). IsMade g asked u next) (sym n.same) made) change)
 
-      pub traced_change : Traces Spells site identity log (log_after log (WritesLog (record mark { count = mark.count + 1 }) asked n.version.changes next)) (IsReadyWith took) (IsCommitBegin (spots_of site table.plan.lists) p)
+      pub traced_change : Traces Spells site identity log (log_after log (WritesLog (record mark { count = mark.count + 1 }) asked n.version.changes next)) (IsReadyWith took) (IsCommitBegin (spots_of site next.plan.lists) p)
           (IsTaking false (record mark { count = mark.count + 1 }) []) t t
       traced_change =
-          subst (λ (x : Mark). Traces Spells site identity log (after x) (IsReadyWith took) (IsCommitBegin (spots_of site table.plan.lists) p) (IsTaking false (later x) []) t t) n.marked
-          (subst (λ (u : Table). Traces Spells site identity log (after n.version.mark) (IsReadyWith took) (IsCommitBegin (spots_of site u.plan.lists) p) (IsTaking false (later n.version.mark) []) t t) n.same
-          (trace_here Spells site identity log (after n.version.mark) (IsReadyWith took) (IsCommitBegin (spots_of site n.version.table.plan.lists) p) (IsTaking false (later n.version.mark) []) t
-          (λ w image is world known. commit_begins Spells site identity log w image p n.version next took (commit w image is world known) asked)))
+          subst (λ (x : Mark). Traces Spells site identity log (after x) (IsReadyWith took) (IsCommitBegin (spots_of site next.plan.lists) p) (IsTaking false (later x) []) t t) n.marked
+          (trace_here Spells site identity log (after n.version.mark) (IsReadyWith took) (IsCommitBegin (spots_of site next.plan.lists) p) (IsTaking false (later n.version.mark) []) t
+          (λ w image is world known. commit_begins Spells site identity log w image p n.version next took (commit w image is world known) asked))
 
   -- enough places took the newest version
   pub traced_answer : (mark : Mark) (table : Table) (by_majority : Bool) (took : List Spot) → is_written (record (voted_table site table) { by_majority = by_majority }) (is_in took) ≡ true → IsNewest log mark table

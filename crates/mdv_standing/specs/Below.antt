@@ -39,9 +39,10 @@ pub use Rattle.mdv_shown.specs.Wipes.{FirstIs, HasFirst}
 pub use Rattle.mdv_shown.specs.declared.site.Site.{Site}
 pub use Rattle.mdv_shown.specs.Steps.{IsAbove, IsBodyOf, last_number}
 pub use Rattle.mdv_store_law.specs.Log.{Log, MayHappen, Version, Writing as WritesLog, Written, log_after}
+pub use Rattle.mdv_table.specs.Plan.{last_of}
 pub use Rattle.mdv_table.specs.declared.change.Change.{Change}
 pub use Rattle.mdv_table.specs.declared.plan.Lists.{Lists}
-pub use Rattle.mdv_table.specs.declared.plan.Lists.TheVariants.{One}
+pub use Rattle.mdv_table.specs.declared.plan.Lists.TheVariants.{One, Two}
 pub use Rattle.mdv_table.specs.declared.table.Table.{Table}
 pub use Rattle.mdv_votes.specs.Family.{greatest_of, knows_above, newest_of, no_table, place_at, table_at}
 pub use Rattle.mdv_votes.specs.Laws.{IsWithin}

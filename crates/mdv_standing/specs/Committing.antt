@@ -1,30 +1,38 @@
 -- How a database's worlds and its log go on while a change of its table begins to be written.
-use Rattle.std.specs.Prelude.{◌≡◌, ℕ, ◌+◌, ◌<◌, ◌^◌, false, List, [], ◌∷◌, Option, IsTrue}
+use Rattle.std.specs.Prelude.{◌≡◌, ◌⊎◌, ℕ, ◌+◌, ◌<◌, ◌^◌, true, false, List, [], ◌∷◌, Option, IsTrue}
 use Rattle.mdv_store_law.specs.Log.{IsMade}
-use Rattle.mdv_standing.specs.Below.{Change, Core, Geometry, Identity, Image, IsOwnAt, LeftClosed, Log, Mark, MayHappen, NextLists, Reads, Site, Slotted, Spot, Table, Version, WritesLog, is_named, log_after}
-use Rattle.mdv_standing.specs.Matching.{lists_of}
+use Rattle.mdv_standing.specs.Below.{Change, Core, Geometry, Identity, Image, IsOwnAt, LeftClosed, Lists, Log, Mark, MayHappen, NextLists, One, Reads, Site, Slotted, Spot, Table, Version, WritesLog, is_named, last_of, log_after}
+use Rattle.mdv_standing.specs.Matching.{spots_of}
 use Rattle.mdv_standing.specs.Worlds.{IsReadyWith, IsTaking, IsWorld, Turned}
 
 abbrev pub next_mark : Version → Mark
 next_mark v = record v.mark { count = v.mark.count + 1 }
 
--- The next table is to be written, with the lists of the newest one, first at this place. Nothing is in work.
+-- the lists of places stay, or their change is over
+abbrev pub MayFollow : Lists → Lists → Type 0
+MayFollow was next = (next ≡ was) ⊎ (next ≡ One (last_of was))
+
+-- they change only once the write of that version was answered
+abbrev pub MayChangeLists : Version → Table → Type 0
+MayChangeLists v next = (next.plan.lists ≡ v.table.plan.lists) ⊎ (v.is_written ≡ true)
+
+-- The next table is to be written, with lists that may follow those of the newest one, first at this place. Nothing is in work.
 pub record IsCommit (Spells : List ℕ → Table → Type 0) (site : Site) (identity : Identity) (log : Log) (w : Core) (image : Image) (p : Spot) (v : Version) (table : Table) (took : List Spot) : Type 0 where
   pub world : IsWorld Spells site identity log w image
   pub own : IsOwnAt Spells site identity image p
   pub older : List Version
   pub newest : log.family ≡ v ∷ older
-  pub named : IsTrue (is_named (lists_of site v) p)
+  pub named : IsTrue (is_named (spots_of site table.plan.lists) p)
   pub small : v.mark.count + 1 < 2 ^ 63
-  pub same_lists : table.plan.lists ≡ v.table.plan.lists
+  pub follows : MayFollow v.table.plan.lists table.plan.lists
   pub known : IsReadyWith took w
 
 -- From then on slots take the table, and it is answered, as a boot's does.
 pub record CommitsGo : Type 0 where
-  -- what a change makes of the newest version, or that one again, may be written
+  -- what a change makes of the newest version, or that one again, may be written, or that one with its change of places over
   pub may : (read : List ℕ → Option Table) (g : Geometry) (site : Site) (identity : Identity) (log : Log) (w : Core) (image : Image) (p : Spot) (v : Version) (asked : Option Change) (table : Table) (took : List Spot)
-      → IsCommit (Reads read) site identity log w image p v table took → IsMade g asked v.table table → MayHappen g log (WritesLog (next_mark v) asked v.changes table)
+      → IsCommit (Reads read) site identity log w image p v table took → IsMade g asked v.table table → MayChangeLists v table → MayHappen g log (WritesLog (next_mark v) asked v.changes table)
   -- and so it begins to be
   pub begins : (read : List ℕ → Option Table) (site : Site) (identity : Identity) (log : Log) (w : Core) (image : Image) (p : Spot) (v : Version) (asked : Option Change) (table : Table) (took : List Spot)
       → IsCommit (Reads read) site identity log w image p v table took
-      → Turned (Reads read) site identity (log_after log (WritesLog (next_mark v) asked v.changes table)) w image (λ es. es ≡ NextLists (lists_of site v) ∷ (Slotted p LeftClosed ∷ [])) (IsTaking false (next_mark v) [])
+      → Turned (Reads read) site identity (log_after log (WritesLog (next_mark v) asked v.changes table)) w image (λ es. es ≡ NextLists (spots_of site table.plan.lists) ∷ (Slotted p LeftClosed ∷ [])) (IsTaking false (next_mark v) [])

@@ -1,7 +1,7 @@
 -- What a world of the votes has to do with the log of its database.
 use Rattle.std.specs.Prelude.{◌≡◌, ◌<◌, ◌≤◌, ◌+◌, ◌&&◌, ℕ, Bool, true, false, List, [], length, map, reverse, slice_index_or, Option, None, Some, Contains}
 use Rattle.std.specs.List.{filter_map}
-use Rattle.mdv_standing.specs.Below.{Key, Local, Set, Place, SliceAt, slice_at, Site, Core, MayAll, after_all, start, Event, Log, Version, Change, Lists, One, Table, FamilyTable, Spot, SpotLists, Dropped, is_in, is_none, last_list, no_table, place_at, table_at}
+use Rattle.mdv_standing.specs.Below.{Key, Local, Set, Place, SliceAt, slice_at, Site, Core, MayAll, after_all, start, Event, Log, Version, Change, Lists, One, Two, Table, FamilyTable, Spot, SpotLists, Dropped, is_in, is_none, last_list, no_table, place_at, table_at}
 
 abbrev pub is_set : Key → Bool
 is_set (Local host) = false
@@ -23,8 +23,13 @@ abbrev pub spot_in : Option SliceAt → Place → Spot
 spot_in None place = record { drive = record { 0 = 0 }; first = 0; mediator = false }
 spot_in (Some at) place = record { drive = at.drive; first = at.start + place.start; mediator = false }
 
+abbrev pub spots_in : Site → List Place → List Spot
+spots_in site places = map (λ (place : Place). spot_in (slice_at site.lines place.slice) place) places
+
+-- while places change the old list is the first one, and the one that comes the second
 abbrev pub spots_of : Site → Lists → SpotLists
-spots_of site (One places) = record { first = map (λ (place : Place). spot_in (slice_at site.lines place.slice) place) places; second = None; mediators = [] }
+spots_of site (One places) = record { first = spots_in site places; second = None; mediators = [] }
+spots_of site (Two old new) = record { first = spots_in site old; second = Some (spots_in site new); mediators = [] }
 
 abbrev pub lists_of : Site → Version → SpotLists
 lists_of site v = spots_of site v.table.plan.lists

@@ -1,9 +1,10 @@
 -- By which events a call leads from each world that an image of its start shows to one that an image of the moment shows.
 use Rattle.std.specs.Prelude.{◌≡◌, ℕ, ◌+◌, ◌<◌, ◌^◌, Bool, false, List, [], ◌∷◌, ◌++◌, map, Option, None, Some, IsTrue}
-use Rattle.mdv_store_law.specs.Log.{Adds, Event as LogEvent, IsCourse, IsMade, NoCreation, log_after_all}
+use Rattle.mdv_store_law.specs.Log.{Adds, Event as LogEvent, HasOneList, IsCourse, IsMade, NoCreation, log_after_all}
 use Rattle.mdv_store_law.specs.Part.{IsPart}
 use Rattle.mdv_standing.specs.Below.{Change, Claimed, Claims, Core, Event, Everywhere, Filled, Fills, FirstIs, Formatted, Formats, Geometry, Head, Identity, IsAbove, IsBodyOf, IsSpareSlot, LeftClosed, Leaves, Lists, Log, Mark, Master, MayClaim, MayFill, MayFormat, MayHappen, MayWipe, NextLists, PlaceAt, Reads, Seen, Site, SliceLine, Slot, Slotted, Spot, SpotLists, Table, Tale, Told, Version, WritesLog, Written, greatest_seen, is_claimed, is_in, is_named, is_none, is_written, log_after, master_on, place_on, spot_on, spots_seen, start}
 use Rattle.mdv_standing.specs.Adopting.{IsLook, IsMarked, drawn}
+use Rattle.mdv_standing.specs.Committing.{MayChangeLists, MayFollow}
 use Rattle.mdv_standing.specs.Creating.{AreAllPlaced, IsCreating, MayBeFormatted, first_mark, issued_log}
 use Rattle.mdv_standing.specs.Forming.{IsBehind, IsToFormat}
 use Rattle.mdv_standing.specs.Laws.{HasNone}
@@ -116,13 +117,13 @@ pub record WritesTrace : Type 0 where
   pub answered : (read : List ℕ → Option Table) (site : Site) (identity : Identity) (log : Log) (t : Tale) (mark : Mark) (table : Table) (by_majority : Bool) (took : List Spot)
       → IsTrue (is_written (record (voted_table site table) { by_majority = by_majority }) (is_in took)) → IsNewest log mark table
       → Traces (Reads read) site identity log (log_after log Written) (IsTaking by_majority mark took) (λ es. es ≡ Told ∷ []) (IsReadyWith took) t t
-  -- and what a change makes of it may be written, and begins to be
+  -- and what a change makes of it may be written, or it itself with its change of places over, and begins to be
   pub may : (read : List ℕ → Option Table) (g : Geometry) (site : Site) (identity : Identity) (log : Log) (t : Tale) (line : SliceLine) (k : ℕ) (first : Master) (head : Head) (mark : Mark) (table next : Table) (n : IsNewest log mark table) (asked : Option Change) (took : List Spot)
-      → IsPlaceAt (Reads read) site identity t next line k first head → IsMade g asked table next → next.plan.lists ≡ table.plan.lists → mark.count + 1 < 2 ^ 63
+      → IsPlaceAt (Reads read) site identity t next line k first head → IsMade g asked table next → MayFollow table.plan.lists next.plan.lists → MayChangeLists n.version next → mark.count + 1 < 2 ^ 63
       → CoversWith (Reads read) site identity (λ image w. IsReadyWith took w) log t → MayHappen g log (WritesLog (record mark { count = mark.count + 1 }) asked n.version.changes next)
   pub changes : (read : List ℕ → Option Table) (site : Site) (identity : Identity) (log : Log) (t : Tale) (line : SliceLine) (k : ℕ) (first : Master) (head : Head) (mark : Mark) (table next : Table) (n : IsNewest log mark table) (asked : Option Change) (took : List Spot)
-      → IsPlaceAt (Reads read) site identity t next line k first head → next.plan.lists ≡ table.plan.lists → mark.count + 1 < 2 ^ 63
-      → Traces (Reads read) site identity log (log_after log (WritesLog (record mark { count = mark.count + 1 }) asked n.version.changes next)) (IsReadyWith took) (IsCommitBegin (spots_of site table.plan.lists) (spot_on line first.blocks k))
+      → IsPlaceAt (Reads read) site identity t next line k first head → MayFollow table.plan.lists next.plan.lists → mark.count + 1 < 2 ^ 63
+      → Traces (Reads read) site identity log (log_after log (WritesLog (record mark { count = mark.count + 1 }) asked n.version.changes next)) (IsReadyWith took) (IsCommitBegin (spots_of site next.plan.lists) (spot_on line first.blocks k))
       (IsTaking false (record mark { count = mark.count + 1 }) []) t t
 
 -- nothing has happened to the database
@@ -154,8 +155,8 @@ pub record CreationsTrace : Type 0 where
   pub later_formatted : (read : List ℕ → Option Table) (site : Site) (identity : Identity) (log : Log) (t m : Tale) (line : SliceLine) (k : ℕ) (first : Master) (lists : Lists) (done : List Spot) → log.family ≡ []
       → IsToFormat site identity t line first.blocks first.count k lists done → IsBehind (Reads read) site t line k first → Leaves (Formats (place_on line first.blocks first.count k) (master_on site identity line first.blocks first.count k) 1) t m
       → Traces (Reads read) site identity log log (IsCreating (spots_of site lists) done) (λ es. es ≡ Formatted (spot_on line first.blocks k) ∷ []) (IsCreating (spots_of site lists) (spot_on line first.blocks k ∷ done)) t m
-  -- once each place of the first table was formatted that may be written, which has no volumes, and begins to be
-  pub may : (g : Geometry) (identity : Identity) (log : Log) (table : Table) → log.issued ≡ Some identity → log.family ≡ [] → table.plan.volumes ≡ [] → MayHappen g log (WritesLog first_mark None [] table)
+  -- once each place of the first table was formatted that may be written, which has one list of places and no volumes, and begins to be
+  pub may : (g : Geometry) (identity : Identity) (log : Log) (table : Table) → log.issued ≡ Some identity → log.family ≡ [] → table.plan.volumes ≡ [] → HasOneList table → MayHappen g log (WritesLog first_mark None [] table)
   pub writes : (read : List ℕ → Option Table) (site : Site) (identity : Identity) (log : Log) (t : Tale) (p : Spot) (table : Table) (done : List Spot) → log.family ≡ [] → is_none (spots_of site table.plan.lists).first ≡ false
       → IsTrue (is_in done p) → IsTrue (is_named (spots_of site table.plan.lists) p) → Everywhere (AreAllPlaced (Reads read) site identity table.plan.lists) t
       → Traces (Reads read) site identity log (log_after log (WritesLog first_mark None [] table)) (IsCreating (spots_of site table.plan.lists) done) (λ es. es ≡ Slotted p LeftClosed ∷ []) (IsTaking false first_mark []) t t

@@ -1,8 +1,9 @@
 -- How a log and the worlds of all images go on together, call by call.
-use Rattle.std.specs.Prelude.{◌≡◌, ℕ, ◌+◌, ◌<◌, ◌^◌, Bool, false, List, [], ◌∷◌, Option, None, IsTrue}
+use Rattle.std.specs.Prelude.{◌≡◌, ℕ, ◌+◌, ◌<◌, ◌^◌, Bool, true, false, List, [], ◌∷◌, Option, None, IsTrue}
 use Rattle.mdv_store_law.specs.Log.{IsMade}
 use Rattle.mdv_standing.specs.Below.{Change, Claims, Everywhere, Fills, Geometry, Head, Identity, IsAbove, IsBodyOf, IsChosen, IsOwn, IsSite, IsSpareSlot, Leaves, Log, Mark, Master, MayClaim, MayFill, MayHappen, Reads, Seen, Site, SliceLine, Slot, SlotShows, Spot, Table, Tale, Version, WritesLog, Written, covers, greatest_seen, is_claimed, is_in, is_majority, is_named, is_written, log_after, place_on, spot_on, spots_seen}
 use Rattle.mdv_standing.specs.Adopting.{AreOwn, IsMarked, drawn}
+use Rattle.mdv_standing.specs.Committing.{MayFollow}
 use Rattle.mdv_standing.specs.Matching.{by_majority_on, is_set, spots_of, voted_table}
 use Rattle.mdv_standing.specs.Standing.{Covers, CoversWith}
 use Rattle.mdv_standing.specs.Worlds.{IsReadyWith, IsTaking, MayBeClaimed}
@@ -38,6 +39,7 @@ pub record IsWriting (Spells : List ℕ → Table → Type 0) (site : Site) (ide
 -- Its write was answered, these places have it, and nothing is in work.
 pub record IsOpen (Spells : List ℕ → Table → Type 0) (site : Site) (identity : Identity) (log : Log) (t : Tale) (mark : Mark) (table : Table) (took : List Spot) : Type 0 where
   pub newest : IsNewest log mark table
+  pub written : newest.version.is_written ≡ true
   pub each : CoversWith Spells site identity (λ image w. IsReadyWith took w) log t
 
 -- The log goes on: this table may be written under this mark, and what comes of it is being written.
@@ -82,7 +84,7 @@ pub record WritesTurn : Type 0 where
   pub answered : (read : List ℕ → Option Table) (site : Site) (identity : Identity) (log : Log) (t : Tale) (mark : Mark) (table : Table) (by_majority : Bool) (took : List Spot)
       → IsTrue (is_written (record (voted_table site table) { by_majority = by_majority }) (is_in took)) → IsWriting (Reads read) site identity by_majority log t mark table took
       → IsOpen (Reads read) site identity (log_after log Written) t mark table took
-  -- and what a change makes of it begins to be written
+  -- and what a change makes of it begins to be written, or it itself with its change of places over
   pub changes : (read : List ℕ → Option Table) (g : Geometry) (site : Site) (identity : Identity) (log : Log) (t : Tale) (line : SliceLine) (k : ℕ) (first : Master) (head : Head) (mark : Mark) (table next : Table) (asked : Option Change) (took : List Spot)
-      → IsPlaceAt (Reads read) site identity t next line k first head → IsMade g asked table next → next.plan.lists ≡ table.plan.lists → mark.count + 1 < 2 ^ 63 → IsOpen (Reads read) site identity log t mark table took
+      → IsPlaceAt (Reads read) site identity t next line k first head → IsMade g asked table next → MayFollow table.plan.lists next.plan.lists → mark.count + 1 < 2 ^ 63 → IsOpen (Reads read) site identity log t mark table took
       → Begins (Reads read) g site identity false log t (record mark { count = mark.count + 1 }) asked next

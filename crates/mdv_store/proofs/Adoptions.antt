@@ -1,5 +1,5 @@
 -- What a boot makes of the newest table: what follows for its moments, its end and its answer.
-use Rattle.std.proofs.Common.{◌≡◌, inl, inr, ◌<◌, ◌+◌, ◌-◌, ◌*◌, ◌^◌, ℕ, zero, suc, Bool, true, false, List, [], ◌∷◌, Option, Some, Contains, length, slice_get, refl, sym, ◌∙◌, subst, ap, arith}
+use Rattle.std.proofs.Common.{◌≡◌, inl, inr, ◌<◌, ◌+◌, ◌-◌, ◌*◌, ◌^◌, ℕ, zero, suc, Bool, true, false, List, [], ◌∷◌, Option, Some, Contains, length, slice_get, refl, sym, ◌∙◌, subst, ap, arith, None}
 use Rattle.std.specs.List.{list_any}
 use Rattle.std.proofs.lemmas.Bool.{or_left, or_right}
 use Rattle.std.proofs.lemmas.Bool.Decides.{nat_tests}
@@ -46,6 +46,8 @@ use Rattle.mdv_store.proofs.Reading.{in_hand_is, seated_laid, seated_own, to_ado
 use Rattle.mdv_look.specs.Quiet.{IsQuiet}
 use Rattle.mdv_store.proofs.Seating.{or_yes}
 use Rattle.mdv_store.proofs.Sitting.{contains_behind, contains_first, first_or_behind, left_replica}
+use Rattle.mdv_store.specs.Shares.{short_of}
+use Rattle.mdv_store.specs.declared.seats.Need.TheVariants.{More}
 
 -- An end of which nothing was written.
 pub not_adopted : (answer : BootEnd) (P : Opened → Type 0) → has_written answer ≡ false → IfAdopted answer P
@@ -71,7 +73,7 @@ still_moment g site answer t still = record { quiet = quiet_same (boot_area site
 
 module _ {S : Type 0} (shelf : Ghosts S) (now : S) (taken : Taken) (still : has_written taken.end ≡ false) where
   pub still_counted : IsTakingCounted shelf now now taken
-  still_counted = record { most = between_none shelf.calls shelf.written now now (8 * 50) most_blocks refl; calm = λ so. not_adopted taken.end _ still }
+  still_counted = record { most = between_none shelf.calls shelf.written now now (8 * 100) most_blocks refl; calm = λ so. not_adopted taken.end _ still }
 
   pub still_kept : (drives : List DriveNo) → KeptAmong shelf now now drives
   still_kept drives = among_none shelf now drives
@@ -155,7 +157,7 @@ module _ (site : Site) (replicas : List Replica) (newest : Newest) (hand : Hand)
     pub number_of : hand.number ≡ greatest_number replica.head.master.identity survey.replicas + 1
     number_of = is.number_is ∙ ap (λ (i : Identity). greatest_number i replicas + 1) identity_is ∙ ap (λ (rs : List Replica). greatest_number replica.head.master.identity rs + 1) (sym reps)
 
-    module _ (enough : length hand.seats < 2 * active_of hand.seats) (small : hand.number < 2 ^ 63) where
+    module _ (enough : short_of More hand.seats newest.table.plan.lists ≡ None) (small : hand.number < 2 ^ 63) where
       drawn_of : IsDrawn survey newest replica hand.seats hand.number
       drawn_of = record { hand = in_hand_of; enough = enough; number_is = number_of; small = small }
 
@@ -177,11 +179,11 @@ module _ (site : Site) (replicas : List Replica) (newest : Newest) (hand : Hand)
       end_of failed Wrote wrote end.Empty by = absurd by
       end_of failed Wrote wrote (end.TwoDatabases a b) by = absurd by
       end_of failed Wrote wrote (end.NoQuorum readable needed) by = absurd by
-      end_of failed Wrote wrote (end.Lost active listed) by = record { newest = newest; replica = replica; seats = hand.seats; number = hand.number; drawn = drawn_of; written = written_of Wrote wrote; now = by.now; left = by.left; few = by.few; active_is = by.active_is; listed_is = by.listed_is }
+      end_of failed Wrote wrote (end.Lost active listed) by = record { newest = newest; replica = replica; seats = hand.seats; number = hand.number; drawn = drawn_of; written = written_of Wrote wrote; now = by.now; left = by.left; few = by.few }
       end_of failed Wrote wrote end.Spent by = absurd by
       end_of failed Wrote wrote end.Memory by = absurd by
 
-  module _ (enough : length hand.seats < 2 * active_of hand.seats) where
+  module _ (enough : short_of More hand.seats newest.table.plan.lists ≡ None) where
     pub hand_laid : (sizes : List ℕ) → IsOnShelf sizes site → AreLaid sizes hand.seats
     hand_laid sizes on r has = (let one = in_hand_is site replicas newest hand is seated enough r has in seated_laid sizes site r on (seated r one.1))
 

@@ -210,8 +210,6 @@ end_as failed told Wrote site survey some none (end.Lost active listed) by =
       now = by.now;
       left = left_as failed told (TakesClaimOrBoth by.number (length (record_text by.newest.table))) (TakesClaimOrBoth by.number (length (record_text by.newest.table))) by.seats by.now (λ r in_seats. some r (has r in_seats)) (λ r in_seats. none r (has r in_seats)) (λ r m took. took) by.left;
       few = by.few;
-      active_is = by.active_is;
-      listed_is = by.listed_is;
     }
 end_as failed told Wrote site survey some none end.Spent by = by
 end_as failed told Wrote site survey some none end.Memory by = tt
@@ -297,7 +295,7 @@ module _ {S : Type 0} (shelf : Ghosts S) (site : Site) (old m1 : S) (up : Drives
 
       pub wanting_counted : IsBootCounted shelf old m2 g site answer
       wanting_counted = record {
-        most = between_wider shelf.calls shelf.written old m2 0 (2 * length site.drives + most_reads site) 0 0 (2 * length site.drives + most_reads site + 8 * 50) most_blocks (omega arith) (omega arith) (omega arith) looks_most;
+        most = between_wider shelf.calls shelf.written old m2 0 (2 * length site.drives + most_reads site) 0 0 (2 * length site.drives + most_reads site + 8 * 100) most_blocks (omega arith) (omega arith) (omega arith) looks_most;
         still = λ unwritten. looks_most;
         clean = λ so. absurd (cc (so, clean_is));
       }
@@ -516,7 +514,7 @@ module _ {S : Type 0} (shelf : Ghosts S) (site : Site) (old m1 : S) (up : Drives
 
       pub all_counted : IsTakingCounted shelf m2 new taken → (AreAllCalm site up looked.calm → (t : Tale) → shelf.tale m1 ≡ Some t → (n : ℕ) × MadeReads shelf m1 m2 n × AreLinesBy g site up no_drives (last t) site.lines n) → IsBootCounted shelf old new g site made
       all_counted counted once = record {
-        most = between_then shelf.calls shelf.written old m2 new 0 (2 * length site.drives + most_reads site) 0 0 (8 * 50) most_blocks 0 (2 * length site.drives + most_reads site + 8 * 50) most_blocks (omega arith) (omega arith) (omega arith) looks_most counted.most;
+        most = between_then shelf.calls shelf.written old m2 new 0 (2 * length site.drives + most_reads site) 0 0 (8 * 100) most_blocks 0 (2 * length site.drives + most_reads site + 8 * 100) most_blocks (omega arith) (omega arith) (omega arith) looks_most counted.most;
         still = λ unwritten. subst (λ (s : S). MadeCallsBetween shelf old s 0 (2 * length site.drives + most_reads site) 0) (sym (answer.still unwritten)) looks_most;
         clean = λ so t told. (
             let is_calm = calm_of so in

@@ -1,5 +1,5 @@
 -- What a commit leads to.
-use Rattle.std.proofs.Common.{◌≡◌, inl, inr, ◌<◌, ◌≤◌, ◌+◌, ◌*◌, ◌^◌, ℕ, true, false, List, [], ◌∷◌, ◌++◌, Option, Some, Contains, length, take, refl, sym, ◌∙◌, subst, append-nil, arith}
+use Rattle.std.proofs.Common.{◌≡◌, inl, inr, ◌<◌, ◌≤◌, ◌+◌, ◌*◌, ◌^◌, ℕ, true, false, List, [], ◌∷◌, ◌++◌, Option, Some, Contains, length, take, refl, sym, ◌∙◌, subst, append-nil, arith, None, ap}
 use Rattle.std.proofs.lemmas.Bool.{false≢true, leb-true}
 use Rattle.std.specs.List.{concat}
 use Rattle.mdv_quorum.specs.declared.event.Event.TheVariants.{Told}
@@ -19,9 +19,9 @@ use Rattle.mdv_store_law.specs.Part.{IsPart}
 use Rattle.mdv_table.specs.declared.plan.Lists.{Lists}
 use Rattle.mdv_store.specs.Below.{Change, CoversWith, Event, Failures, Geometry, HasNoneAbove, IsNewest, IsOfGeometry, IsReadyWith, IsSound, IsTaking, Log, Mark, Replica, Site, Spot, Table, Tale, Traces, asks_of, fills_at, is_named, last, lists_of_spots, places_of, record_text, site_of}
 use Rattle.mdv_store.specs.Commit.{AnyLog, AnyWorld, AreOfCommit, CommitDone, CommitGoes, CommitMoment, IsCommitted, IsCommittedTo, IsLogOf, IsLostNow, MayCommit, next_mark, room_in}
-use Rattle.mdv_store.specs.Opened.{AreSeatsOf, IsOpen, IsOpenedAt, Opened, least_room}
+use Rattle.mdv_store.specs.Opened.{AreSeatsOf, IsOpen, IsOpenedAt, Opened, least_room, shortage}
 use Rattle.mdv_store.specs.Records.{Spells}
-use Rattle.mdv_store.specs.Seats.{AreLeft, AreNamed, HaveRoom, TakesSlot, active_of, is_half_active, replicas_of, spot_of, spots_of}
+use Rattle.mdv_store.specs.Seats.{AreLeft, AreNamed, HaveRoom, TakesSlot, replicas_of, spot_of, spots_of}
 use Rattle.mdv_store.specs.Slots.{AreAbove, AreBodies, AreFills, FillsTrace, IsWritten}
 use Rattle.mdv_store.specs.Text.{IsSpelled, blocks_for}
 use Rattle.mdv_store.specs.Writing.{WritingEnds, WritingMoment, text_size}
@@ -34,6 +34,10 @@ use Rattle.mdv_store.proofs.Rooms.{have_room}
 use Rattle.mdv_store.proofs.Sitting.{left_replica, left_seats, some_active}
 use Rattle.mdv_store.proofs.Telling.{newest_tellable, newest_written}
 use Rattle.mdv_store.proofs.Texts.{text_some}
+use Rattle.mdv_store.specs.Shares.{short_of}
+use Rattle.mdv_store.specs.declared.seats.Need.TheVariants.{Half}
+use Rattle.mdv_store.specs.declared.seats.Share.{Share}
+use Rattle.mdv_store.proofs.Shares.{some_enough}
 
 -- Nothing was done.
 nothing_goes : (g : Geometry) (old : Opened) (next : Table) (asked : Option Change) (t : Tale) → CommitGoes g old asked AnyWorld AnyLog t t
@@ -62,7 +66,7 @@ pub record IsCommitting (old : Opened) (next : Table) : Type 0 where
   pub seats : AreSeatsOf old.table old.seats
   pub boot : old.mark.boot < 2 ^ 63
   pub small : old.mark.count + 1 < 2 ^ 63
-  pub half : is_half_active old.seats ≡ true
+  pub half : shortage old ≡ None
   pub none_above : (r : Replica) → Contains (replicas_of old.seats) r → HasNoneAbove old.mark r.head
   pub lists : next.plan.lists ≡ old.table.plan.lists
   pub fits : length (record_text next) ≤ room_in old.table
@@ -109,7 +113,7 @@ module _ (old : Opened) (next : Table) (c : IsCommitting old next) where
     places = spots_of old.seats
 
     first : (r : Replica) × Contains (replicas_of old.seats) r
-    first = some_active old.seats (omega (arith, c.seats.some, leb-true (length old.seats) (2 * active_of old.seats) c.half))
+    first = some_active old.seats (some_enough Half old.seats old.table c.seats c.half)
 
     abbrev p : Spot
     p = spot_of first.0
@@ -125,12 +129,14 @@ module _ (old : Opened) (next : Table) (c : IsCommitting old next) where
 
     may_write : MayHappen g log (writes asked log known.newest)
     may_write =
-        may_change (Spells g) site old.identity log t first.0.line first.0.number first.0.first first.0.head old.mark old.table next asked places at c.lists c.small known.newest g may.made covers
+        may_change (Spells g) site old.identity log t first.0.line first.0.number first.0.first first.0.head old.mark old.table next asked places at (inl c.lists) c.small known.newest g may.made
+        (inl (c.lists ∙ sym (ap (λ (u : Table). u.plan.lists) known.newest.same))) covers
 
     begin : Traces (Spells g) site old.identity log begun (IsReadyWith places) (IsRun Begins []) (IsTaking false mark []) t t
     begin =
         run_traced (Spells g) site old.identity log begun (IsReadyWith places) (IsTaking false mark []) Begins t t
-        (traced_change (Spells g) site old.identity log t first.0.line first.0.number first.0.first first.0.head old.mark old.table next asked places at c.lists c.small known.newest)
+        (subst (λ (l : Lists). Traces (Spells g) site old.identity log begun (IsReadyWith places) (IsCommitBegin (lists_of_spots site l) p) (IsTaking false mark []) t t) c.lists
+        (traced_change (Spells g) site old.identity log t first.0.line first.0.number first.0.first first.0.head old.mark old.table next asked places at (inl c.lists) c.small known.newest))
 
     newest : IsNewest begun mark next
     newest = newest_begun log mark asked known.newest.version.changes next
@@ -165,8 +171,8 @@ module _ (old : Opened) (next : Table) (c : IsCommitting old next) where
       after = tt;
     }
 
-    -- half of them took it in the end
-    module _ (new : List Seat) (u : Tale) (ends : WritingEnds old.seats new mark next t u) (are : AreSeatsOf next new) (half : is_half_active new ≡ true) where
+    -- half of each list took it in the end
+    module _ (new : List Seat) (u : Tale) (ends : WritingEnds old.seats new mark next t u) (are : AreSeatsOf next new) (half : short_of Half new next.plan.lists ≡ None) where
       abbrev took : List Spot
       took = spots_of new ++ []
 
@@ -233,23 +239,27 @@ module _ (old : Opened) (next : Table) (c : IsCommitting old next) where
       marks = λ half. left_none_above failed old.mark bytes old.seats new left c.none_above;
     }
 
-    -- fewer than half took it
-    pub lost_open : (rooms : ℕ) → least_room (places_of old.table.plan.lists) ≤ rooms → 512 * rooms < 2 ^ 32 → is_half_active new ≡ false → IsOpen (record old { seats = new }) rooms
-    lost_open rooms whole short few = record {
+    -- of a list fewer than half took it
+    pub lost_open : (rooms : ℕ) → least_room (places_of old.table.plan.lists) ≤ rooms → 512 * rooms < 2 ^ 32 → (share : Share) → short_of Half new old.table.plan.lists ≡ Some share → IsOpen (record old { seats = new }) rooms
+    lost_open rooms whole short share few = record {
       boot = c.boot;
       count = omega (arith, c.small);
       seats = new_seats old.table refl;
       whole = whole;
       short = short;
-      marks = λ half. absurd (false≢true (sym few ∙ half));
+      marks = λ half. absurd (cc (few, half));
     }
 
     -- what came of it
-    pub lost_now : is_half_active new ≡ false → IsLostNow failed old (record old { seats = new }) next
-    lost_now few = record { tried = record { half = c.half; fits = c.fits; small = c.small; left = left }; few = few; is = refl }
+    pub lost_now : IsLostNow failed old (record old { seats = new }) next
+    lost_now = record { tried = record { half = c.half; fits = c.fits; small = c.small; left = left }; is = refl }
 
-    pub committed : is_half_active new ≡ true → IsCommitted failed old (record old { mark = mark; table = next; seats = new }) next
-    committed half = record { tried = record { half = c.half; fits = c.fits; small = c.small; left = left }; enough = half; is = refl }
+    -- by the lists of the table that was, which are those of the next one
+    half_next : short_of Half new old.table.plan.lists ≡ None → short_of Half new next.plan.lists ≡ None
+    half_next half = ap (short_of Half new) c.lists ∙ half
+
+    pub committed : short_of Half new old.table.plan.lists ≡ None → IsCommitted failed old (record old { mark = mark; table = next; seats = new }) next
+    committed half = record { tried = record { half = c.half; fits = c.fits; small = c.small; left = left }; enough = half_next half; is = refl }
 
     -- those that are left show the table
     left_show : (t u : Tale) → WritingEnds old.seats new mark next t u → (g : Geometry) → IsOfGeometry g next → IsOpenedAt g old t → IsOpenedAt g (record old { mark = mark; table = next; seats = new }) u
@@ -264,11 +274,11 @@ module _ (old : Opened) (next : Table) (c : IsCommitting old next) where
     pub left_ends : (a b : Option Tale) → Ends (WritingEnds old.seats new mark next) a b → Ends (λ t u. (g : Geometry) → IsOfGeometry g next → IsOpenedAt g old t → IsOpenedAt g (record old { mark = mark; table = next; seats = new }) u) a b
     left_ends a b ends t is = (let end = ends t is in (end.0, end.1, left_show t end.0 end.2))
 
-    commit_done : (t u : Tale) → WritingEnds old.seats new mark next t u → is_half_active new ≡ true → CommitDone old (record old { mark = mark; table = next; seats = new }) next t u
+    commit_done : (t u : Tale) → WritingEnds old.seats new mark next t u → short_of Half new old.table.plan.lists ≡ None → CommitDone old (record old { mark = mark; table = next; seats = new }) next t u
     commit_done t u ends half = record {
       opened = left_show t u ends;
-      goes = λ g asked may log covers known. ends_so g asked t may log covers known new u ends (new_seats next c.lists) half;
+      goes = λ g asked may log covers known. ends_so g asked t may log covers known new u ends (new_seats next c.lists) (half_next half);
     }
 
-    pub commit_ends : (a b : Option Tale) → is_half_active new ≡ true → Ends (WritingEnds old.seats new mark next) a b → Ends (CommitDone old (record old { mark = mark; table = next; seats = new }) next) a b
+    pub commit_ends : (a b : Option Tale) → short_of Half new old.table.plan.lists ≡ None → Ends (WritingEnds old.seats new mark next) a b → Ends (CommitDone old (record old { mark = mark; table = next; seats = new }) next) a b
     commit_ends a b half ends t is = (let end = ends t is in (end.0, end.1, commit_done t end.0 end.2 half))

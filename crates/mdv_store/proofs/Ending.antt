@@ -17,7 +17,7 @@ use Rattle.mdv_store.specs.Commit.{AnyLog, AnyWorld}
 use Rattle.mdv_store.specs.Create.{AreAsked, AreOfCreation, CreateGoes, IsCreatedTo, MayCreate, replica_on, seats_asked, table_of}
 use Rattle.mdv_store.specs.Opened.{AreSeatsOf, IsOpenedAt, Opened}
 use Rattle.mdv_store.specs.Records.{Spells}
-use Rattle.mdv_store.specs.Seats.{AreHeld, AreLeft, TakesSlot, is_half_active, replicas_of, spot_of, spots_of}
+use Rattle.mdv_store.specs.Seats.{AreHeld, AreLeft, TakesSlot, replicas_of, spot_of, spots_of}
 use Rattle.mdv_store.specs.Slots.{AreBodies, AreFills, IsWritten, SlottingEnds, SlottingMoment}
 use Rattle.mdv_store.specs.Text.{IsSpelled}
 use Rattle.mdv_store.specs.declared.seats.Seat.{Seat}
@@ -37,6 +37,8 @@ use Rattle.mdv_store.proofs.Sitting.{left_replica, left_seats}
 use Rattle.mdv_store.proofs.Slices.{Ended, all_formed, all_forming, in_end}
 use Rattle.mdv_store.proofs.Spotting.{asked_active, asked_named}
 use Rattle.mdv_store.proofs.Telling.{newest_written}
+use Rattle.mdv_store.specs.Shares.{short_of}
+use Rattle.mdv_store.specs.declared.seats.Need.TheVariants.{Half}
 
 none_false : (l : List Spot) → 1 ≤ length l → is_none l ≡ false
 none_false [] some = absurd (omega (arith, some))
@@ -205,7 +207,7 @@ module _ (g : Geometry) (all : List Database) (key : Key) (identity : Identity) 
           let within = subst (λ (l : List Event). IsPart plan l) told_last (part_front plan (Told ∷ [])) in
           record {
             es = WritesLog first_mark None [] table ∷ [];
-            course = course_one g log (WritesLog first_mark None [] table) (may_write_first g identity log table refl refl refl);
+            course = course_one g log (WritesLog first_mark None [] table) (may_write_first g identity log table refl refl refl (_, refl));
             come = adds_begun first_mark None [] table;
             traces = trace_weaker (Spells g) site identity log begun (IsStart site) (IsStart site) (IsTaking false first_mark []) AnyWorld (IsRun Begin plan) Are t m (λ w known. known)
                 (λ es run. inr (p, run_within Begin plan (formats_at spots ++ written_at p spots) es within run)) (λ w known. tt) (fills [] m (slotting.traces g key identity begun table false [] written));
@@ -216,7 +218,7 @@ module _ (g : Geometry) (all : List Database) (key : Key) (identity : Identity) 
       writing_rest m slotting = slotting.rest g key identity all table may.forms.sound held bodies f.rest
 
       -- in the end it was answered, where at least half of the places took it
-      module _ (failed : ℕ → Failures) (new : List Seat) (left : AreLeft failed (TakesSlot first_mark bytes) seats new) (half : is_half_active new ≡ true) (u : Tale) (ends : SlottingEnds seats new first_mark bytes body v u) where
+      module _ (failed : ℕ → Failures) (new : List Seat) (left : AreLeft failed (TakesSlot first_mark bytes) seats new) (half : short_of Half new table.plan.lists ≡ None) (u : Tale) (ends : SlottingEnds seats new first_mark bytes body v u) where
         abbrev made : Opened
         made = record { key = key; identity = identity; mark = first_mark; table = table; seats = new }
 
@@ -244,7 +246,7 @@ module _ (g : Geometry) (all : List Database) (key : Key) (identity : Identity) 
             (λ fs is. part_one Told fs is) (traced_answer (Spells g) site identity begun u first_mark table false took enough newest) in
             record {
               es = WritesLog first_mark None [] table ∷ (Written ∷ []);
-              course = course_written g log first_mark None [] table (may_write_first g identity log table refl refl refl);
+              course = course_written g log first_mark None [] table (may_write_first g identity log table refl refl refl (_, refl));
               come = adds_written first_mark None [] table;
               traces = trace_weaker (Spells g) site identity log answered (IsStart site) (IsStart site) (IsReadyWith took) (IsReadyWith (spots_of new)) (IsRun Begin (((formats_at spots ++ opening ∷ []) ++ fills_at spots) ++ Told ∷ [])) Are t u (λ w known. known)
                   (λ es run. inr (p, subst (λ (l : List Event). IsRun Begin l es) told_last run)) (λ w known. subst (λ (l : List Spot). IsReadyWith l w) (append-nil (spots_of new)) known) all_told;

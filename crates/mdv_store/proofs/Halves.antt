@@ -1,48 +1,29 @@
--- At least half of a table's list took it, where at least half of its seats are active and took it.
-use Rattle.std.proofs.Common.{◌≡◌, ◌≤◌, ◌*◌, ◌&&◌, ℕ, zero, suc, Bool, true, false, cond, List, [], ◌∷◌, ◌++◌, Option, None, Some, Contains, length, map, refl, slice_index_or, ◌<◌, ◌∙◌, subst, ap, arith}
-use Rattle.std.proofs.lemmas.Bool.{and_from, le-leb, leb-true, or_left, or_right}
-use Rattle.std.proofs.lemmas.List.{length-map}
+-- At least half of each list of a table took it, where at least half of each is active and took it.
+use Rattle.std.proofs.Common.{◌≡◌, ◌&&◌, ℕ, zero, suc, Bool, true, false, List, [], ◌∷◌, ◌++◌, None, Some, Contains, length, map, refl, slice_index_or, sym, ◌<◌, ◌∙◌, subst, ap, arith}
+use Rattle.std.proofs.lemmas.Bool.{and_from, or_left, or_right}
 use Rattle.std.proofs.lemmas.List.Elements.{All-contains, All-contains_itself, All-filter}
-use Rattle.std.specs.List.{cons_option}
-use Rattle.std.specs.Prelude.{count_by}
 use Rattle.mdv_name.proofs.Finding.{slice_at-some}
 use Rattle.mdv_name.specs.SliceIndex.{slice_at}
 use Rattle.mdv_shown.specs.Sites.{is_line_of, lines_of}
-use Rattle.mdv_standing.specs.Matching.{spot_in, spots_of as lists_of_spots, voted_table}
+use Rattle.mdv_standing.specs.Matching.{spot_in, voted_table}
 use Rattle.mdv_table.specs.declared.plan.Lists.{Lists}
-use Rattle.mdv_table.specs.declared.plan.Lists.TheVariants.{One}
-use Rattle.mdv_votes.proofs.Meeting.{same_self, step_counted}
+use Rattle.mdv_table.specs.declared.plan.Lists.TheVariants.{One, Two}
+use Rattle.mdv_votes.proofs.Meeting.{same_self}
 use Rattle.mdv_votes.specs.Quorum.{is_written, is_written_list}
 use Rattle.mdv_votes.specs.Spots.{covers, is_half, is_in, is_majority}
-use Rattle.mdv_store.specs.Below.{Geometry, IsSound, Key, Place, Replica, Site, SliceLine, Spot, Table, at_of, places_of, same_spot, site_of}
+use Rattle.mdv_store.specs.Below.{Geometry, IsSound, Key, Place, Replica, Site, SliceLine, Spot, Table, at_of, lists_of_spots, same_spot, site_of}
 use Rattle.mdv_store.specs.Opened.{AreSeatsOf}
-use Rattle.mdv_store.specs.Seats.{active_of, is_half_active, replicas_of, spot_of, spots_of}
+use Rattle.mdv_store.specs.Seats.{replicas_of, spot_of, spots_of}
+use Rattle.mdv_store.specs.Shares.{has_active, share_in, short_of, suffices}
+use Rattle.mdv_store.specs.declared.seats.Need.TheVariants.{Half}
 use Rattle.mdv_store.specs.declared.seats.Seat.{Seat}
-use Rattle.mdv_store.proofs.Sitting.{contains_behind, contains_first, replica_of}
+use Rattle.mdv_store.proofs.Shares.{all_lists, list_takes, seat_at}
+use Rattle.mdv_store.proofs.Sitting.{replica_of}
 
--- the places of the active seats are in the set
-pub counted : (spot : Place → Spot) (set : Spot → Bool) (seats : List Seat) → ((s : Seat) (r : Replica) → Contains seats s → s.replica ≡ Some r → set (spot s.place) ≡ true)
-    → active_of seats ≤ count_by set (map spot (map (λ (s : Seat). s.place) seats))
-counted spot set [] all = omega arith
-counted spot set (s ∷ ss) all = by s.replica refl (counted spot set ss (λ t r has is. all t r (contains_behind s t ss has) is)) where
-  rest : List Spot
-  rest = map spot (map (λ (t : Seat). t.place) ss)
-
-  by : (o : Option Replica) → s.replica ≡ o → active_of ss ≤ count_by set rest → length (cons_option o (replicas_of ss)) ≤ count_by set (spot s.place ∷ rest)
-  by None is few = omega (arith, step_counted set (spot s.place) rest)
-  by (Some r) is few = omega (arith, step_counted set (spot s.place) rest, ap (λ (b : Bool). cond {A = ℕ} b 1 0) (all s r (contains_first s ss) is))
-
-pub half_counted : (spot : Place → Spot) (set : Spot → Bool) (seats : List Seat) → ((s : Seat) (r : Replica) → Contains seats s → s.replica ≡ Some r → set (spot s.place) ≡ true)
-    → is_half_active seats ≡ true → is_half set (map spot (map (λ (s : Seat). s.place) seats)) ≡ true
-half_counted spot set seats all half =
-    let list : List Spot = map spot (map (λ (s : Seat). s.place) seats) in
-    le-leb (length list) (2 * count_by set list) (omega (arith, leb-true (length seats) (2 * active_of seats) half, counted spot set seats all, length-map (map (λ (s : Seat). s.place) seats) spot, length-map seats (λ (s : Seat). s.place)))
-
--- half of a list suffices, where a table has no mediators and isn't a set's that a boot writes
-written_half : (site : Site) (set : Spot → Bool) (lists : Lists) → is_half set (lists_of_spots site lists).first ≡ true → covers (is_written_list false (lists_of_spots site lists).mediators set) (lists_of_spots site lists) ≡ true
-written_half site set (One places) half =
-    let first = (lists_of_spots site (One places)).first in
-    and_from (is_written_list false [] set first) true (or_right (is_majority set first) (is_half set first && true) (and_from (is_half set first) true half refl)) refl
+-- no table has mediators yet
+pub none_sit : (site : Site) (lists : Lists) → (lists_of_spots site lists).mediators ≡ []
+none_sit site (One places) = refl
+none_sit site (Two old new) = refl
 
 module _ (g : Geometry) (key : Key) (sound : IsSound g) where
   abbrev pub within : Geometry
@@ -69,17 +50,24 @@ module _ (g : Geometry) (key : Key) (sound : IsSound g) where
   pub spot_is : (r : Replica) (place : Place) → Contains (lines_of g key) r.line → (at_of r).place ≡ place → spot_at place ≡ spot_of r
   spot_is r place has is = subst (λ (p : Place). spot_at p ≡ spot_of r) is (ap (λ o. spot_in o (at_of r).place) (line_at r.line has))
 
-  pub half_written : (table : Table) (seats : List Seat) (took : List Spot) → AreSeatsOf table seats → is_half_active seats ≡ true → ((r : Replica) → Contains (replicas_of seats) r → Contains (lines_of g key) r.line)
-      → ((r : Replica) → Contains (replicas_of seats) r → is_in took (spot_of r) ≡ true) → is_written (record (voted_table (site_of g key) table) { by_majority = false }) (is_in took) ≡ true
-  half_written table seats took are half lie has = by table.plan.lists are.places where
-    all : (s : Seat) (r : Replica) → Contains seats s → s.replica ≡ Some r → is_in took (spot_at s.place) ≡ true
-    all s r one_of is =
-        let there = replica_of seats s r one_of is in
-        ap (is_in took) (spot_is r s.place (lie r there) (are.at s r one_of is)) ∙ has r there
+  -- the spot of an active place is in a set that has those of the replicas
+  pub active_in : (table : Table) (seats : List Seat) (set : Spot → Bool) → AreSeatsOf table seats → ((r : Replica) → Contains (replicas_of seats) r → Contains (lines_of g key) r.line) → ((r : Replica) → Contains (replicas_of seats) r → set (spot_of r) ≡ true)
+      → (place : Place) → has_active seats place ≡ true → set (spot_at place) ≡ true
+  active_in table seats set are lie has place so =
+      let at = seat_at seats place so in
+      let there = replica_of seats at.0 at.1 at.2 at.3 in
+      ap set (spot_is at.1 place (lie at.1 there) (are.at at.0 at.1 at.2 at.3 ∙ at.4)) ∙ has at.1 there
 
-    by : (lists : Lists) → map (λ (s : Seat). s.place) seats ≡ places_of lists → covers (is_written_list false (lists_of_spots (site_of g key) lists).mediators (is_in took)) (lists_of_spots (site_of g key) lists) ≡ true
-    by (One places) is =
-        written_half (site_of g key) (is_in took) (One places) (subst (λ (ps : List Place). is_half (is_in took) (map spot_at ps) ≡ true) is (half_counted spot_at (is_in took) seats all half))
+  pub half_written : (table : Table) (seats : List Seat) (took : List Spot) → AreSeatsOf table seats → short_of Half seats table.plan.lists ≡ None → ((r : Replica) → Contains (replicas_of seats) r → Contains (lines_of g key) r.line)
+      → ((r : Replica) → Contains (replicas_of seats) r → is_in took (spot_of r) ≡ true) → is_written (record (voted_table (site_of g key) table) { by_majority = false }) (is_in took) ≡ true
+  half_written table seats took are half lie has =
+      subst (λ (m : List Spot). covers (is_written_list false m (is_in took)) (lists_of_spots (site_of g key) table.plan.lists) ≡ true) (sym (none_sit (site_of g key) table.plan.lists))
+      (all_lists Half seats (site_of g key) (is_written_list false [] (is_in took)) each table.plan.lists half)
+    where
+      each : (list : List Place) → suffices Half (share_in seats list) ≡ true → is_written_list false [] (is_in took) (map spot_at list) ≡ true
+      each list so =
+          let half = list_takes Half spot_at (is_in took) seats (active_in table seats (is_in took) are lie has) list so in
+          or_right (is_majority (is_in took) (map spot_at list)) (is_half (is_in took) (map spot_at list) && true) (and_from (is_half (is_in took) (map spot_at list)) true half refl)
 
 -- the spots of some seats have the spot of each of their replicas
 in_spots : (rs : List Replica) (more : List Spot) (r : Replica) (k : ℕ) → k < length rs → slice_index_or rs k r ≡ r → is_in (map spot_of rs ++ more) (spot_of r) ≡ true

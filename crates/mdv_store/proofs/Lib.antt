@@ -13,6 +13,7 @@ pub mod Few
 pub mod Formed
 pub mod Forming
 pub mod Given
+pub mod Shares
 pub mod Halves
 pub mod Holding
 pub mod Leaving

@@ -1,5 +1,5 @@
 -- What a creation says, clause by clause, of the calls that it made.
-use Rattle.std.proofs.Common.{◌≡◌, inl, inr, ℕ, ◌+◌, ◌*◌, ◌≤◌, true, false, List, [], ◌∷◌, ◌++◌, length, map, Contains, Result, Ok, Err, refl, sym, ◌∙◌, ap, subst, arith}
+use Rattle.std.proofs.Common.{◌≡◌, inl, inr, ℕ, ◌+◌, ◌*◌, ◌≤◌, true, false, List, [], ◌∷◌, ◌++◌, length, map, Contains, Result, Ok, Err, refl, sym, ◌∙◌, ap, subst, arith, None, Some}
 use Rattle.std.proofs.Math.Nat.{mul-le-mul_left}
 use Rattle.mdv_base.specs.Causes.{failures_of}
 use Rattle.mdv_base.specs.Mark.{IsBelow}
@@ -17,7 +17,8 @@ use Rattle.mdv_store.specs.Below.{DriveNo, Failures, First, Geometry, Ghosts, He
 use Rattle.mdv_store.specs.Counts.{ArePassCounted, MadeCallsBetween, drives_lost}
 use Rattle.mdv_store.specs.Create.{AreAsked, CreateAnswer, CreateEnds, CreateMoment, IsCreated, IsCreationCounted, MayForm, StayFormed, WereFormed, blanked_asked, drives_asked, seats_asked, table_of}
 use Rattle.mdv_store.specs.Opened.{IsOpen, Opened, least_room}
-use Rattle.mdv_store.specs.Seats.{AreLaid, AreLeft, TakesSlot, active_of, drives_of, is_half_active, replicas_of}
+use Rattle.mdv_store.specs.Seats.{AreLaid, AreLeft, TakesSlot, active_of, drives_of, replicas_of}
+use Rattle.mdv_store.specs.Shares.{short_of}
 use Rattle.mdv_store.specs.Text.{blocks_for}
 use Rattle.mdv_store.specs.Writing.{WereWritten, WritingEnds, WritingMoment}
 use Rattle.mdv_store.specs.declared.creating.CreateFault.{CreateFault}
@@ -35,6 +36,7 @@ use Rattle.mdv_record.proofs.Rooms.{room_most}
 use Rattle.mdv_store.proofs.Seated.{replica_is, seats_laid, seats_of_table, some_asked, text_asked}
 use Rattle.mdv_store.proofs.Sitting.{contains_first, first_or_behind, left_count, left_laid, left_replica, left_seats, contains_behind}
 use Rattle.mdv_store.proofs.Spotting.{asked_active, asked_length}
+use Rattle.mdv_store.specs.declared.seats.Need.TheVariants.{Half}
 
 map_from : {X Y : Type 0} (f : X → Y) (xs : List X) (y : Y) → Contains (map f xs) y → (x : X) × Contains xs x × (f x ≡ y)
 map_from f [] y has = absurd (omega (arith, has.1))
@@ -156,9 +158,6 @@ module _ {S : Type 0} (shelf : Ghosts S) (key : Key) (identity : Identity) (line
     pub as_many : length new ≡ length lines * count
     as_many = left_count (DriveFailures shelf b c) (TakesSlot first_mark bytes) seats new left ∙ asked_length key identity count blocks lines
 
-    pub few_new : length new ≤ 50
-    few_new = (let few = asked.few in omega (arith, as_many, few))
-
     pub written_moments : AtEachTale shelf (WritingMoment seats first_mark table) b c → AtEachTale shelf Moment a c
     written_moments moments = moments_after (AreDoing acts) (AreDone acts) (WritingMoment seats first_mark table) Moment (shelf.tale a) (shelf.tale b) (shelf.tale c) unbegun_moment (λ t u m done w. writing_moment t u m done w) s.moments s.end moments
 
@@ -243,27 +242,31 @@ module _ {S : Type 0} (shelf : Ghosts S) (key : Key) (identity : Identity) (line
         counted_at (2 * blanked_asked lines count + 6 * (length lines * count)) (omega (arith, total_calls)),
       )
 
-      pub lost_counted : (some listed : ℕ) → is_half_active new ≡ false → IsCreationCounted shelf a c lines count blocks (Err (unmade.Lost some listed))
-      lost_counted some listed few =
+      pub lost_counted : (some listed : ℕ) → IsCreationCounted shelf a c lines count blocks (Err (unmade.Lost some listed))
+      lost_counted some listed =
           let some = some_asked key identity count blocks lines (shelf.sizes a) asked in
           counted_at (2 * blanked_asked lines count + 6 * (length lines * count) + 1) (omega (arith, total_calls, left_or_lost 6 seats new (omega arith) (omega (arith, some, active))))
 
     abbrev made : Opened
     made = record { key = key; identity = identity; mark = first_mark; table = table; seats = new }
 
-    made_answer : is_half_active new ≡ true → CreateAnswer (DriveFailures shelf a c) key identity lines count blocks (Ok made)
+    -- so few places took it
+    abbrev IsShort : ℕ → ℕ → Type 0
+    IsShort some listed = short_of Half new table.plan.lists ≡ Some (record { active = some; listed = listed })
+
+    made_answer : short_of Half new table.plan.lists ≡ None → CreateAnswer (DriveFailures shelf a c) key identity lines count blocks (Ok made)
     made_answer half = record { tried = tried; half = half; is = refl }
 
-    lost_answer : (some listed : ℕ) → is_half_active new ≡ false → some ≡ active_of new → listed ≡ length new → CreateAnswer (DriveFailures shelf a c) key identity lines count blocks (Err (unmade.Lost some listed))
-    lost_answer some listed few is are = record { now = new; tried = tried; few = few; active_is = is; listed_is = are }
+    lost_answer : (some listed : ℕ) → IsShort some listed → CreateAnswer (DriveFailures shelf a c) key identity lines count blocks (Err (unmade.Lost some listed))
+    lost_answer some listed few = record { now = new; tried = tried; few = few }
 
-    pub made_created : is_half_active new ≡ true → WereWritten shelf first_mark table b c seats new → KeptAmong shelf b c (drives_of seats) → AtEachTale shelf (WritingMoment seats first_mark table) b c → AtEnd shelf (WritingEnds seats new first_mark table) b c → IsCreated shelf a c key identity lines count blocks (Ok made)
+    pub made_created : short_of Half new table.plan.lists ≡ None → WereWritten shelf first_mark table b c seats new → KeptAmong shelf b c (drives_of seats) → AtEachTale shelf (WritingMoment seats first_mark table) b c → AtEnd shelf (WritingEnds seats new first_mark table) b c → IsCreated shelf a c key identity lines count blocks (Ok made)
     made_created half pass kept moments ends = record { came = made_answer half; formed = (were_formed pass kept moments ends, refl, new_laid kept) }
 
-    pub lost_created : (some listed : ℕ) → is_half_active new ≡ false → some ≡ active_of new → listed ≡ length new → WereWritten shelf first_mark table b c seats new → KeptAmong shelf b c (drives_of seats) → AtEachTale shelf (WritingMoment seats first_mark table) b c → AtEnd shelf (WritingEnds seats new first_mark table) b c → IsCreated shelf a c key identity lines count blocks (Err (unmade.Lost some listed))
-    lost_created some listed few is are pass kept moments ends = record { came = lost_answer some listed few is are; formed = (were_formed pass kept moments ends, is, are) }
+    pub lost_created : (some listed : ℕ) → IsShort some listed → WereWritten shelf first_mark table b c seats new → KeptAmong shelf b c (drives_of seats) → AtEachTale shelf (WritingMoment seats first_mark table) b c → AtEnd shelf (WritingEnds seats new first_mark table) b c → IsCreated shelf a c key identity lines count blocks (Err (unmade.Lost some listed))
+    lost_created some listed few pass kept moments ends = record { came = lost_answer some listed few; formed = (were_formed pass kept moments ends, few) }
 
-    pub made_end : is_half_active new ≡ true → AtEnd shelf (WritingEnds seats new first_mark table) b c → AtEnd shelf (Ended (Ok made)) a c
+    pub made_end : short_of Half new table.plan.lists ≡ None → AtEnd shelf (WritingEnds seats new first_mark table) b c → AtEnd shelf (Ended (Ok made)) a c
     made_end half end =
         ends_more (AreDone acts) (WritingEnds seats new first_mark table) (Ended (Ok made)) (shelf.tale a) (shelf.tale b) (shelf.tale c)
         (λ t v u done w. record {

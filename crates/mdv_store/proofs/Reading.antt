@@ -1,9 +1,10 @@
 -- What was read, as the votes see it.
-use Rattle.std.proofs.Common.{◌≡◌, inl, inr, ◌<◌, ◌≤◌, ◌+◌, ◌*◌, ◌^◌, max, ℕ, Bool, true, false, ◌&&◌, cond, List, [], ◌∷◌, Some, Contains, length, map, slice_get, slice_index_or, refl, sym, ◌∙◌, subst, ap, arith}
-use Rattle.std.specs.Prelude.{nat_le}
-use Rattle.std.specs.List.{AllPairs}
-use Rattle.std.proofs.lemmas.Bool.{leb-true, or_left, or_right}
+use Rattle.std.proofs.Common.{◌≡◌, inl, inr, ◌<◌, ◌≤◌, ◌+◌, ◌*◌, ◌^◌, max, ℕ, Bool, true, false, ◌&&◌, cond, List, [], ◌∷◌, ◌++◌, None, Some, Contains, length, map, slice_get, slice_index_or, refl, sym, ◌∙◌, subst, ap, arith}
+use Rattle.std.specs.Prelude.{nat_le, not}
+use Rattle.std.specs.List.{AllPairs, list_any}
+use Rattle.std.proofs.lemmas.Bool.{false≢true, leb-true, or_left, or_right}
 use Rattle.std.proofs.lemmas.Bool.Decides.{nat_tests}
+use Rattle.std.proofs.lemmas.List.Elements.{All-append, Contains-append_cases, Contains-get_or}
 use Rattle.mdv_shelf.proofs.Everywhere.{image_synced}
 use Rattle.mdv_shelf.specs.Everywhere.{Everywhere}
 use Rattle.mdv_shown.proofs.Elsewhere.{one_master, range_has}
@@ -14,16 +15,20 @@ use Rattle.mdv_shown.specs.Shown.{SlotShows}
 use Rattle.mdv_shown.specs.Site.{line_area, place_on, size_on}
 use Rattle.mdv_shown.specs.Sites.{lines_of}
 use Rattle.mdv_standing.specs.Adopting.{AreOwn}
+use Rattle.mdv_store_law.specs.Part.{IsPart}
 use Rattle.mdv_survey.specs.Choice.{is_of, place_of, same_identity}
 use Rattle.mdv_survey.specs.Newest.{IsGreatest}
 use Rattle.mdv_replica.specs.Seen.{IsMasterAt}
 use Rattle.mdv_survey.specs.Replica.{IsFoundIn, IsOnShelf, IsSeated}
 use Rattle.mdv_survey.specs.declared.replica.Newest.{Newest}
+use Rattle.mdv_table.proofs.Beside.{among-true}
+use Rattle.mdv_table.proofs.Pairs.{AllPairs-cons, AllPairs-first, AllPairs-rest}
 use Rattle.mdv_table.proofs.Testing.{same_place-true}
+use Rattle.mdv_table.specs.Plan.{beside}
 use Rattle.mdv_table.specs.Table.{IsListsOf}
 use Rattle.mdv_table.specs.Tests.{same_place}
 use Rattle.mdv_table.specs.declared.plan.Lists.{Lists}
-use Rattle.mdv_table.specs.declared.plan.Lists.TheVariants.{One}
+use Rattle.mdv_table.specs.declared.plan.Lists.TheVariants.{One, Two}
 use Rattle.mdv_votes.proofs.Meeting.{same_is, same_self}
 use Rattle.mdv_votes.specs.Spots.{is_in}
 use Rattle.mdv_store.specs.Below.{Geometry, Identity, IsOfGeometry, IsOwn, Key, Open, Place, Replica, Site, SliceLine, Spot, Table, Tale, at_of, gate_of, greatest, is_named, last, lists_of_spots, places_of, record_text, same_spot, site_of, slot_blocks, spot_on}
@@ -31,17 +36,21 @@ use Rattle.mdv_store.specs.Adopting.{WasReadOf}
 use Rattle.mdv_store.specs.Boot.{greatest_number, is_seated}
 use Rattle.mdv_store.specs.Opened.{AreSeatsOf}
 use Rattle.mdv_store.specs.Records.{Spells}
-use Rattle.mdv_store.specs.Seats.{AreHeld, AreNamed, IsLaid, active_of, drive_of, replicas_of, spot_of, spots_of}
+use Rattle.mdv_store.specs.Seats.{AreHeld, AreNamed, IsLaid, drive_of, replicas_of, spot_of, spots_of}
+use Rattle.mdv_store.specs.Shares.{short_of}
 use Rattle.mdv_store.specs.Taking.{IsHandOf, IsReadied, IsToAdopt}
 use Rattle.mdv_store.specs.Text.{blocks_for}
 use Rattle.mdv_store.specs.declared.booting.Hand.{Hand}
+use Rattle.mdv_store.specs.declared.seats.Need.TheVariants.{More}
 use Rattle.mdv_store.specs.declared.seats.Seat.{Seat}
 use Rattle.mdv_store.proofs.Halves.{spot_at, spot_is}
 use Rattle.mdv_look.proofs.Looks.{and_first, and_second}
 use Rattle.mdv_store.proofs.Passes.{mapped}
 use Rattle.mdv_store.proofs.Quorums.{enough_read}
 use Rattle.mdv_store.proofs.Records.{spelled_of}
+use Rattle.mdv_store.proofs.Rows.{part_filter, part_has, part_pairs}
 use Rattle.mdv_store.proofs.Seating.{greatest_most, seat_of_replica, seated_at, seats_once, seats_places}
+use Rattle.mdv_store.proofs.Shares.{some_more}
 use Rattle.mdv_store.proofs.Sitting.{active_most, contains_behind, contains_first, first_or_behind, seat_of}
 
 abbrev pub seen_of : Replica → Seen
@@ -109,7 +118,7 @@ seated_room identity p text r seated =
     leb-true text (slot_blocks r.first.blocks) (and_second (same_place (place_of r) p) (nat_le text (slot_blocks r.first.blocks)) (and_second (is_of identity r) (same_place (place_of r) p && nat_le text (slot_blocks r.first.blocks)) seated))
 
 -- What is in hand is in order, whatever the drives have.
-module _ (site : Site) (replicas : List Replica) (newest : Newest) (hand : Hand) (is : IsHandOf replicas newest hand) (seated : (r : Replica) → Contains replicas r → IsSeated site r) (enough : length hand.seats < 2 * active_of hand.seats) where
+module _ (site : Site) (replicas : List Replica) (newest : Newest) (hand : Hand) (is : IsHandOf replicas newest hand) (seated : (r : Replica) → Contains replicas r → IsSeated site r) (enough : short_of More hand.seats newest.table.plan.lists ≡ None) where
   abbrev text : ℕ
   text = blocks_for (length (record_text newest.table))
 
@@ -123,7 +132,7 @@ module _ (site : Site) (replicas : List Replica) (newest : Newest) (hand : Hand)
   pub hand_seats : AreSeatsOf newest.table hand.seats
   hand_seats = record {
     places = ap (map (λ (s : Seat). s.place)) is.seats_are ∙ seats_places replicas hand.identity text places;
-    some = omega (arith, enough, active_most hand.seats);
+    some = omega (arith, some_more hand.seats newest.table.plan.lists enough, active_most hand.seats);
     few = is.few;
     at = λ s r has some.
         let one = seat_of_replica replicas hand.identity text places s r (subst (λ (ss : List Seat). Contains ss s) is.seats_are has) some in
@@ -153,9 +162,34 @@ seated_laid sizes site r on at = record {
   short = omega (arith, at.formed.of_place.most, at.length);
 }
 
+-- What two lists have stands once in both together: a place of the first list isn't among those that the second has beside it.
+pairs_append : {X : Type 0} (R : X → X → Type 0) (xs ys : List X) → AllPairs R xs → AllPairs R ys → ((x y : X) → Contains xs x → Contains ys y → R x y) → AllPairs R (xs ++ ys)
+pairs_append R [] ys first last both = last
+pairs_append R (x ∷ xs) ys first last both =
+    AllPairs-cons R x (xs ++ ys) (All-append (R x) xs ys (AllPairs-first R x xs first) (λ k d within. both x (slice_index_or ys k d) (contains_first x xs) (Contains-get_or ys k d within)))
+    (pairs_append R xs ys (AllPairs-rest R x xs first) last (λ a b has. both a b (contains_behind x a xs has)))
+
+part_beside : (old new : List Place) → IsPart (beside old new) new
+part_beside old new = part_filter (λ (p : Place). not (list_any (same_place p) old)) new
+
+beside_apart : (old new : List Place) (p : Place) → Contains old p → Contains (beside old new) p → ⊥
+beside_apart old [] p has there = absurd (omega (arith, there.1))
+beside_apart old (x ∷ new) p has there = by (list_any (same_place x) old) refl there (beside_apart old new p has) where
+  by : (b : Bool) → list_any (same_place x) old ≡ b → Contains (cond (not b) (x ∷ beside old new) (beside old new)) p → (Contains (beside old new) p → ⊥) → ⊥
+  by true is there rest = rest there
+  by false is there rest = elim (first_or_behind x p (beside old new) there) [
+    | inl here ↦ false≢true (sym is ∙ (among-true old x).1 (subst (Contains old) (sym here) has))
+    | inr behind ↦ rest behind
+  ]
+
+listed_apart : (old new : List Place) → AllPairs (λ (p q : Place). p ≡ q → ⊥) old → AllPairs (λ (p q : Place). p ≡ q → ⊥) new → AllPairs (λ (p q : Place). p ≡ q → ⊥) (old ++ beside old new)
+listed_apart old new first last =
+    pairs_append (λ (p q : Place). p ≡ q → ⊥) old (beside old new) first (part_pairs (λ (p q : Place). p ≡ q → ⊥) (beside old new) new (part_beside old new) last)
+    (λ p q has there same. beside_apart old new p has (subst (Contains (beside old new)) (sym same) there))
+
 -- and of what was read
 module _ (g : Geometry) (key : Key) (replicas : List Replica) (newest : Newest) (hand : Hand) (is : IsHandOf replicas newest hand) (seated : (r : Replica) → Contains replicas r → IsSeated (site_of g key) r)
-    (enough : length hand.seats < 2 * active_of hand.seats) (marks : IsGreatest replicas newest) (t : Tale) (was : WasReadOf g (site_of g key) replicas newest t) where
+    (enough : short_of More hand.seats newest.table.plan.lists ≡ None) (marks : IsGreatest replicas newest) (t : Tale) (was : WasReadOf g (site_of g key) replicas newest t) where
   abbrev at : Site
   at = site_of g key
 
@@ -213,6 +247,7 @@ module _ (g : Geometry) (key : Key) (replicas : List Replica) (newest : Newest) 
 
   listed_once : (lists : Lists) → IsListsOf g lists → AllPairs (λ (p q : Place). p ≡ q → ⊥) (places_of lists)
   listed_once (One listed) are = are.differ
+  listed_once (Two old new) are = listed_apart old new are.0.differ are.1.differ
 
   held : AreHeld g key hand.identity hand.seats t
   held = record {
@@ -237,11 +272,20 @@ module _ (g : Geometry) (key : Key) (replicas : List Replica) (newest : Newest) 
     seat : (s : Seat) × Contains hand.seats s × (s.replica ≡ Some r)
     seat = seat_of hand.seats r has
 
-    by : (lists : Lists) → map (λ (s : Seat). s.place) hand.seats ≡ places_of lists → is_named (lists_of_spots at lists) (spot_of r) ≡ true
-    by (One ps) same =
-        let there : Contains ps seat.0.place = subst (λ (l : List Place). Contains l seat.0.place) same (mapped (λ (s : Seat). s.place) hand.seats seat.0 seat.1) in
+    listed : (ps : List Place) → map (λ (s : Seat). s.place) hand.seats ≡ ps → Contains ps seat.0.place
+    listed ps same = subst (λ (l : List Place). Contains l seat.0.place) same (mapped (λ (s : Seat). s.place) hand.seats seat.0 seat.1)
+
+    in_list : (ps : List Place) → Contains ps seat.0.place → is_in (map (spot_at g key was.sound) ps) (spot_of r) ≡ true
+    in_list ps there =
         let spot = spot_is g key was.sound r seat.0.place (lie r has) (are.at seat.0 r seat.1 seat.2) in
-        or_left (is_in (map (spot_at g key was.sound) ps) (spot_of r)) false (subst (λ (p : Spot). is_in (map (spot_at g key was.sound) ps) p ≡ true) spot (in_mapped (spot_at g key was.sound) ps seat.0.place there))
+        subst (λ (p : Spot). is_in (map (spot_at g key was.sound) ps) p ≡ true) spot (in_mapped (spot_at g key was.sound) ps seat.0.place there)
+
+    by : (lists : Lists) → map (λ (s : Seat). s.place) hand.seats ≡ places_of lists → is_named (lists_of_spots at lists) (spot_of r) ≡ true
+    by (One ps) same = or_left (is_in (map (spot_at g key was.sound) ps) (spot_of r)) false (in_list ps (listed ps same))
+    by (Two old new) same = elim (Contains-append_cases old (beside old new) seat.0.place (listed (old ++ beside old new) same)) [
+      | inl first ↦ or_left (is_in (map (spot_at g key was.sound) old) (spot_of r)) (is_in (map (spot_at g key was.sound) new) (spot_of r)) (in_list old first)
+      | inr last ↦ or_right (is_in (map (spot_at g key was.sound) old) (spot_of r)) (is_in (map (spot_at g key was.sound) new) (spot_of r)) (in_list new (part_has (beside old new) new seat.0.place (part_beside old new) last))
+    ]
 
   -- the replica that shows it
   module _ (replica : Replica) (one_of : slice_get replicas newest.replica ≡ Some replica) (has_one : Contains replicas replica) (own_one : is_of hand.identity replica ≡ true) where

@@ -1,5 +1,5 @@
 -- The two passes of a boot: what they come to, and what they cost.
-use Rattle.std.proofs.Common.{◌≡◌, ◌⊎◌, inl, inr, ◌<◌, ◌≤◌, ◌+◌, ◌*◌, ◌^◌, max, ℕ, Bool, true, false, List, Contains, length, nat_eq, refl, sym, ◌∙◌, subst, ap, arith}
+use Rattle.std.proofs.Common.{◌≡◌, ◌⊎◌, inl, inr, ◌<◌, ◌≤◌, ◌+◌, ◌*◌, ◌^◌, max, ℕ, Bool, true, false, List, Contains, length, nat_eq, refl, sym, ◌∙◌, subst, ap, arith, Option, None, Some, MatchOption}
 use Rattle.std.proofs.Math.Nat.{mul-le-mul_left}
 use Rattle.std.specs.Bool.{MatchBool}
 use Rattle.std.proofs.lemmas.Bool.{eqb-false, eqb-true}
@@ -14,7 +14,7 @@ use Rattle.mdv_shelf.specs.Drives.{KeptAmong}
 use Rattle.mdv_shelf.specs.Shelves.{AtEachTale, AtEnd, DriveFailures}
 use Rattle.mdv_standing.specs.Adopting.{drawn}
 use Rattle.mdv_store.specs.Below.{DriveNo, Failures, Ghosts, IsSynced, Key, Replica, Table, Tale, at_of, places_of, record_text}
-use Rattle.mdv_store.specs.Boot.{IfAdopted, TakesBoth, TakesClaimOrBoth, is_enough}
+use Rattle.mdv_store.specs.Boot.{IfAdopted, TakesBoth, TakesClaimOrBoth, need_of}
 use Rattle.mdv_store.specs.BootCounts.{most_blocks}
 use Rattle.mdv_store.specs.Claims.{ClaimingEnds, ClaimingMoment}
 use Rattle.mdv_store.specs.Counts.{ArePassCounted, MadeCallsBetween, drives_lost}
@@ -28,19 +28,28 @@ use Rattle.mdv_store.specs.declared.booting.BootEnd.{BootEnd}
 use Rattle.mdv_store.specs.declared.booting.BootEnd.TheVariants as end
 use Rattle.mdv_store.specs.declared.booting.Hand.{Hand}
 use Rattle.mdv_store.specs.declared.booting.Taken.{Taken}
+use Rattle.mdv_store.specs.declared.seats.Need.{Need}
 use Rattle.mdv_store.specs.declared.seats.Seat.{Seat}
+use Rattle.mdv_table.specs.declared.plan.Lists.{Lists}
 use Rattle.mdv_look.proofs.Among.{among_calm, is_one_of}
 use Rattle.mdv_look.proofs.Bringing.{one_number, same_drive}
 use Rattle.mdv_store.proofs.Losing.{left_or_lost, pass_wrote, rose_then}
 use Rattle.mdv_store.proofs.Passes.{all_left, later, left_area, left_as, left_both, left_calm, left_most, left_told, mapped, pass_synced, some_lost, takes_both, unmapped}
 use Rattle.mdv_look.proofs.Quiet.{quiet_more, quiet_wider}
-use Rattle.mdv_store.proofs.Quorums.{more_enough}
+use Rattle.mdv_store.proofs.Shares.{more_suffices, short_fewer, some_more}
 use Rattle.mdv_store.proofs.Rewriting.{blank_goes, both_none_above, claims_go, ends_go, opened, rest_goes, slots_go}
 use Rattle.mdv_store.proofs.Sitting.{active_most, left_count, left_replica, left_seats, some_active}
 use Rattle.mdv_store.proofs.Texts.{spelled_long}
+use Rattle.mdv_store.specs.Shares.{short_of}
+use Rattle.mdv_store.specs.declared.seats.Need.TheVariants.{More}
+use Rattle.mdv_store.specs.declared.seats.Share.{Share}
 
 -- at most fifty are active
-few_active : (seats : List Seat) → length seats ≤ 50 → active_of seats ≤ 50
+-- what came of the seats, by the key's need
+pub as_needed : (key : Key) (need : Need) (seats told : List Seat) (lists : Lists) (came : Option Share) → need ≡ need_of key → told ≡ seats → came ≡ short_of need told lists → short_of (need_of key) seats lists ≡ came
+as_needed key need seats told lists came of same is = ap (λ (n : Need). short_of n seats lists) (sym of) ∙ ap (λ (l : List Seat). short_of need l lists) (sym same) ∙ sym is
+
+few_active : (seats : List Seat) → length seats ≤ 100 → active_of seats ≤ 100
 few_active seats few = omega (arith, few, active_most seats)
 
 module _ {S : Type 0} (shelf : Ghosts S) (key : Key) (hand : Hand) (table : Table) (ready : IsReadied hand table) (old mid : S) (now : List Seat)
@@ -71,7 +80,7 @@ module _ {S : Type 0} (shelf : Ghosts S) (key : Key) (hand : Hand) (table : Tabl
   claim_both = ends_both (ClaimingEnds hand.seats now hand.number) (ClaimingMoment hand.seats hand.number) _ (shelf.tale old) (shelf.tale mid) (λ t u e m. (e, m)) ends (moments_end (ClaimingMoment hand.seats hand.number) (shelf.tale old) (shelf.tale mid) moments)
 
   some_active_then : 0 < active_of hand.seats
-  some_active_then = (let more = ready.enough in omega (arith, more))
+  some_active_then = some_more hand.seats table.plan.lists ready.enough
 
   first_called : 1 ≤ 2 * active_of now + drives_lost hand.seats now
   first_called = left_or_lost 2 hand.seats now (omega arith) some_active_then
@@ -83,17 +92,15 @@ module _ {S : Type 0} (shelf : Ghosts S) (key : Key) (hand : Hand) (table : Tabl
   claimed_all = record { left = left; steps = passed.steps; counted = counted; end = ends }
 
   -- not enough claimed
-  module _ (few : is_enough key now ≡ false) (taken : Taken) (end_is : taken.end ≡ end.Lost (active_of now) (length now)) (calm_is : taken.calm ≡ false) where
+  module _ (share : Share) (few : short_of (need_of key) now table.plan.lists ≡ Some share) (taken : Taken) (end_is : taken.end ≡ end.Lost share.active share.listed) (calm_is : taken.calm ≡ false) where
     pub first_answer : IsRewriteAnswer shelf old mid key hand table taken
     first_answer =
-        let lost = some_lost (DriveFailures shelf old mid) (TakesClaim hand.number) hand.seats now left (more_enough key hand.seats now (left_count (DriveFailures shelf old mid) (TakesClaim hand.number) hand.seats now left) ready.enough few) in
+        let lost = some_lost (DriveFailures shelf old mid) (TakesClaim hand.number) hand.seats now left (short_fewer (DriveFailures shelf old mid) (TakesClaim hand.number) More (need_of key) (more_suffices (need_of key)) table.plan.lists hand.seats now share left ready.enough few) in
         record {
           ended = subst (λ (e : BootEnd). IsRewriteEnd (DriveFailures shelf old mid) key hand table e) (sym end_is) (record {
             now = now;
             left = left_as (DriveFailures shelf old mid) (DriveFailures shelf old mid) (TakesClaim hand.number) (TakesClaimOrBoth hand.number (length (record_text table))) hand.seats now (λ r has so. so) (λ r has so. so) (λ r m took. inl took) left;
             few = few;
-            active_is = refl;
-            listed_is = refl;
           });
           calm = subst (λ (b : Bool). IsCalmOver shelf old mid (replicas_of hand.seats) b) (sym calm_is) lost;
           wrote = first_wrote;
@@ -105,7 +112,7 @@ module _ {S : Type 0} (shelf : Ghosts S) (key : Key) (hand : Hand) (table : Tabl
             between = now;
             now = now;
             first = claimed_all;
-            behind = subst (λ (b : Bool). MatchBool b (WereSlotted shelf mid mid (drawn hand.number) table now now) ((mid ≡ mid) × (now ≡ now))) (sym few) (refl, refl);
+            behind = subst (λ (o : Option Share). MatchOption o (WereSlotted shelf mid mid (drawn hand.number) table now now) (λ s. (mid ≡ mid) × (now ≡ now))) (sym few) (refl, refl);
           };
         }
 
@@ -119,12 +126,12 @@ module _ {S : Type 0} (shelf : Ghosts S) (key : Key) (hand : Hand) (table : Tabl
     first_counted = record {
       most =
           let most = few_active hand.seats ready.seats.few in
-          between_wider shelf.calls shelf.written old mid _ (2 * active_of hand.seats) (1 * active_of hand.seats) 0 (8 * 50) most_blocks (omega arith) (omega (arith, most)) (omega (arith, most)) counted.some;
+          between_wider shelf.calls shelf.written old mid _ (2 * active_of hand.seats) (1 * active_of hand.seats) 0 (8 * 100) most_blocks (omega arith) (omega (arith, most)) (omega (arith, most)) counted.some;
       calm = λ so. absurd (cc (so, calm_is));
     }
 
   -- enough claimed, and the table was written
-  module _ (enough : is_enough key now ≡ true) (bytes : ℕ) (body : List (List ℕ)) (spelled : IsSpelled table bytes body) (new : S) (last : List Seat) (left_last : AreLeft (DriveFailures shelf mid new) (TakesSlot (drawn hand.number) bytes) now last)
+  module _ (enough : short_of (need_of key) now table.plan.lists ≡ None) (bytes : ℕ) (body : List (List ℕ)) (spelled : IsSpelled table bytes body) (new : S) (last : List Seat) (left_last : AreLeft (DriveFailures shelf mid new) (TakesSlot (drawn hand.number) bytes) now last)
       (slot_moments : AtEachTale shelf (SlottingMoment now (drawn hand.number) bytes body) mid new) (slot_ends : AtEnd shelf (SlottingEnds now last (drawn hand.number) bytes body) mid new)
       (slot_passed : WentOver shelf (slotting (drawn hand.number) bytes body) mid new now last) (slot_kept : KeptAmong shelf mid new (drives_of now)) where
     slot_counted : ArePassCounted shelf mid new 6 (2 + length body) now last
@@ -161,7 +168,7 @@ module _ {S : Type 0} (shelf : Ghosts S) (key : Key) (hand : Hand) (table : Tabl
       between = now;
       now = last;
       first = claimed_all;
-      behind = subst (λ (b : Bool). MatchBool b (WereSlotted shelf mid new (drawn hand.number) table now last) ((new ≡ mid) × (last ≡ now))) (sym enough) (record {
+      behind = subst (λ (o : Option Share). MatchOption o (WereSlotted shelf mid new (drawn hand.number) table now last) (λ s. (new ≡ mid) × (last ≡ now))) (sym enough) (record {
         left = subst (λ (n : ℕ). AreLeft (DriveFailures shelf mid new) (TakesSlot (drawn hand.number) n) now last) spelled.counted left_last;
         steps = (
           body,
@@ -247,37 +254,34 @@ module _ {S : Type 0} (shelf : Ghosts S) (key : Key) (hand : Hand) (table : Tabl
         (first_stays t u one.0 one.1 drive (λ some. never (behind drive.0 some)) was))
         claim_both slot_both
 
-    pub last_few : length last ≤ 50
-    last_few = omega (arith, left_count (DriveFailures shelf mid new) (TakesSlot (drawn hand.number) bytes) now last left_last, left_count (DriveFailures shelf old mid) (TakesClaim hand.number) hand.seats now left, ready.seats.few)
-
     -- no slot has more blocks than that
     text_few : blocks_for bytes ≤ 4094
     text_few =
-        let some = some_active hand.seats (omega (arith, ready.enough)) in
+        let some = some_active hand.seats (some_more hand.seats table.plan.lists ready.enough) in
         let fits = ready.room some.0 some.1 in
         let short = ready.short some.0 some.1 in
         omega (arith, fits, short, spelled.counted)
 
-    pub second_most : MadeCallsBetween shelf old new 0 (8 * 50) most_blocks
+    pub second_most : MadeCallsBetween shelf old new 0 (8 * 100) most_blocks
     second_most =
         let most = few_active hand.seats ready.seats.few in
         let less = left_most (DriveFailures shelf old mid) (TakesClaim hand.number) hand.seats now left in
         let few_blocks : 2 + length body ≤ 4096 = omega (arith, spelled.blocks, text_few) in
         let product = mul-le-mul_left (active_of now) few_blocks in
-        between_then shelf.calls shelf.written old mid new _ (2 * active_of hand.seats) (1 * active_of hand.seats) _ (6 * active_of now) ((2 + length body) * active_of now) 0 (8 * 50) most_blocks (omega arith) (omega (arith, most, less))
+        between_then shelf.calls shelf.written old mid new _ (2 * active_of hand.seats) (1 * active_of hand.seats) _ (6 * active_of now) ((2 + length body) * active_of now) 0 (8 * 100) most_blocks (omega arith) (omega (arith, most, less))
         (omega (arith, most, less, product)) counted.some slot_counted.some
 
     -- where not enough took it
-    module _ (few : is_enough key last ≡ false) (taken : Taken) (end_is : taken.end ≡ end.Lost (active_of last) (length last)) (calm_is : taken.calm ≡ false) where
-      abbrev One : Replica → Replica → Type 0
-      One = TakesClaimOrBoth hand.number (length (record_text table))
+    module _ (share : Share) (few : short_of (need_of key) last table.plan.lists ≡ Some share) (taken : Taken) (end_is : taken.end ≡ end.Lost share.active share.listed) (calm_is : taken.calm ≡ false) where
+      abbrev Either : Replica → Replica → Type 0
+      Either = TakesClaimOrBoth hand.number (length (record_text table))
 
       pub lost_answer : IsRewriteAnswer shelf old new key hand table taken
       lost_answer =
-          let all = both_left One (λ r m n one two. inr (subst (λ (k : ℕ). TakesBoth hand.number k r n) spelled.counted (takes_both hand.number bytes r m n one two))) in
-          let lost = some_lost (DriveFailures shelf old new) One hand.seats last all (more_enough key hand.seats last (left_count (DriveFailures shelf old new) One hand.seats last all) ready.enough few) in
+          let all = both_left Either (λ r m n one two. inr (subst (λ (k : ℕ). TakesBoth hand.number k r n) spelled.counted (takes_both hand.number bytes r m n one two))) in
+          let lost = some_lost (DriveFailures shelf old new) Either hand.seats last all (short_fewer (DriveFailures shelf old new) Either More (need_of key) (more_suffices (need_of key)) table.plan.lists hand.seats last share all ready.enough few) in
           record {
-            ended = subst (λ (e : BootEnd). IsRewriteEnd (DriveFailures shelf old new) key hand table e) (sym end_is) (record { now = last; left = all; few = few; active_is = refl; listed_is = refl });
+            ended = subst (λ (e : BootEnd). IsRewriteEnd (DriveFailures shelf old new) key hand table e) (sym end_is) (record { now = last; left = all; few = few });
             calm = subst (λ (b : Bool). IsCalmOver shelf old new (replicas_of hand.seats) b) (sym calm_is) lost;
             wrote = both_wrote;
             made = both_made;
@@ -292,7 +296,7 @@ module _ {S : Type 0} (shelf : Ghosts S) (key : Key) (hand : Hand) (table : Tabl
       lost_counted = record { most = second_most; calm = λ so. absurd (cc (so, calm_is)) }
 
     -- where enough did
-    module _ (enough_last : is_enough key last ≡ true) where
+    module _ (enough_last : short_of (need_of key) last table.plan.lists ≡ None) where
       abbrev o : Opened
       o = record { key = key; identity = hand.identity; mark = drawn hand.number; table = table; seats = last }
 
@@ -342,7 +346,7 @@ module _ {S : Type 0} (shelf : Ghosts S) (key : Key) (hand : Hand) (table : Tabl
             let last_same : active_of last ≡ active_of now = omega (arith, one, two, same) in
             took_more shelf.calls shelf.written old mid new (2 * active_of hand.seats) (6 * active_of now) (1 * active_of hand.seats) ((2 + length body) * active_of now) (8 * active_of last) ((3 + blocks_for (length (record_text table))) * active_of last)
             (omega (arith, mid_same, last_same)) (blocks_add (length body) (blocks_for (length (record_text table))) (active_of hand.seats) (active_of now) (active_of last) (spelled.blocks ∙ ap blocks_for spelled.counted) mid_same last_same)
-            (counted.all (omega (arith, ready.enough)) mid_same) (slot_counted.all (omega (arith, ready.enough, mid_same)) last_same);
+            (counted.all some_active_then mid_same) (slot_counted.all (omega (arith, some_active_then, mid_same)) last_same);
       }
         where
           blocks_add : (l k a b c : ℕ) → l ≡ k → b ≡ a → c ≡ b → 1 * a + (2 + l) * b ≡ (3 + k) * c
@@ -351,7 +355,7 @@ module _ {S : Type 0} (shelf : Ghosts S) (key : Key) (hand : Hand) (table : Tabl
 module _ (hand : Hand) (table : Table) (ready : IsReadied hand table) where
   pub text_most : blocks_for (length (record_text table)) ≤ 4094
   text_most =
-      let some = some_active hand.seats (omega (arith, ready.enough)) in
+      let some = some_active hand.seats (some_more hand.seats table.plan.lists ready.enough) in
       let fits = ready.room some.0 some.1 in
       let short = ready.short some.0 some.1 in
       omega (arith, fits, short)
@@ -360,9 +364,6 @@ module _ (hand : Hand) (table : Table) (ready : IsReadied hand table) where
   room_short room is = omega (arith, is, text_most, room_most (places_of table.plan.lists))
 
   module _ (failed : ℕ → Failures) (now : List Seat) (left : AreLeft failed (TakesClaim hand.number) hand.seats now) where
-    pub claimed_few : length now ≤ 50
-    claimed_few = omega (arith, left_count failed (TakesClaim hand.number) hand.seats now left, ready.seats.few)
-
     pub claimed_laid : (sizes next : List ℕ) → next ≡ sizes → AreLaid sizes hand.seats → AreLaid next now
     claimed_laid sizes next same laid n has =
         let one = left_replica failed (TakesClaim hand.number) hand.seats now n left has in

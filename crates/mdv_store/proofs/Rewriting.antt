@@ -24,7 +24,7 @@ use Rattle.mdv_store_law.specs.Log.{MayHappen, Writing, Written, log_after}
 use Rattle.mdv_store_law.specs.Part.{IsPart}
 use Rattle.mdv_store.specs.Below.{CoversWith, Database, Event, Failures, First, Geometry, Head, HasNoneAbove, IsBelow, IsNewest, IsReadyWith, IsTaking, IsVersionWith, Key, Log, Mark, MayBeClaimed, Open, Replica, RestStands, Second, Site, Slot, Spot, Table, Tale, Traces, Version, at_of, claims_at, fills_at, gate_of, greatest, is_named, last, lists_of_spots, site_of, with_slot}
 use Rattle.mdv_store.specs.Blank.{StayBlank}
-use Rattle.mdv_store.specs.Boot.{TakesBoth, is_enough}
+use Rattle.mdv_store.specs.Boot.{TakesBoth, need_of}
 use Rattle.mdv_store.specs.Booting.{AreOfBoot}
 use Rattle.mdv_store.specs.Claims.{AreClaims, ClaimingEnds, ClaimingMoment, ClaimsTrace, IsAdopting}
 use Rattle.mdv_store.specs.Commit.{AnyLog, AnyWorld, IsNewestWritten}
@@ -38,10 +38,12 @@ use Rattle.mdv_store.specs.declared.booting.Hand.{Hand}
 use Rattle.mdv_store.specs.declared.seats.Seat.{Seat}
 use Rattle.mdv_store.proofs.Halves.{spot_in_spots}
 use Rattle.mdv_store.proofs.Passes.{left_spots}
-use Rattle.mdv_store.proofs.Quorums.{enough_claimed, enough_some, enough_written}
+use Rattle.mdv_store.proofs.Quorums.{enough_claimed, enough_written}
+use Rattle.mdv_store.proofs.Shares.{some_enough}
 use Rattle.mdv_store.proofs.Records.{record_spelled, spelled_of}
 use Rattle.mdv_store.proofs.Sitting.{left_replica, left_seats, some_active}
 use Rattle.mdv_store.proofs.Telling.{newest_written}
+use Rattle.mdv_store.specs.Shares.{short_of}
 
 -- a claimed replica lies where it lay, and one whose slot was written
 claim_stays : (number : ℕ) (r n : Replica) → TakesClaim number r n → at_of n ≡ at_of r
@@ -208,13 +210,13 @@ module _ (key : Key) (hand : Hand) (table : Table) (ready : IsReadied hand table
     }
 
     -- enough places claimed
-    module _ (failed : ℕ → Failures) (mid : List Seat) (u : Tale) (left : AreLeft failed (TakesClaim hand.number) seats mid) (ends : ClaimingEnds seats mid hand.number t u) (enough : is_enough key mid ≡ true)
+    module _ (failed : ℕ → Failures) (mid : List Seat) (u : Tale) (left : AreLeft failed (TakesClaim hand.number) seats mid) (ends : ClaimingEnds seats mid hand.number t u) (enough : short_of (need_of key) mid table.plan.lists ≡ None)
         (bytes : ℕ) (body : List (List ℕ)) (spelled : IsSpelled table bytes body) where
       abbrev ok : List Spot
       ok = spots_of mid ++ []
 
       first : (r : Replica) × Contains (replicas_of mid) r
-      first = some_active mid (enough_some key mid (mid_seats g t to failed mid u left ends bytes body spelled).some enough)
+      first = some_active mid (some_enough (need_of key) mid table (mid_seats g t to failed mid u left ends bytes body spelled) enough)
 
       abbrev p : Spot
       p = spot_of first.0
@@ -280,7 +282,7 @@ module _ (key : Key) (hand : Hand) (table : Table) (ready : IsReadied hand table
       }
 
       -- enough of them took it
-      module _ (told : ℕ → Failures) (new : List Seat) (w : Tale) (left_new : AreLeft told (TakesSlot mark bytes) mid new) (last_ends : SlottingEnds mid new mark bytes body u w) (enough_new : is_enough key new ≡ true) where
+      module _ (told : ℕ → Failures) (new : List Seat) (w : Tale) (left_new : AreLeft told (TakesSlot mark bytes) mid new) (last_ends : SlottingEnds mid new mark bytes body u w) (enough_new : short_of (need_of key) new table.plan.lists ≡ None) where
         abbrev took : List Spot
         took = spots_of new ++ []
 

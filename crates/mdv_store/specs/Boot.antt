@@ -1,5 +1,5 @@
 -- What a boot says: of its answer, of each moment, and of the end.
-use Rattle.std.specs.Prelude.{◌≡◌, ◌⊎◌, ◌<◌, ◌≤◌, ◌+◌, ◌*◌, ◌/◌, ◌^◌, ◌&&◌, if◌then◌else◌, nat_le, nat_lt, ℕ, Bool, true, false, max, List, [], ◌∷◌, length, map, Some, IsTrue}
+use Rattle.std.specs.Prelude.{◌≡◌, ◌⊎◌, ◌<◌, ◌≤◌, ◌+◌, ◌*◌, ◌/◌, ◌^◌, ◌&&◌, if◌then◌else◌, nat_le, ℕ, Bool, true, false, max, List, [], ◌∷◌, length, map, None, Some}
 use Rattle.std.specs.List.{find}
 use Rattle.mdv_base.specs.declared.name.Key.TheVariants.{Local, Set}
 pub use Rattle.mdv_look.specs.Peeking.{WasChosen}
@@ -10,12 +10,16 @@ use Rattle.mdv_survey.specs.declared.replica.Survey.{Survey}
 use Rattle.mdv_table.specs.Tests.{same_place}
 use Rattle.mdv_store.specs.Below.{Failures, Identity, Key, Open, Place, Replica, Site, Table, greatest, places_of, record_text, slot_blocks, with_slot}
 use Rattle.mdv_store.specs.Opened.{Opened}
-use Rattle.mdv_store.specs.Seats.{AreLeft, IsSpareOf, TakesClaim, active_of, is_half_active}
+use Rattle.mdv_store.specs.Seats.{AreLeft, IsSpareOf, TakesClaim}
+use Rattle.mdv_store.specs.Shares.{short_of}
 use Rattle.mdv_store.specs.Text.{blocks_for}
 use Rattle.mdv_store.specs.declared.booting.BootEnd.{BootEnd}
 use Rattle.mdv_store.specs.declared.booting.BootEnd.TheVariants as end
 use Rattle.mdv_store.specs.declared.booting.Hand.{Hand}
+use Rattle.mdv_store.specs.declared.seats.Need.{Need}
+use Rattle.mdv_store.specs.declared.seats.Need.TheVariants.{Half, More}
 use Rattle.mdv_store.specs.declared.seats.Seat.{Seat}
+use Rattle.mdv_store.specs.declared.seats.Share.{Share}
 
 -- the greatest claim or boot number that the replicas of this identity have
 abbrev pub greatest_number : Identity → List Replica → ℕ
@@ -38,12 +42,12 @@ seats_of replicas identity text places = map (seat_for replicas identity text) p
 abbrev pub IsOnce : Failures → Type 0
 IsOnce failed = failed.none ⊎ failed.some
 
--- Enough of the places took what a boot writes: at least half, and of a set's, whose table has no mediators, more than half.
-abbrev pub is_enough : Key → List Seat → Bool
-is_enough (Local host) seats = is_half_active seats
-is_enough (Set name) seats = nat_lt (length seats) (2 * active_of seats)
+-- How much of each list has to take what a boot writes: at least half, and of a set's, whose table has no mediators, more than half.
+abbrev pub need_of : Key → Need
+need_of (Local host) = Half
+need_of (Set name) = More
 
--- What a boot has in hand of the newest table that it read: the replica that shows it, and the listed places, more than half of which were found.
+-- What a boot has in hand of the newest table that it read: the replica that shows it, and the listed places.
 pub record IsInHand (survey : Survey) (newest : Newest) (replica : Replica) (seats : List Seat) : Type 0 where
   pub newest_is : survey.newest ≡ Some newest
   pub the : IsTheOne survey.replicas newest replica
@@ -58,10 +62,10 @@ TakesBoth number bytes r n =
 abbrev pub TakesClaimOrBoth : ℕ → ℕ → Replica → Replica → Type 0
 TakesClaimOrBoth number bytes r n = TakesClaim number r n ⊎ TakesBoth number bytes r n
 
--- The table is written anew, to more than half of the listed places, under a number in its limit.
+-- The table is written anew, to more than half of each of its lists, under a number in its limit.
 pub record IsDrawn (survey : Survey) (newest : Newest) (replica : Replica) (seats : List Seat) (number : ℕ) : Type 0 where
   pub hand : IsInHand survey newest replica seats
-  pub enough : length seats < 2 * active_of seats
+  pub enough : short_of More seats newest.table.plan.lists ≡ None
   pub number_is : number ≡ greatest_number replica.head.master.identity survey.replicas + 1
   pub small : number < 2 ^ 63
 
@@ -73,7 +77,7 @@ pub record IsWrittenTo (Wrote : Hand → Table → Type 0) (newest : Newest) (re
   pub seats_are : hand.seats ≡ seats
   pub wrote : Wrote hand newest.table
 
--- enough of the list took both
+-- enough of each list took both
 pub record IsAdopted (failed : ℕ → Failures) (Wrote : Hand → Table → Type 0) (site : Site) (survey : Survey) (o : Opened) : Type 0 where
   pub newest : Newest
   pub replica : Replica
@@ -82,10 +86,10 @@ pub record IsAdopted (failed : ℕ → Failures) (Wrote : Hand → Table → Typ
   pub drawn : IsDrawn survey newest replica seats number
   pub written : IsWrittenTo Wrote newest replica seats number
   pub left : AreLeft failed (TakesBoth number (length (record_text newest.table))) seats o.seats
-  pub enough : IsTrue (is_enough site.key o.seats)
+  pub enough : short_of (need_of site.key) o.seats newest.table.plan.lists ≡ None
   pub is : o ≡ record { key = site.key; identity = replica.head.master.identity; mark = record { boot = number; count = 0 }; table = newest.table; seats = o.seats }
 
--- Not enough of the list took the claim, or the table: a place that is left is one on whose drive no call failed, and took the claim, or both; on each other one's drive one did.
+-- Not enough of a list took the claim, or the table: of the first such list so many places are left, and so many it has. A place that is left is one on whose drive no call failed, and took the claim, or both; on each other one's drive one did.
 pub record IsLost (failed : ℕ → Failures) (Wrote : Hand → Table → Type 0) (key : Key) (survey : Survey) (active listed : ℕ) : Type 0 where
   pub newest : Newest
   pub replica : Replica
@@ -95,22 +99,21 @@ pub record IsLost (failed : ℕ → Failures) (Wrote : Hand → Table → Type 0
   pub now : List Seat
   pub written : IsWrittenTo Wrote newest replica seats number
   pub left : AreLeft failed (TakesClaimOrBoth number (length (record_text newest.table))) seats now
-  pub few : is_enough key now ≡ false
-  pub active_is : active ≡ active_of now
-  pub listed_is : listed ≡ length now
+  pub few : short_of (need_of key) now newest.table.plan.lists ≡ Some (record { active = active; listed = listed })
 
--- not more than half of a list was found; or enough of it was, but not more than half of those places have room for the text
+-- not more than half of a list was found; or of each list enough was, but of one not more than half of those places have room for the text
 abbrev pub IsShort : Survey → (readable needed : ℕ) → Type 0
 IsShort survey readable needed =
     IsChoice survey (chosen.NoQuorum readable needed)
-    ⊎ (WasChosen survey × (newest : Newest) × (replica : Replica) × (seats : List Seat) × IsInHand survey newest replica seats × (2 * active_of seats ≤ length seats) × (readable ≡ active_of seats) × (needed ≡ length seats / 2 + 1))
+    ⊎ (WasChosen survey × (newest : Newest) × (replica : Replica) × (seats : List Seat) × IsInHand survey newest replica seats
+    × (share : Share) × (short_of More seats newest.table.plan.lists ≡ Some share) × (readable ≡ share.active) × (needed ≡ share.listed / 2 + 1))
 
 pub record WouldPass (survey : Survey) : Type 0 where
   pub newest : Newest
   pub replica : Replica
   pub seats : List Seat
   pub hand : IsInHand survey newest replica seats
-  pub enough : length seats < 2 * active_of seats
+  pub enough : short_of More seats newest.table.plan.lists ≡ None
   pub spent : 2 ^ 63 ≤ greatest_number replica.head.master.identity survey.replicas + 1
 
 -- what a boot comes to by what it read, and wrote so; memory alone may be wanting whatever it was

@@ -13,9 +13,9 @@ use Rattle.mdv_store.specs.declared.booting.BootEnd.{BootEnd}
 use Rattle.mdv_store.specs.declared.booting.BootEnd.TheVariants as end
 use Rattle.mdv_store.specs.declared.booting.Booted.{Booted}
 
--- what a boot writes at most: of each of fifty places a claim, two gates and the longest text
+-- what a boot writes at most: of each of a hundred places, those of two lists, a claim, two gates and the longest text
 abbrev pub most_blocks : ℕ
-most_blocks = 50 * 4097
+most_blocks = 100 * 4097
 
 -- Behind so many calls that wrote nothing: one that adopts made eight more for each active place, and wrote a claim, two gates and the table's text to
 -- each; one that adopts nothing made none.
@@ -29,9 +29,9 @@ IsEndCounted shelf old new before end.Spent = MadeReads shelf old new before
 IsEndCounted shelf old new before end.Memory = Unit {0}
 
 -- A boot on which no call failed read block 0 of each drive and synced it, and read each head and each body of an open slot once. Whatever failed, it made no more
--- calls than these for each look, and those of fifty places. One that adopts nothing and isn't lost made those of its looks alone, and wrote no block.
+-- calls than these for each look, and those of a hundred places. One that adopts nothing and isn't lost made those of its looks alone, and wrote no block.
 pub record IsBootCounted {S : Type 0} (shelf : Ghosts S) (old new : S) (g : Geometry) (site : Site) (answer : Booted) : Type 0 where
-  pub most : MadeCallsBetween shelf old new 0 (2 * length site.drives + most_reads site + 8 * 50) most_blocks
+  pub most : MadeCallsBetween shelf old new 0 (2 * length site.drives + most_reads site + 8 * 100) most_blocks
   pub still : has_written answer.end ≡ false → MadeCallsBetween shelf old new 0 (2 * length site.drives + most_reads site) 0
   pub clean : answer.clean ≡ true → (t : Tale) → shelf.tale old ≡ Some t
       → (reads : ℕ) × AreLinesBy g site answer.up no_drives (last t) site.lines reads × IsEndCounted shelf old new (2 * length site.drives + reads) answer.end

@@ -1,14 +1,14 @@
 -- What a commit says: of its answer, of each moment, and of the end.
-use Rattle.std.specs.Prelude.{◌≡◌, ◌⊎◌, ◌<◌, ◌≤◌, ◌+◌, ◌^◌, ℕ, true, false, List, [], length, Contains, Option, Some, Result, Ok, Err, IsTrue}
+use Rattle.std.specs.Prelude.{◌≡◌, ◌⊎◌, ◌<◌, ◌≤◌, ◌+◌, ◌^◌, ℕ, true, false, List, [], length, Contains, Option, None, Some, Result, Ok, Err}
 use Rattle.mdv_record.specs.Room.{least_slot_bytes}
 use Rattle.mdv_shelf.specs.Shelves.{AtEnd, DriveFailures}
 use Rattle.mdv_store_law.specs.Log.{IsLog, IsNewestTellable}
 use Rattle.mdv_store.specs.Below.{Change, Core, Database, Event, Failures, Geometry, Ghosts, IsCommitRun, IsMade, IsNewest, IsOfGeometry, IsReadyWith, Log, Mark, RestStands, Spot, Table, Tale, TooLong, TracesFrom, asks_of, lists_of_spots, places_of, record_text, site_of}
 use Rattle.mdv_store.specs.Blank.{StayBlank}
-use Rattle.mdv_store.specs.Opened.{IsOpenedAt, Opened}
+use Rattle.mdv_store.specs.Opened.{IsOpenedAt, Opened, shortage}
 use Rattle.mdv_look.specs.Quiet.{IsQuiet}
 use Rattle.mdv_store.specs.Records.{Spells}
-use Rattle.mdv_store.specs.Seats.{AreLaid, AreLeft, TakesSlot, active_of, is_half_active, replicas_of, seats_area, spots_of}
+use Rattle.mdv_store.specs.Seats.{AreLaid, AreLeft, TakesSlot, replicas_of, seats_area, spots_of}
 use Rattle.mdv_store.specs.Writing.{AreWrittenBy, IsBeingWritten, WritingEnds}
 use Rattle.mdv_store.specs.declared.store.CommitFault.{CommitFault}
 use Rattle.mdv_store.specs.declared.store.CommitFault.TheVariants as unwritten
@@ -20,34 +20,28 @@ next_mark mark = record mark { count = mark.count + 1 }
 abbrev pub room_in : Table → ℕ
 room_in table = least_slot_bytes (places_of table.plan.lists)
 
--- The table was written: at least half of the places were active, its text fits each of their slots, and its mark is in its limit. What was written to
+-- The table was written: at least half of each list was active, its text fits each of their slots, and its mark is in its limit. What was written to
 -- the active places left these.
 pub record IsTried (failed : ℕ → Failures) (old new : Opened) (next : Table) : Type 0 where
-  pub half : IsTrue (is_half_active old.seats)
+  pub half : shortage old ≡ None
   pub fits : length (record_text next) ≤ room_in old.table
   pub small : old.mark.count + 1 < 2 ^ 63
   pub left : AreLeft failed (TakesSlot (next_mark old.mark) (length (record_text next))) old.seats new.seats
 
--- and at least half of the places took it
+-- and at least half of each list took it
 pub record IsCommitted (failed : ℕ → Failures) (old new : Opened) (next : Table) : Type 0 where
   pub tried : IsTried failed old new next
-  pub enough : IsTrue (is_half_active new.seats)
+  pub enough : shortage new ≡ None
   pub is : new ≡ record old { mark = next_mark old.mark; table = next; seats = new.seats }
 
--- fewer than half did
+-- of a list fewer than half did
 pub record IsLostNow (failed : ℕ → Failures) (old new : Opened) (next : Table) : Type 0 where
   pub tried : IsTried failed old new next
-  pub few : is_half_active new.seats ≡ false
   pub is : new ≡ record old { seats = new.seats }
-
--- or were active before, so that nothing was done
-pub record WasLost (old new : Opened) : Type 0 where
-  pub few : is_half_active old.seats ≡ false
-  pub is : new ≡ old
 
 -- the text is longer than a slot of some listed place
 pub record IsOver (old new : Opened) (next : Table) (fault : TooLong) : Type 0 where
-  pub half : IsTrue (is_half_active old.seats)
+  pub half : shortage old ≡ None
   pub bytes : fault.bytes ≡ length (record_text next)
   pub room : fault.room ≡ room_in old.table
   pub over : room_in old.table < length (record_text next)
@@ -55,7 +49,7 @@ pub record IsOver (old new : Opened) (next : Table) (fault : TooLong) : Type 0 w
 
 -- the count of the next mark would be no number
 pub record IsSpent (old new : Opened) (next : Table) : Type 0 where
-  pub half : IsTrue (is_half_active old.seats)
+  pub half : shortage old ≡ None
   pub fits : length (record_text next) ≤ room_in old.table
   pub spent : 2 ^ 63 ≤ old.mark.count + 1
   pub is : new ≡ old
@@ -63,14 +57,14 @@ pub record IsSpent (old new : Opened) (next : Table) : Type 0 where
 abbrev pub CameOfCommit : (ℕ → Failures) → Opened → Opened → Table → Result (Unit {0}) CommitFault → Type 0
 CameOfCommit failed old new next (Ok done) = IsCommitted failed old new next
 CameOfCommit failed old new next (Err (unwritten.Lost active listed)) =
-    (active ≡ active_of new.seats) × (listed ≡ length new.seats) × (IsLostNow failed old new next ⊎ WasLost old new)
+    (shortage new ≡ Some (record { active = active; listed = listed })) × (IsLostNow failed old new next ⊎ (new ≡ old))
 CameOfCommit failed old new next (Err (unwritten.TooLong fault)) = IsOver old new next fault
 CameOfCommit failed old new next (Err unwritten.Spent) = IsSpent old new next
 
--- the table was written: it is done, or not enough places took it of those that were active
+-- the table was written: it is done, or not enough places of a list took it of those that were active
 abbrev pub WasTried : Opened → Result (Unit {0}) CommitFault → Type 0
 WasTried old (Ok done) = Unit {0}
-WasTried old (Err (unwritten.Lost active listed)) = IsTrue (is_half_active old.seats)
+WasTried old (Err (unwritten.Lost active listed)) = shortage old ≡ None
 WasTried old (Err (unwritten.TooLong fault)) = ⊥
 WasTried old (Err unwritten.Spent) = ⊥
 

@@ -1,10 +1,11 @@
 -- How many calls a pass, a commit and a boot make, and how many blocks they write.
-use Rattle.std.specs.Prelude.{◌≡◌, ◌<◌, ◌+◌, ◌-◌, ◌*◌, ◌==◌, if◌then◌else◌, ℕ, List, [], ◌∷◌, map, MatchBool, Result, Ok, Err}
+use Rattle.std.specs.Prelude.{◌≡◌, ◌<◌, ◌+◌, ◌-◌, ◌*◌, ◌==◌, if◌then◌else◌, ℕ, List, [], ◌∷◌, map, MatchOption, Result, Ok, Err}
 use Rattle.std.specs.List.{list_any}
 use Rattle.mdv_shelf.specs.Between.{RoseByAtLeast}
 use Rattle.mdv_shelf.specs.Shelves.{MadeCalls}
 use Rattle.mdv_store.specs.Below.{Ghosts, TookBetween}
-use Rattle.mdv_store.specs.Seats.{active_of, drive_of, is_half_active, replicas_of}
+use Rattle.mdv_store.specs.Opened.{Opened, shortage}
+use Rattle.mdv_store.specs.Seats.{active_of, drive_of, replicas_of}
 use Rattle.mdv_store.specs.Text.{blocks_for}
 use Rattle.mdv_store.specs.declared.seats.Seat.{Seat}
 use Rattle.mdv_store.specs.declared.store.CommitFault.{CommitFault}
@@ -35,10 +36,10 @@ pub record ArePassCounted {S : Type 0} (shelf : Ghosts S) (old new : S) (calls b
   pub some : MadeCallsBetween shelf old new (calls * active_of now + drives_lost before now) (calls * active_of before) (blocks * active_of before)
   pub wrote : RoseByAtLeast (blocks * active_of now + drives_lost before now) (shelf.written old) (shelf.written new)
 
--- a commit makes three writes and three syncs at each active place, where at least half of the places are; else none
-abbrev pub IsCommitCounted : {S : Type 0} → Ghosts S → S → S → ℕ → List Seat → List Seat → Result (Unit {0}) CommitFault → Type 0
-IsCommitCounted shelf old new bytes before now (Ok done) = ArePassCounted shelf old new 6 (2 + blocks_for bytes) before now
+-- a commit makes three writes and three syncs at each active place, where at least half of each list is active; else none
+abbrev pub IsCommitCounted : {S : Type 0} → Ghosts S → S → S → ℕ → Opened → List Seat → Result (Unit {0}) CommitFault → Type 0
+IsCommitCounted shelf old new bytes before now (Ok done) = ArePassCounted shelf old new 6 (2 + blocks_for bytes) before.seats now
 IsCommitCounted shelf old new bytes before now (Err (unwritten.Lost active listed)) =
-    MatchBool (is_half_active before) (ArePassCounted shelf old new 6 (2 + blocks_for bytes) before now) (new ≡ old)
+    MatchOption (shortage before) (ArePassCounted shelf old new 6 (2 + blocks_for bytes) before.seats now) (λ share. new ≡ old)
 IsCommitCounted shelf old new bytes before now (Err (unwritten.TooLong fault)) = new ≡ old
 IsCommitCounted shelf old new bytes before now (Err unwritten.Spent) = new ≡ old

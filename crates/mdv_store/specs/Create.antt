@@ -15,14 +15,16 @@ use Rattle.mdv_store.specs.Acts.{HaveGone, HaveStopped, acts_asked}
 use Rattle.mdv_store.specs.Below.{Core, Database, DriveNo, Event, Failures, Geometry, Ghosts, Identity, IsOfGeometry, IsReadyWith, IsSound, Key, Log, Replica, RestStands, SliceLine, Spot, Table, Tale, lists_of_spots, place_on, record_text, site_of}
 use Rattle.mdv_store.specs.Commit.{AnyLog, AnyWorld, IsNewestWritten}
 use Rattle.mdv_store.specs.Counts.{ArePassCounted, MadeCallsBetween}
-use Rattle.mdv_store.specs.Opened.{IsOpenedAt, Opened}
+use Rattle.mdv_store.specs.Opened.{IsOpenedAt, Opened, shortage}
 use Rattle.mdv_look.specs.Quiet.{IsQuiet}
 use Rattle.mdv_store.specs.Records.{Spells}
-use Rattle.mdv_store.specs.Seats.{AreHeld, AreLaid, AreLeft, AreTheirs, TakesSlot, active_of, is_half_active, seats_area, spots_of}
+use Rattle.mdv_store.specs.Seats.{AreHeld, AreLaid, AreLeft, AreTheirs, TakesSlot, active_of, seats_area, spots_of}
+use Rattle.mdv_store.specs.Shares.{short_of}
 use Rattle.mdv_store.specs.Text.{blocks_for}
 use Rattle.mdv_store.specs.Writing.{AreWrittenBy, WritingEnds, WritingMoment}
 use Rattle.mdv_store.specs.declared.creating.CreateFault.{CreateFault}
 use Rattle.mdv_store.specs.declared.creating.CreateFault.TheVariants as unmade
+use Rattle.mdv_store.specs.declared.seats.Need.TheVariants.{Half}
 use Rattle.mdv_store.specs.declared.seats.Seat.{Seat}
 
 -- A creation is asked for places that there are: on each slice so many, one behind another, within it and its drive; fifty at most, and no slice twice.
@@ -78,15 +80,13 @@ module _ (failed : ℕ → Failures) (key : Key) (identity : Identity) (lines : 
 
   pub record IsMade (o : Opened) : Type 0 where
     pub tried : IsTried o.seats
-    pub half : IsTrue (is_half_active o.seats)
+    pub half : shortage o ≡ None
     pub is : o ≡ record { key = key; identity = identity; mark = first_mark; table = table_of seats; seats = o.seats }
 
   pub record IsLost (active listed : ℕ) : Type 0 where
     pub now : List Seat
     pub tried : IsTried now
-    pub few : is_half_active now ≡ false
-    pub active_is : active ≡ active_of now
-    pub listed_is : listed ≡ length now
+    pub few : short_of Half now (table_of seats).plan.lists ≡ Some (record { active = active; listed = listed })
 
   -- a call failed on one drive, and none on any other
   pub record HasFailed : Type 0 where
@@ -141,7 +141,7 @@ pub record WereFormed {S : Type 0} (shelf : Ghosts S) (old new : S) (key : Key) 
 abbrev pub HasFormed : {S : Type 0} → Ghosts S → S → S → Key → Identity → List SliceLine → ℕ → ℕ → Result Opened CreateFault → Type 0
 HasFormed shelf old new key identity lines count blocks (Ok o) = (f : WereFormed shelf old new key identity lines count blocks) × (f.now ≡ o.seats) × AreLaid (shelf.sizes new) o.seats
 HasFormed shelf old new key identity lines count blocks (Err unmade.Failed) = HaveStopped shelf old new (drives_asked lines) (acts_asked key identity lines count blocks)
-HasFormed shelf old new key identity lines count blocks (Err (unmade.Lost active listed)) = (f : WereFormed shelf old new key identity lines count blocks) × (active ≡ active_of f.now) × (listed ≡ length f.now)
+HasFormed shelf old new key identity lines count blocks (Err (unmade.Lost active listed)) = (f : WereFormed shelf old new key identity lines count blocks) × (short_of Half f.now (table_of (seats_asked key identity lines count blocks)).plan.lists ≡ Some (record { active = active; listed = listed }))
 HasFormed shelf old new key identity lines count blocks (Err unmade.Memory) = Unit {0}
 
 pub record IsCreated {S : Type 0} (shelf : Ghosts S) (old new : S) (key : Key) (identity : Identity) (lines : List SliceLine) (count blocks : ℕ) (result : Result Opened CreateFault) : Type 0 where

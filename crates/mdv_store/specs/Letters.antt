@@ -1,5 +1,5 @@
 -- The nine letters of a listed place: what a boot's look found there, or a creation made, and what came since.
-use Rattle.std.specs.Prelude.{◌≡◌, ◌&&◌, ◌||◌, ◌==◌, not, ℕ, Bool, true, false, is_some, List, [], ◌∷◌, length, map, slice_get, Option, None, Some, MatchOption}
+use Rattle.std.specs.Prelude.{◌≡◌, ◌&&◌, ◌||◌, ◌==◌, not, ℕ, Bool, true, false, List, [], ◌∷◌, length, map, slice_get, Option, None, Some, MatchOption}
 use Rattle.std.specs.List.{find, list_any}
 use Rattle.mdv_base.specs.DriveSet.{Drives}
 use Rattle.mdv_base.specs.declared.flags.Flags.{Flags}
@@ -12,6 +12,7 @@ use Rattle.mdv_survey.specs.declared.replica.Survey.{Survey}
 use Rattle.mdv_table.specs.Tests.{same_place}
 use Rattle.mdv_store.specs.Below.{Identity, Mark, Place, Replica, Site, places_of, record_text}
 use Rattle.mdv_store.specs.Boot.{seat_for}
+pub use Rattle.mdv_store.specs.Shares.{is_active, is_seat_at}
 use Rattle.mdv_store.specs.Text.{blocks_for}
 use Rattle.mdv_store.specs.declared.letters.Lettered.{Lettered}
 use Rattle.mdv_store.specs.declared.seats.Seat.{Seat}
@@ -24,9 +25,6 @@ is_under mark (Open own bytes) = (own.boot == mark.boot) && (own.count == mark.c
 -- a replica of this identity lies just at the place, and shows a table under this mark
 abbrev pub shows_at : Identity → Mark → Place → Replica → Bool
 shows_at identity mark place r = is_of identity r && (same_place (place_of r) place && (is_under mark r.head.first || is_under mark r.head.second))
-
-abbrev pub is_active : Seat → Bool
-is_active s = is_some s.replica
 
 -- Of each place what was seen, of which it matters whether one before it was the master.
 abbrev pub letters_from : (Bool → Place → Flags) → Bool → List Place → List Lettered
@@ -63,9 +61,6 @@ letters_made places = letters_from (λ was place. made_flags was) false places
 -- A seat's letters now: it is up to date where it is active, and a write failed where it was active and isn't.
 abbrev pub letters_now : Seat → Flags → Flags
 letters_now s was = record was { active = is_active s; updated = is_active s; write_error = was.active && not (is_active s) }
-
-abbrev pub is_seat_at : Place → Seat → Bool
-is_seat_at place s = same_place s.place place
 
 abbrev pub is_lettered_at : Place → Lettered → Bool
 is_lettered_at place l = same_place l.place place

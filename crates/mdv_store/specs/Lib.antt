@@ -3,6 +3,7 @@ pub mod Records
 pub mod Blank
 pub mod Text
 pub mod Seats
+pub mod Shares
 pub mod Passing
 pub mod Claims
 pub mod Slots

@@ -1,5 +1,5 @@
 -- What a boot makes of what it read: step by step, and of which premises.
-use Rattle.std.specs.Prelude.{◌≡◌, ◌⊎◌, ◌<◌, ◌≤◌, ◌+◌, ◌*◌, ◌^◌, max, ℕ, Bool, true, false, List, [], length, map, Contains, Some, IsTrue, slice_get, vec_len}
+use Rattle.std.specs.Prelude.{◌≡◌, ◌⊎◌, ◌<◌, ◌≤◌, ◌+◌, ◌*◌, ◌^◌, max, ℕ, Bool, true, false, List, [], length, map, Contains, MatchOption, None, Some, slice_get, vec_len}
 use Rattle.std.specs.Bool.{MatchBool}
 use Rattle.mdv_shelf.specs.Between.{RoseByAtLeast}
 use Rattle.mdv_shelf.specs.Shelves.{AtEachTale, AtEnd, DriveFailures, MadeCalls}
@@ -10,7 +10,7 @@ use Rattle.mdv_survey.specs.Survey.{IsSurveyOf}
 use Rattle.mdv_survey.specs.declared.replica.Newest.{Newest}
 use Rattle.mdv_store.specs.Below.{Database, DriveNo, Failures, Geometry, Ghosts, IsOfGeometry, IsReadyWith, IsSound, IsSynced, Key, Mark, Replica, RestStands, Site, Slot, Table, Tale, greatest, last, places_of, record_text, site_of}
 use Rattle.mdv_store.specs.Blank.{StayBlank}
-use Rattle.mdv_store.specs.Boot.{IfAdopted, IsEndBy, IsOnce, TakesBoth, TakesClaimOrBoth, greatest_number, is_enough, is_memory, seats_of}
+use Rattle.mdv_store.specs.Boot.{IfAdopted, IsEndBy, IsOnce, TakesBoth, TakesClaimOrBoth, greatest_number, is_memory, need_of, seats_of}
 use Rattle.mdv_store.specs.BootCounts.{most_blocks}
 use Rattle.mdv_store.specs.Booting.{BootGoes, BootMoment, IsBootedTo, has_written}
 use Rattle.mdv_store.specs.Claims.{ClaimingEnds}
@@ -21,6 +21,7 @@ use Rattle.mdv_store.specs.Passing.{IsPassing, Passed, WentBy, claiming}
 use Rattle.mdv_look.specs.Quiet.{IsQuiet}
 use Rattle.mdv_store.specs.Records.{Spells}
 use Rattle.mdv_store.specs.Seats.{AreHeld, AreLaid, AreLeft, AreNamed, HaveRoom, TakesClaim, TakesSlot, active_of, drive_of, replicas_of, seats_area, spots_of}
+use Rattle.mdv_store.specs.Shares.{short_of}
 use Rattle.mdv_store.specs.Text.{blocks_for}
 use Rattle.mdv_store.specs.Writing.{AreWrittenBy, IsBeingWritten, WritingEnds}
 use Rattle.mdv_store.specs.declared.booting.BootEnd.{BootEnd}
@@ -28,6 +29,7 @@ use Rattle.mdv_store.specs.declared.booting.BootEnd.TheVariants as end
 use Rattle.mdv_store.specs.declared.booting.Hand.{Hand}
 use Rattle.mdv_store.specs.declared.booting.Taken.{Taken}
 use Rattle.mdv_look.specs.declared.looking.Looked.{Looked}
+use Rattle.mdv_store.specs.declared.seats.Need.TheVariants.{More}
 use Rattle.mdv_store.specs.declared.seats.Seat.{Seat}
 
 abbrev pub drives_read : List Replica → List DriveNo
@@ -44,13 +46,13 @@ pub record IsHandOf (replicas : List Replica) (newest : Newest) (hand : Hand) : 
   pub identity_is : hand.identity ≡ replica.head.master.identity
   pub number_is : hand.number ≡ greatest_number hand.identity replicas + 1
   pub seats_are : hand.seats ≡ seats_of replicas hand.identity (blocks_for (length (record_text newest.table))) (places_of newest.table.plan.lists)
-  pub few : length hand.seats ≤ 50
+  pub few : length hand.seats ≤ 100
   pub room_is : vec_len hand.room ≡ max (least_room (places_of newest.table.plan.lists)) (blocks_for (length (record_text newest.table)))
 
--- It is in order: the seats are the table's, more than half of them are active, its text fits there, and the number is above all that they have.
+-- It is in order: the seats are the table's, more than half of each of its lists is active, its text fits there, and the number is above all that they have.
 pub record IsReadied (hand : Hand) (table : Table) : Type 0 where
   pub seats : AreSeatsOf table hand.seats
-  pub enough : length hand.seats < 2 * active_of hand.seats
+  pub enough : short_of More hand.seats table.plan.lists ≡ None
   pub room : HaveRoom (blocks_for (length (record_text table))) hand.seats
   pub whole : vec_len hand.room ≡ max (least_room (places_of table.plan.lists)) (blocks_for (length (record_text table)))
   pub short : (r : Replica) → Contains (replicas_of hand.seats) r → r.first.blocks ≤ 8192
@@ -107,7 +109,7 @@ pub record WerePassed {S : Type 0} (shelf : Ghosts S) (old new : S) (key : Key) 
   pub between : List Seat
   pub now : List Seat
   pub first : WereClaimed shelf old claimed hand.number hand.seats between
-  pub behind : MatchBool (is_enough key between) (WereSlotted shelf claimed new (drawn hand.number) table between now) ((new ≡ claimed) × (now ≡ between))
+  pub behind : MatchOption (short_of (need_of key) between table.plan.lists) (WereSlotted shelf claimed new (drawn hand.number) table between now) (λ share. (new ≡ claimed) × (now ≡ between))
 
 -- and of all of them between these, of which some block was written
 pub record Rewrites {S : Type 0} (shelf : Ghosts S) (old new : S) (key : Key) (hand : Hand) (table : Table) : Type 0 where
@@ -124,16 +126,14 @@ pub record RewriteEnds (key : Key) (hand : Hand) (table : Table) (o : Opened) (t
 -- the opened database, behind both passes
 pub record IsRewritten (failed : ℕ → Failures) (key : Key) (hand : Hand) (table : Table) (o : Opened) : Type 0 where
   pub left : AreLeft failed (TakesBoth hand.number (length (record_text table))) hand.seats o.seats
-  pub enough : IsTrue (is_enough key o.seats)
+  pub enough : short_of (need_of key) o.seats table.plan.lists ≡ None
   pub is : o ≡ record { key = key; identity = hand.identity; mark = record { boot = hand.number; count = 0 }; table = table; seats = o.seats }
 
--- not enough places took the one or the other: those that are left took the claim, or both
+-- not enough places of a list took the one or the other: those that are left took the claim, or both
 pub record IsLostWith (failed : ℕ → Failures) (key : Key) (hand : Hand) (table : Table) (active listed : ℕ) : Type 0 where
   pub now : List Seat
   pub left : AreLeft failed (TakesClaimOrBoth hand.number (length (record_text table))) hand.seats now
-  pub few : is_enough key now ≡ false
-  pub active_is : active ≡ active_of now
-  pub listed_is : listed ≡ length now
+  pub few : short_of (need_of key) now table.plan.lists ≡ Some (record { active = active; listed = listed })
 
 abbrev pub IsRewriteEnd : (ℕ → Failures) → Key → Hand → Table → BootEnd → Type 0
 IsRewriteEnd failed key hand table (end.Adopted o) = IsRewritten failed key hand table o
@@ -159,7 +159,7 @@ pub record IsRewriteAnswer {S : Type 0} (shelf : Ghosts S) (old new : S) (key : 
 
 -- what an adoption costs
 pub record IsTakingCounted {S : Type 0} (shelf : Ghosts S) (old new : S) (taken : Taken) : Type 0 where
-  pub most : MadeCallsBetween shelf old new 0 (8 * 50) most_blocks
+  pub most : MadeCallsBetween shelf old new 0 (8 * 100) most_blocks
   pub calm : taken.calm ≡ true → IfAdopted taken.end (λ o. MadeCalls shelf old new (8 * active_of o.seats) ((3 + blocks_for (length (record_text o.table))) * active_of o.seats))
 
 -- the drives that a boot left as they were stay synced, and those on which its writes succeeded

@@ -1,5 +1,5 @@
 // How a boot finds the database and writes it anew.
-ghost use Rattle.std.specs.Prelude.{◌≡◌, ◌≤◌, ◌<◌, ◌&&◌, [], not, true, false, length, Contains, IfOk};
+ghost use Rattle.std.specs.Prelude.{◌≡◌, ◌≤◌, ◌<◌, ◌+◌, ◌/◌, ◌&&◌, [], not, true, false, length, Contains, IfOk};
 ghost use Rattle.std.specs.List.{find};
 ghost use Rattle.mdv_name.specs.Sound.{IsSound};
 ghost use Rattle.mdv_shelf.specs.Drives.{AreDrives, KeptAmong};
@@ -12,14 +12,14 @@ ghost use Rattle.mdv_survey.specs.Survey.{IsSurvey};
 ghost use Rattle.mdv_table.specs.Tests.{same_place};
 ghost use Rattle.mdv_store.specs.Adopting.{AdoptEnds, AdoptMoment, AreAllIn, IsAdoptAnswer};
 ghost use Rattle.mdv_store.specs.Booted.{IsBooted};
-ghost use Rattle.mdv_store.specs.Boot.{IfAdopted, WasChosen, greatest_number as spec_greatest_number, is_enough as spec_is_enough, is_memory, is_seated as spec_is_seated, seats_of as spec_seats_of};
+ghost use Rattle.mdv_store.specs.Boot.{IfAdopted, WasChosen, greatest_number as spec_greatest_number, is_memory, is_seated as spec_is_seated, need_of as spec_need_of, seats_of as spec_seats_of};
 ghost use Rattle.mdv_store.specs.BootCounts.{IsBootCounted};
 ghost use Rattle.mdv_store.specs.Booting.{BootEnds, BootMoment};
-ghost use Rattle.mdv_store.specs.Seats.{AreLaid, active_of, drives_of};
+ghost use Rattle.mdv_store.specs.Seats.{AreLaid, drives_of};
 ghost use Rattle.mdv_store.specs.Taking.{AreNumbered, IsHandOf, IsReadied, IsRewriteAnswer, IsTaken, IsTakingCounted, RewriteEnds, RewriteMoment, StaySynced, TakingEnds, TakingMoment, drives_read};
 
 use crate::letters::{Letters, letters_of};
-use crate::seats::{Seat, active, claim_all, is_half_active, slot_all};
+use crate::seats::{Need, Seat, Share, active, claim_all, short, slot_all};
 use crate::store::Store;
 use crate::text::{blocks_for, room_for, slot_room, spell};
 use mdv_base::{Block, DriveNo, DriveSet, Identity, Key, Mark, NUMBER_LIMIT, Place};
@@ -36,15 +36,16 @@ use std::alloc::{AllocError, Global};
 /// What a boot came to.
 #[derive(Drop)]
 pub enum BootEnd {
-    /// A table was found at more than half of the places of its list, and written anew under the drawn number.
+    /// A table was found at more than half of the places of each of its lists, and written anew under the drawn number.
     Adopted(Store),
     /// No readable replica shows a table.
     Empty,
     /// Replicas that show tables have different identities: that of the first one in the order of the slices, and the first other one.
     TwoDatabases { a: Identity, b: Identity },
-    /// Not more than half of the places of the newest table's list were found: so many were, and so many are needed.
+    /// Not more than half of the places of a list of the newest table were found, the first one of which that is so: so many were, and so many are needed.
     NoQuorum { readable: u32, needed: u32 },
-    /// A table was found, and not enough of its places took the claim, or then the table: fewer than half, or of a set's no more than half.
+    /// A table was found, and of a list of it, the first one of which that is so, not enough places took the claim, or then the table: fewer than half, or of
+    /// a set's no more than half.
     Lost { active: u32, listed: u32 },
     /// The number to draw would reach 2^63; nothing was written.
     Spent,
@@ -65,9 +66,9 @@ pub struct Booted {
 }
 
 /// Brings the site's drives up: it reads the first block of each and syncs it, whatever came of those before. It looks at the site's slices on those
-/// that are up. A drive on which a read fails has no readable replica. Where one database shows tables, and of the list of the newest one more than
+/// that are up. A drive on which a read fails has no readable replica. Where one database shows tables, and of each list of the newest one more than
 /// half of the places were found, it draws one more than the greatest number there, writes it to each of these places as a claim, and then the table
-/// under it to each that took the claim. At least half of the list has to take both, and of a set's list more than half.
+/// under it to each that took the claim. At least half of each list has to take both, and of a set's lists more than half.
 pub fn boot<S: Shelf>(shelf: &mut S, alloc: Global, geometry: &Geometry, site: &Site) -> Booted
     requires sound { IsSound geometry.now }
     requires on_shelf { IsOnShelf (S.sizes shelf.old) site.now }
@@ -208,13 +209,8 @@ fn adopt<S: Shelf>(
         Ok(hand) => hand,
         Err(AllocError) => return quiet(BootEnd::Memory),
     };
-    let readable = active(hand.seats.as_slice());
-    let listed = hand.seats.as_slice().len();
-    if 2 * readable <= listed {
-        return quiet(BootEnd::NoQuorum {
-            readable: readable as u32,
-            needed: (listed / 2 + 1) as u32,
-        });
+    if let Some(share) = short(hand.seats.as_slice(), &newest.table.plan.lists, Need::More) {
+        return quiet(unread(share));
     }
     if hand.number >= NUMBER_LIMIT {
         return quiet(BootEnd::Spent);
@@ -229,13 +225,14 @@ fn in_hand(alloc: Global, replicas: &[Replica], newest: &Newest) -> Result<Hand,
     ensures { IfOk result (IsHandOf replicas.now newest.now) }
 {
     let identity = replicas[newest.replica].head.master.identity;
-    let places = newest.table.plan.lists.places();
+    let lists = &newest.table.plan.lists;
+    let places = lists.each();
     let text = blocks_for(text_bytes(&newest.table) as u32);
     Ok(Hand {
         identity,
         number: greatest_number(replicas, identity) + 1,
-        seats: seats_of(alloc, places, replicas, identity, text)?,
-        room: room_for(alloc, least_room(places).max(text))?,
+        seats: seats_of(alloc, places.as_slice(), replicas, identity, text)?,
+        room: room_for(alloc, least_room(lists).max(text))?,
     })
 }
 
@@ -256,9 +253,10 @@ fn rewrite<S: Shelf>(shelf: &mut S, key: &Key, hand: Hand, table: Table) -> Take
         mut room,
     } = hand;
     let readable = active(seats.as_slice());
+    let need = need_of(key);
     claim_all(shelf, &mut seats, number);
-    if !is_enough(key, seats.as_slice()) {
-        return lost(seats.as_slice());
+    if let Some(share) = short(seats.as_slice(), &table.plan.lists, need) {
+        return lost(share);
     }
     let mark = Mark {
         boot: number,
@@ -266,8 +264,8 @@ fn rewrite<S: Shelf>(shelf: &mut S, key: &Key, hand: Hand, table: Table) -> Take
     };
     let text = spell(&table, &mut room);
     slot_all(shelf, &mut seats, mark, text.bytes, text.body);
-    if !is_enough(key, seats.as_slice()) {
-        return lost(seats.as_slice());
+    if let Some(share) = short(seats.as_slice(), &table.plan.lists, need) {
+        return lost(share);
     }
     let calm = active(seats.as_slice()) == readable;
     Taken {
@@ -283,28 +281,36 @@ fn rewrite<S: Shelf>(shelf: &mut S, key: &Key, hand: Hand, table: Table) -> Take
     }
 }
 
-// At least half of the places are active; of a set's more than half.
-fn is_enough(key: &Key, seats: &[Seat]) -> bool
-    requires { length seats.now ≤ 50 }
-    ensures { result ≡ spec_is_enough key.now seats.now }
+// At least half of each list has to take what a boot writes; of a set's more than half.
+fn need_of(key: &Key) -> Need
+    ensures { result ≡ spec_need_of key.now }
 {
     match key {
-        Key::Local(_) => is_half_active(seats),
-        Key::Set(_) => seats.len() < 2 * active(seats),
+        Key::Local(_) => Need::Half,
+        Key::Set(_) => Need::More,
     }
 }
 
-fn lost(seats: &[Seat]) -> Taken
-    requires { length seats.now ≤ 50 }
-    ensures end { result.end ≡ BootEnd.Lost (active_of seats.now) (length seats.now) }
+fn lost(share: Share) -> Taken
+    ensures end { result.end ≡ BootEnd.Lost share.active share.listed }
     ensures calm { result.calm ≡ false }
 {
     Taken {
         end: BootEnd::Lost {
-            active: active(seats) as u32,
-            listed: seats.len() as u32,
+            active: share.active,
+            listed: share.listed,
         },
         calm: false,
+    }
+}
+
+// Not more than half of the list was found.
+fn unread(share: Share) -> BootEnd
+    ensures { result ≡ BootEnd.NoQuorum share.active (share.listed / 2 + 1) }
+{
+    BootEnd::NoQuorum {
+        readable: share.active,
+        needed: share.listed / 2 + 1,
     }
 }
 

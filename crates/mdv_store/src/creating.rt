@@ -7,10 +7,9 @@ ghost use Rattle.mdv_replica.specs.Forms.{name_of_key};
 ghost use Rattle.mdv_replica.specs.Replica.{IsPlaced, master_of};
 ghost use Rattle.mdv_shown.specs.Site.{place_on as spec_place_on};
 ghost use Rattle.mdv_store.specs.Acts.{ArePlaced, HaveGone, HaveStopped, Forms, Blanks, blanks_asked, blanks_behind, blanks_on, forms_asked, forms_on};
-ghost use Rattle.mdv_store.specs.Seats.{active_of};
 ghost use Rattle.mdv_store.specs.Create.{AreAsked, CreateEnds, CreateMoment, IsCreated, IsCreationCounted, drives_asked, replica_on as spec_replica_on, seats_asked as spec_seats_asked, seats_on, table_of};
 
-use crate::seats::{Seat, active, is_half_active};
+use crate::seats::{Need, Seat, Share, short};
 use crate::store::Store;
 use crate::text::room_for;
 use crate::writing::write_all;
@@ -78,13 +77,13 @@ pub fn create<S: Shelf>(
     check_owner(key, identity);
     let mut seats = seats_asked(alloc, key, identity, lines, count, blocks)?;
     let table = table_asked(alloc, seats.as_slice());
-    let mut room = room_for(alloc, least_room(table.plan.lists.places()))?;
+    let mut room = room_for(alloc, least_room(&table.plan.lists))?;
     clear_all(shelf, lines, count, blocks)?;
     format_all(shelf, key, identity, lines, count, blocks)?;
     let mark = Mark { boot: 1, count: 0 };
     write_all(shelf, &mut seats, mark, &table, &mut room);
-    if !is_half_active(seats.as_slice()) {
-        return Err(lost(seats.as_slice()));
+    if let Some(share) = short(seats.as_slice(), &table.plan.lists, Need::Half) {
+        return Err(lost(share));
     }
     Ok(Store {
         key: *key,
@@ -96,14 +95,12 @@ pub fn create<S: Shelf>(
     })
 }
 
-// How many places took the table, and how many are listed.
-fn lost(seats: &[Seat]) -> CreateFault
-    requires { length seats.now ≤ 50 }
-    ensures { result ≡ CreateFault.Lost (active_of seats.now) (length seats.now) }
+fn lost(share: Share) -> CreateFault
+    ensures { result ≡ CreateFault.Lost share.active share.listed }
 {
     CreateFault::Lost {
-        active: active(seats) as u32,
-        listed: seats.len() as u32,
+        active: share.active,
+        listed: share.listed,
     }
 }
 

@@ -139,7 +139,8 @@ fn letters_read(
     };
     let mut seen = Row::new(alloc);
     let mut was = false;
-    for place in newest.table.plan.lists.places() {
+    let places = newest.table.plan.lists.each();
+    for place in places.as_slice() {
         let flags = seen_at(site, looked, sought, *place, was);
         seen.push(Lettered {
             place: *place,

@@ -15,5 +15,5 @@ pub use booting::{BootEnd, Booted, boot};
 pub use creating::{CreateFault, create};
 pub use law::seats_tell;
 pub use letters::{Lettered, Letters};
-pub use seats::Seat;
+pub use seats::{Need, Seat, Share};
 pub use store::{CommitFault, Store};

@@ -1,5 +1,5 @@
 // The listed places of an open database, and what is written to the active ones.
-ghost use Rattle.std.specs.Prelude.{◌≡◌, ◌<◌, ◌≤◌, ◌+◌, ◌*◌, ◌^◌, length, map, Some};
+ghost use Rattle.std.specs.Prelude.{◌≡◌, ◌<◌, ◌≤◌, ◌^◌, length, map, Some};
 ghost use Rattle.mdv_shelf.specs.Drives.{KeptAmong};
 ghost use Rattle.mdv_shelf.specs.Shelves.{AtEachTale, AtEnd, DriveFailures};
 ghost use Rattle.mdv_replica.specs.Form.{with_slot as spec_with_slot};
@@ -7,14 +7,17 @@ ghost use Rattle.mdv_replica.specs.Forms.{IsMark};
 ghost use Rattle.mdv_replica.specs.Replica.{slot_blocks};
 ghost use Rattle.mdv_store.specs.Claims.{ClaimingEnds, ClaimingMoment};
 ghost use Rattle.mdv_store.specs.Passing.{IsActiveAt, IsStep, IsWriteOf, WentOver, claiming, left_on as spec_left_on, slotting, unless_on as spec_unless_on};
-ghost use Rattle.mdv_store.specs.Seats.{AreLaid, IsLaid, AreLeft, HaveRoom, TakesClaim, TakesSlot, active_of, drives_of, is_half_active as spec_is_half_active};
+ghost use Rattle.mdv_store.specs.Seats.{AreLaid, IsLaid, AreLeft, HaveRoom, TakesClaim, TakesSlot, active_of, drives_of};
+ghost use Rattle.mdv_store.specs.Shares.{has_active as spec_has_active, is_active_at as spec_is_active_at, share_in as spec_share_in, short_in as spec_short_in, short_of as spec_short_of, suffices as spec_suffices};
 ghost use Rattle.mdv_store.specs.Slots.{SlottingEnds, SlottingMoment};
 
-use mdv_base::{Block, DriveNo, Failed, Mark, Place};
+use crate::booting::is_same;
+use mdv_base::{Block, DriveNo, Failed, Mark, Place, Places};
 use mdv_replica::{Gate, Head, Slot, write_claim, write_slot};
 use mdv_shelf::Shelf;
 use mdv_survey::{Replica, spare_slot};
-use mdv_votes::Row;
+use mdv_table::Lists;
+use mdv_votes::{Row, at_least_half, more_than_half};
 
 /// A listed place, and the replica there as it is on the disk. There is none where the place isn't active: a call on its drive failed, or the
 /// boot found none.
@@ -200,10 +203,76 @@ pub(crate) fn active(seats: &[Seat]) -> usize
     seats.iter().filter(|seat| seat.replica.is_some()).count()
 }
 
-/// Whether at least half of the places are active, which is enough to write to them.
-pub(crate) fn is_half_active(seats: &[Seat]) -> bool
-    requires { length seats.now ≤ 50 }
-    ensures { result ≡ spec_is_half_active seats.now }
+/// How much of each list has to be active.
+#[derive(Clone, Copy)]
+pub enum Need {
+    /// At least half of it.
+    Half,
+    /// More than half of it.
+    More,
+}
+
+/// Of a list so many places are active, and so many it has.
+#[derive(Clone, Copy)]
+pub struct Share {
+    pub active: u32,
+    pub listed: u32,
+}
+
+/// The share of the first list of which not enough is active, the old one first. There is none where of each list enough is.
+pub(crate) fn short(seats: &[Seat], lists: &Lists, need: Need) -> Option<Share>
+    ensures { result ≡ spec_short_of need seats.now lists.now }
 {
-    seats.len() <= 2 * active(seats)
+    match lists {
+        Lists::One(list) => short_in(seats, list, need),
+        Lists::Two(old, new) => short_in(seats, old, need).or(short_in(seats, new, need)),
+    }
+}
+
+fn short_in(seats: &[Seat], list: &Places, need: Need) -> Option<Share>
+    ensures { result ≡ spec_short_in need seats.now list.now }
+{
+    let share = share_in(seats, list);
+    if suffices(share, need) {
+        None
+    } else {
+        Some(share)
+    }
+}
+
+fn suffices(share: Share, need: Need) -> bool
+    ensures { result ≡ spec_suffices need share }
+{
+    match need {
+        Need::Half => at_least_half(share.active, share.listed),
+        Need::More => more_than_half(share.active, share.listed),
+    }
+}
+
+fn share_in(seats: &[Seat], list: &Places) -> Share
+    ensures { result ≡ spec_share_in seats.now list.now }
+{
+    let _few = list.is_full();
+    let places = list.as_slice();
+    let active = places
+        .iter()
+        .filter(|place| has_active(seats, place))
+        .count();
+    Share {
+        active: active as u32,
+        listed: places.len() as u32,
+    }
+}
+
+// Whether a seat of the place is active.
+fn has_active(seats: &[Seat], place: &Place) -> bool
+    ensures { result ≡ spec_has_active seats.now place.now }
+{
+    seats.iter().any(|seat| is_active_at(seat, place))
+}
+
+fn is_active_at(seat: &Seat, place: &Place) -> bool
+    ensures { result ≡ spec_is_active_at place.now seat.now }
+{
+    is_same(seat.place, *place) && seat.replica.is_some()
 }

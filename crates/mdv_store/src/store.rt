@@ -7,10 +7,11 @@ ghost use Rattle.mdv_table.specs.Plan.{places_of};
 ghost use Rattle.mdv_store.specs.Commit.{CommitAnswer, CommitDone, CommitMoment, room_in};
 ghost use Rattle.mdv_store.specs.Counts.{IsCommitCounted};
 ghost use Rattle.mdv_store.specs.Letters.{flags_at as spec_flags_at, places_seen};
-ghost use Rattle.mdv_store.specs.Seats.{AreLaid, active_of, drives_of};
+ghost use Rattle.mdv_store.specs.Opened.{shortage as spec_shortage};
+ghost use Rattle.mdv_store.specs.Seats.{AreLaid, drives_of};
 
 use crate::letters::{Letters, flags_at};
-use crate::seats::{Seat, active, is_half_active};
+use crate::seats::{Need, Seat, Share, short};
 use crate::writing::write_all;
 use mdv_base::{BLOCK_BYTES, Block, Flags, Identity, Key, Mark, NUMBER_LIMIT, Place};
 use mdv_record::{TooLong, least_room, text_bytes};
@@ -45,8 +46,8 @@ impl Model for Store {
 /// Why a table isn't committed.
 #[derive(Clone, Copy, Debug, PartialEq, Eq)]
 pub enum CommitFault {
-    /// Fewer than half of the listed places are active, because calls on their drives failed: a crash may leave the old table or the new one. From then
-    /// on each commit is answered so, and does nothing.
+    /// Of a list, the first one of which that is so, fewer than half of the places are active, because calls on their drives failed: a crash may leave
+    /// the old table or the new one. From then on each commit is answered so, and does nothing.
     Lost { active: u32, listed: u32 },
     /// Its text is longer than the smallest slot of the listed places; nothing was done.
     TooLong(TooLong),
@@ -105,11 +106,11 @@ impl Store {
         ensures answer { CommitAnswer S.Shelf shelf.old shelf.new self.old self.new next result }
         ensures moments { AtEachTale S.Shelf (CommitMoment self.old next) shelf.old shelf.new }
         ensures end { OnOk result (AtEnd S.Shelf (CommitDone self.old self.new next) shelf.old shelf.new) }
-        ensures counted { IsCommitCounted S.Shelf shelf.old shelf.new (length (record_text next)) self.old.seats self.new.seats result }
+        ensures counted { IsCommitCounted S.Shelf shelf.old shelf.new (length (record_text next)) self.old self.new.seats result }
         ensures kept { KeptAmong S.Shelf shelf.old shelf.new (drives_of self.old.seats) }
     {
-        if !is_half_active(self.seats.as_slice()) {
-            return Err(lost(self.seats.as_slice()));
+        if let Some(share) = self.shortage() {
+            return Err(lost(share));
         }
         self.check_room(&next)?;
         let count = self.mark.count + 1;
@@ -121,12 +122,19 @@ impl Store {
             count,
         };
         write_all(shelf, &mut self.seats, mark, &next, &mut self.room);
-        if !is_half_active(self.seats.as_slice()) {
-            return Err(lost(self.seats.as_slice()));
+        if let Some(share) = short(self.seats.as_slice(), &self.table.plan.lists, Need::Half) {
+            return Err(lost(share));
         }
         self.mark = mark;
         self.table = next;
         Ok(())
+    }
+
+    // The share of the first list of which fewer than half is active.
+    fn shortage(&self) -> Option<Share>
+        ensures { result ≡ spec_shortage self.now }
+    {
+        short(self.seats.as_slice(), &self.table.plan.lists, Need::Half)
     }
 
     fn check_room(&self, next: &Table) -> Result<(), TooLong>
@@ -134,7 +142,7 @@ impl Store {
         ensures err { IfErr result (λ fault. (fault.bytes ≡ length (record_text next.now)) × (fault.room ≡ room_in self.now.table) × (fault.room < fault.bytes)) }
     {
         let bytes = text_bytes(next);
-        let room = (least_room(self.table.plan.lists.places()) * BLOCK_BYTES) as u64;
+        let room = (least_room(&self.table.plan.lists) * BLOCK_BYTES) as u64;
         if room < bytes {
             return Err(TooLong { bytes, room });
         }
@@ -142,13 +150,11 @@ impl Store {
     }
 }
 
-// How many places are active, and how many are listed.
-fn lost(seats: &[Seat]) -> CommitFault
-    requires { length seats.now ≤ 50 }
-    ensures { result ≡ CommitFault.Lost (active_of seats.now) (length seats.now) }
+fn lost(share: Share) -> CommitFault
+    ensures { result ≡ CommitFault.Lost share.active share.listed }
 {
     CommitFault::Lost {
-        active: active(seats) as u32,
-        listed: seats.len() as u32,
+        active: share.active,
+        listed: share.listed,
     }
 }

@@ -4,6 +4,8 @@
 #[cfg(test)]
 mod boot_tests;
 #[cfg(test)]
+mod changing_tests;
+#[cfg(test)]
 mod letters_tests;
 #[cfg(test)]
 mod lost_tests;

@@ -2,8 +2,10 @@
 use Rattle.std.proofs.Common.{◌≡◌, ◌⊎◌, inl, inr, ◌||◌, ℕ, zero, suc, ◌<◌, Bool, true, false, List, [], ◌∷◌, ◌++◌, length, slice_index_or, refl, sym, ◌∙◌, ap, subst, append_assoc, Option, Some, None, All, Contains, arith}
 use Rattle.std.proofs.lemmas.List.Elements.{All-cons, All-head, All-tail, All-contains}
 use Rattle.std.specs.List.{list_any}
-use Rattle.mdv_store_law.specs.Below.{IsBelow, Geometry, Change, Table}
-use Rattle.mdv_store_law.specs.Log.{Version, with_asked, answered, Extends, IsMade, AreMade, IsRising, IsDescended, IsHeld}
+use Rattle.mdv_table.specs.Plan.{last_of}
+use Rattle.mdv_table.specs.declared.plan.Lists.{Lists}
+use Rattle.mdv_store_law.specs.Below.{IsBelow, Geometry, Change, One, Table, settled}
+use Rattle.mdv_store_law.specs.Log.{Version, with_asked, answered, Extends, IsSameOrSettled, IsMade, AreMade, IsRising, IsDescended, IsHeld}
 
 pub extends_itself : (changes : List Change) → Extends changes changes
 extends_itself changes = record { more = []; is = refl }
@@ -18,10 +20,22 @@ pub extends_asked : (asked : Option Change) (before : List Change) → Extends (
 extends_asked None before = extends_itself before
 extends_asked (Some change) before = record { more = change ∷ []; is = refl }
 
+-- a change of places is over once
+pub settled_more : (a b c : Table) → IsSameOrSettled a b → IsSameOrSettled b c → IsSameOrSettled a c
+settled_more a b c (inl same) is = subst (λ (t : Table). IsSameOrSettled t c) same is
+settled_more a b c (inr over) (inl same) = inr (same ∙ over)
+settled_more a b c (inr over) (inr twice) = inr (twice ∙ ap settled over)
+
+-- a table is what its changes made, once its change of places is over too
+made_settled : (g : Geometry) (changes : List Change) (table : Table) → AreMade g changes table → AreMade g changes (settled table)
+made_settled g [] table made = (made.0, (made.1.0, ap (λ (l : Lists). One (last_of l)) made.1.1))
+made_settled g (change ∷ before) table (old, new, made, is, more) = (old, new, made, is, settled_more new table (settled table) more (inr refl))
+
 -- a table is what its changes made, if the one that it comes from is
 pub made_next : (g : Geometry) (asked : Option Change) (before : List Change) (old new : Table) → AreMade g before old → IsMade g asked old new → AreMade g (with_asked asked before) new
-made_next g None before old new made is = subst (λ (t : Table). AreMade g before t) (sym is) made
-made_next g (Some change) before old new made is = (old, made, is)
+made_next g None before old new made (inl same) = subst (λ (t : Table). AreMade g before t) (sym same) made
+made_next g None before old new made (inr over) = subst (λ (t : Table). AreMade g before t) (sym over) (made_settled g before old made)
+made_next g (Some change) before old new made is = (old, new, made, is, inl refl)
 
 pub contains_first : (v : Version) (older : List Version) → Contains (v ∷ older) v
 contains_first v older = (0, omega arith, refl)

@@ -12,7 +12,7 @@ module _ (g : Geometry) (log : Log) (is : IsLog g log) (mark : Mark) (asked : Op
   begun = record { mark = mark; table = table; changes = with_asked asked before; is_written = false }
 
   pub begun_made : IsFirst log.issued log.family asked before table ⊎ IsNext g log.family asked before table → AreMade g (with_asked asked before) table
-  begun_made (inl first) = rw (first.unasked, first.unchanged) first.empty
+  begun_made (inl first) = rw (first.unasked, first.unchanged) (first.empty, first.one)
   begun_made (inr next) =
       let made = All-contains (λ (v : Version). AreMade g v.changes v.table) log.family next.parent is.made next.one_of in
       made_next g asked before next.parent.table table (subst (λ (c : List Change). AreMade g c next.parent.table) next.changes made) next.made

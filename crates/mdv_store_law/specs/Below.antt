@@ -2,9 +2,12 @@
 pub use Rattle.mdv_base.specs.Mark.{IsBelow}
 pub use Rattle.mdv_base.specs.declared.mark.Identity.{Identity}
 pub use Rattle.mdv_base.specs.declared.mark.Mark.{Mark}
+pub use Rattle.mdv_base.specs.declared.place.Place.{Place}
 pub use Rattle.mdv_name.specs.declared.geometry.Geometry.{Geometry}
 pub use Rattle.mdv_shelf.specs.Everywhere.{Image}
 pub use Rattle.mdv_shelf.specs.Tale.{Begun, Tale}
 pub use Rattle.mdv_table.specs.Change.{IsAfter}
+pub use Rattle.mdv_table.specs.Plan.{settled}
 pub use Rattle.mdv_table.specs.declared.change.Change.{Change}
+pub use Rattle.mdv_table.specs.declared.plan.Lists.TheVariants.{One}
 pub use Rattle.mdv_table.specs.declared.table.Table.{Table}

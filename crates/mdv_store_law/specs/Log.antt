@@ -1,7 +1,7 @@
 -- The log of a host's database: which tables were ever written for it, by which changes, and which were told.
 use Rattle.std.specs.Prelude.{◌≡◌, ◌⊎◌, Bool, true, false, List, [], ◌∷◌, ◌++◌, map, reverse, Option, Some, None, All, Contains}
 use Rattle.std.specs.List.{list_any}
-use Rattle.mdv_store_law.specs.Below.{IsBelow, Identity, Mark, Geometry, IsAfter, Change, Table}
+use Rattle.mdv_store_law.specs.Below.{IsBelow, Identity, Mark, Geometry, IsAfter, Change, Place, Table, One, settled}
 use Rattle.mdv_store_law.specs.Machine.{after_all, all_of}
 use Rattle.mdv_store_law.specs.Machine as machine
 
@@ -63,26 +63,42 @@ IsAbove mark family = All (λ v. IsBelow v.mark mark) family
 abbrev pub IsNotOlder : Mark → List Version → Type 0
 IsNotOlder mark family = All (λ v. v.is_written ≡ true → IsBelow mark v.mark → ⊥) family
 
--- the table that a change makes of another; without a change it is the same
+-- the table, or the one that it is once its change of places is over
+abbrev pub IsSameOrSettled : Table → Table → Type 0
+IsSameOrSettled old new = (new ≡ old) ⊎ (new ≡ settled old)
+
+-- the table that a change makes of another; without a change it is the same, or that one with its change of places over
 abbrev pub IsMade : Geometry → Option Change → Table → Table → Type 0
-IsMade g None old new = new ≡ old
+IsMade g None old new = IsSameOrSettled old new
 IsMade g (Some change) old new = IsAfter g change old.plan new.plan × (new.status ≡ old.status)
 
--- the first table of a database whose creation was issued: no change made it, and it has no volumes
+-- its places don't change
+abbrev pub HasOneList : Table → Type 0
+HasOneList table = (places : List Place) × (table.plan.lists ≡ One places)
+
+-- the first table of a database whose creation was issued: no change made it, and it has one list of places, and no volumes
 pub record IsFirst (issued : Option Identity) (family : List Version) (asked : Option Change) (before : List Change) (table : Table) : Type 0 where
   pub begun : (identity : Identity) × (issued ≡ Some identity)
   pub none : family ≡ []
   pub unasked : asked ≡ None
   pub unchanged : before ≡ []
   pub empty : table.plan.volumes ≡ []
+  pub one : HasOneList table
 
--- a table that comes from one of the family, which isn't older than the firm one
+-- no version of the family is newer
+pub record IsNewestOf (family : List Version) (v : Version) : Type 0 where
+  pub older : List Version
+  pub is : family ≡ v ∷ older
+
+-- A table that comes from one of the family, which isn't older than the firm one. Its lists of places are that one's: they change only from
+-- the newest table, once its write was answered.
 pub record IsNext (g : Geometry) (family : List Version) (asked : Option Change) (before : List Change) (table : Table) : Type 0 where
   pub parent : Version
   pub one_of : Contains family parent
   pub changes : parent.changes ≡ before
   pub made : IsMade g asked parent.table table
   pub not_older : IsNotOlder parent.mark family
+  pub settles : (table.plan.lists ≡ parent.table.plan.lists) ⊎ ((parent.is_written ≡ true) × IsNewestOf family parent)
 
 abbrev pub IsBegun : List Version → Type 0
 IsBegun [] = ⊥
@@ -176,10 +192,10 @@ NoCreation identity = ⊥
 abbrev pub IsThis : Identity → Identity → Type 0
 IsThis identity other = other ≡ identity
 
--- the table after these changes, the newest first, from one without volumes
+-- the table after these changes, the newest first, from one with one list of places and no volumes; behind each of them a change of places may be over
 abbrev pub AreMade : Geometry → List Change → Table → Type 0
-AreMade g [] table = table.plan.volumes ≡ []
-AreMade g (change ∷ before) table = (old : Table) × AreMade g before old × IsMade g (Some change) old table
+AreMade g [] table = (table.plan.volumes ≡ []) × HasOneList table
+AreMade g (change ∷ before) table = (old new : Table) × AreMade g before old × IsMade g (Some change) old new × IsSameOrSettled new table
 
 -- marks rise, so that a mark names one table
 abbrev pub IsRising : List Version → Type 0

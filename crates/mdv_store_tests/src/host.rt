@@ -14,17 +14,19 @@ ghost use Rattle.mdv_survey.specs.Replica.{IsOnShelf};
 ghost use Rattle.mdv_store_tests.specs.Lines.{EndsWithin, HasRoom};
 
 use mdv_base::{
-    Block, DriveName, DriveNo, DriveSet, Flags, Identity, Key, Place, Places, SliceName, VolId,
+    Block, DriveName, DriveNo, DriveSet, Flags, Identity, Key, Mark, Place, Places, SliceName, VolId,
     ZERO_BLOCK,
 };
 use mdv_home::has_drives;
 use mdv_look::{PeekRefusal, peek};
 use mdv_name::{Geometry, SliceLine, read_geometries_are_sound};
 use mdv_quorum_tests::Draws;
+use mdv_record::encode;
+use mdv_replica::{Gate, Master, claim_block, gate_block, master_block};
 use mdv_shelf::{MemShelf, Shelf};
 use mdv_shown::{Site, site_of, sites_are};
 use mdv_store::{BootEnd, CommitFault, CreateFault, Letters, Store, boot, create};
-use mdv_table::{Lists, Table, Volume, Volumes};
+use mdv_table::{EachPlace, Lists, Table, Volume, Volumes};
 use std::alloc::{AllocError, Global};
 use std::test::Fail;
 
@@ -280,14 +282,50 @@ fn lines_on(alloc: Global, site: &Site, on: &[usize]) -> Result<Vec<SliceLine>, 
     Ok(lines)
 }
 
+// The first place of each line.
+fn firsts_on(lines: &[SliceLine]) -> Places {
+    let mut places = Places::new();
+    for line in lines {
+        if !places.is_full() {
+            places.push(Place {
+                slice: line.name,
+                start: 16,
+                blocks: BLOCKS,
+            });
+        }
+    }
+    places
+}
+
+fn master_on(line: &SliceLine, key: &Key, fresh: u64) -> Master {
+    Master {
+        identity: Identity { fresh, number: 0 },
+        key: *key,
+        slice: line.name,
+        start: 16,
+        blocks: BLOCKS,
+        index: 0,
+        count: 1,
+    }
+}
+
 // The same lists, and no volume, or that of the number.
 fn next_table(alloc: Global, last: &Table, number: u16) -> Result<Table, AllocError>
     ensures { IfOk result (λ next. next.plan.lists ≡ last.now.plan.lists) }
 {
-    let Lists::One(places) = &last.plan.lists;
-    let mut next = Table::empty(alloc, same_places(places));
+    let mut next = Table::empty(alloc, Places::new());
+    next.plan.lists = same_lists(&last.plan.lists);
     next.plan.volumes = volumes_of(alloc, number)?;
     Ok(next)
+}
+
+fn same_lists(lists: &Lists) -> Lists
+    ensures { result ≡ lists.now }
+{
+    match lists {
+        Lists::One(places) => Lists::One(same_places(places)),
+        Lists::Two(old, new) => Lists::Two(same_places(old), same_places(new)),
+    }
 }
 
 // Places have no copy of their own.
@@ -342,8 +380,14 @@ fn found_in(store: &Store) -> Found {
         fresh: store.identity().fresh,
         boot: store.mark().boot,
         table: number_of(store.table()),
-        places: store.table().plan.lists.places().len(),
+        places: places_in(store.table()),
     }
+}
+
+// How many places the table lists, one that is in both lists once.
+fn places_in(table: &Table) -> usize {
+    let places = table.plan.lists.each();
+    places.as_slice().len()
 }
 
 fn end_of(end: &BootEnd) -> End {
@@ -360,7 +404,7 @@ fn end_of(end: &BootEnd) -> End {
 
 fn told(peeked: Result<Table, PeekRefusal>) -> Peeked {
     match peeked {
-        Ok(table) => Peeked::Table(number_of(&table), table.plan.lists.places().len()),
+        Ok(table) => Peeked::Table(number_of(&table), places_in(&table)),
         Err(PeekRefusal::Empty) => Peeked::Empty,
         Err(PeekRefusal::TwoDatabases { a, b }) => Peeked::TwoDatabases(a.fresh, b.fresh),
         Err(PeekRefusal::NoQuorum { readable, needed }) => Peeked::NoQuorum(readable, needed),
@@ -434,12 +478,69 @@ impl Host {
         let shelf = &mut self.shelf;
         match create(shelf, alloc, key, identity, lines, count, BLOCKS) {
             Ok(store) => {
-                self.letters = Letters::made(alloc, store.table().plan.lists.places())?;
+                let places = store.table().plan.lists.each();
+                self.letters = Letters::made(alloc, places.as_slice())?;
                 self.store = Some(store);
                 Ok(Made::Done)
             }
             Err(fault) => Ok(unmade(fault)),
         }
+    }
+
+    /// A change of places under way: on each of these lines the database has a replica of 16 blocks, and each of them shows the table that lists those of the old
+    /// lines and those of the new ones, with a volume of that number. Nothing is open then.
+    pub fn lay_change(
+        &mut self,
+        alloc: Global,
+        key: &Key,
+        fresh: u64,
+        [old, new]: [&[usize]; 2],
+        number: u16,
+    ) -> Result<(), Fail> {
+        self.store = None;
+        let old = lines_on(alloc, &self.site, old)?;
+        let new = lines_on(alloc, &self.site, new)?;
+        let mut table = Table::empty(alloc, Places::new());
+        table.plan.lists = Lists::Two(firsts_on(old.as_slice()), firsts_on(new.as_slice()));
+        table.plan.volumes = volumes_of(alloc, number)?;
+        let mut body = [ZERO_BLOCK; 6];
+        let Ok(bytes) = encode(&table, body.as_flattened_mut()) else {
+            return Err("a slot".into());
+        };
+        let gate = Gate::Open {
+            mark: Mark { boot: 1, count: 1 },
+            bytes: bytes as u32,
+        };
+        for line in old.iter().chain(new.iter()) {
+            self.lay_replica(line, &master_on(line, key, fresh), gate, &body)?;
+        }
+        Ok(())
+    }
+
+    // The only replica of the line, which has this body in its first slot.
+    fn lay_replica(
+        &mut self,
+        line: &SliceLine,
+        master: &Master,
+        gate: Gate,
+        body: &[Block],
+    ) -> Result<(), Fail> {
+        let first = line.at.start.saturating_add(16);
+        let head = [
+            master_block(master),
+            claim_block(1),
+            gate_block(gate),
+            gate_block(Gate::Closed),
+        ];
+        self.put_all(line.at.drive.0, first, &head)?;
+        self.put_all(line.at.drive.0, first.saturating_add(4), body)
+    }
+
+    fn put_all(&mut self, drive: u32, at: u64, blocks: &[Block]) -> Result<(), Fail> {
+        for index in 0..blocks.len() {
+            self.put(drive, at.saturating_add(index as u64), blocks[index])?;
+        }
+        Ok(())
     }
 
     /// A boot, and whether the drives that aren't lost hold what they held before. That takes a call for each drive before it, and one behind it.
@@ -477,17 +578,16 @@ impl Host {
     }
 
     /// The places that the open database lists.
-    pub fn places(&self) -> &[Place] {
-        match &self.store {
-            Some(store) => store.table().plan.lists.places(),
-            None => &[],
-        }
+    pub fn places(&self) -> Option<EachPlace> {
+        let store = self.store.as_ref()?;
+        Some(store.table().plan.lists.each())
     }
 
     /// The nine letters of a listed place; of none where those that were kept are of other places.
     pub fn flags(&self, place: &Place) -> Option<Flags> {
         let store = self.store.as_ref()?;
-        if !self.letters.are_of(store.table().plan.lists.places()) {
+        let places = store.table().plan.lists.each();
+        if !self.letters.are_of(places.as_slice()) {
             return None;
         }
         store.flags(&self.letters, place)

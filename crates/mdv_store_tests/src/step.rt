@@ -13,6 +13,8 @@ pub enum Step {
     Make(u64, &'static [usize], u8, Made),
     /// One with the key of another host, or of another set.
     MakeOther(u64, &'static [usize], u8),
+    /// A change of places of database 7 is under way, from the first place of each of the old lines to that of each of the new ones: all of them show the table of this number, which lists both.
+    Changes(&'static [usize], &'static [usize], u16),
     /// Each drive is read by one call, and then it boots. The drives that are up are those that aren't lost, the boot is clean where none is, and nothing is written where nothing is adopted.
     Boots(End),
     /// So it adopts a table of database 7 under this number: the table's number, and how many places it lists.
@@ -86,7 +88,10 @@ fn tells_at(host: &Host, place: &Place, letters: &str) -> bool {
 
 // Of a place that isn't listed, as one that would be longer, no letters are told.
 fn tells(host: &Host, letters: &[&str]) -> bool {
-    let places = host.places();
+    let Some(places) = host.places() else {
+        return letters.is_empty();
+    };
+    let places = places.as_slice();
     places.len() == letters.len()
         && places
             .iter()
@@ -189,6 +194,10 @@ impl Life {
             }
             Step::MakeOther(fresh, on, count) => {
                 Ok(self.host.create(alloc, &other, fresh, on, count)? == Made::Done)
+            }
+            Step::Changes(old, new, number) => {
+                self.host.lay_change(alloc, &own, 7, [old, new], number)?;
+                Ok(true)
             }
             Step::Boots(end) => self.boots(alloc, end),
             Step::Adopts(boot, table, places) => {

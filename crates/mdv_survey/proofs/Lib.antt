@@ -2,7 +2,6 @@ pub mod Counting
 pub mod Ending
 pub mod Bodies
 pub mod Tables
-pub mod Reading
 pub mod Newests
 pub mod Listing
 pub mod Told

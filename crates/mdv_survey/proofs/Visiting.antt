@@ -144,12 +144,12 @@ chained_of g site r content old new is (Err fault) none = tt
 pub number_counted : {S : Type 0} (shelf : Ghosts S) (g : Geometry) (site : Site) (line : SliceLine) (first : Master) (number : ℕ) (head : Head) (a b c : S) (result : Result Bool ReadFault)
     → shelf.tale b ≡ shelf.tale a → MadeCalls shelf a b 1 0
     → ((t : Tale) → shelf.tale a ≡ Some t → IsHead (place_on line first.blocks first.count number) (size_on site line) (last t line.at.drive.0) head) → head.master.blocks ≡ first.blocks
-    → ((t : Tale) → shelf.tale a ≡ Some t → IfOk result (IsChained g site line first number (last t line.at.drive.0) head)) → IsCounted shelf b c 2 (λ t n. IfOk result (λ readable. IsVisitBy g (place_on line first.blocks first.count number) (last t line.at.drive.0) head readable n))
+    → ((t : Tale) → shelf.tale a ≡ Some t → IfOk result (IsChained g site line first number (last t line.at.drive.0) head)) → IsCounted shelf b c 2 (λ t n. IfOk result (λ readable. IsVisitBy head readable n))
     → IsCounted shelf a c 3 (λ t n. IfOk result (λ readable. IsNumberBy g site line first (last t line.at.drive.0) number readable n))
 number_counted shelf g site line first number head a b c (Err fault) same made there length chained counted =
     counted_more shelf a b c 1 2 3 (λ t n. Unit {0}) (λ t n. Unit {0}) (λ t n. Unit {0}) (omega arith) same (λ t m n is one by. tt) (counted_one shelf a b 1 (λ t n. Unit {0}) (omega arith) made (λ t is. tt)) counted
 number_counted shelf g site line first number head a b c (Ok readable) same made there length chained counted =
-    counted_more shelf a b c 1 2 3 (λ t n. n ≡ 1) (λ t n. IsVisitBy g (place_on line first.blocks first.count number) (last t line.at.drive.0) head readable n) (λ t n. IsNumberBy g site line first (last t line.at.drive.0) number readable n) (omega arith) same
+    counted_more shelf a b c 1 2 3 (λ t n. n ≡ 1) (λ t n. IsVisitBy head readable n) (λ t n. IsNumberBy g site line first (last t line.at.drive.0) number readable n) (omega arith) same
     (λ t m n is one by. subst (λ (k : ℕ). IsNumberBy g site line first (last t line.at.drive.0) number readable (k + n)) (sym one)
     (number_by g site line first (last t line.at.drive.0) number n head readable (there t is) length (chained t is) by))
     (counted_one shelf a b 1 (λ t n. n ≡ 1) (omega arith) made (λ t is. refl)) counted

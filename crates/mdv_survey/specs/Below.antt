@@ -29,5 +29,5 @@ pub use Rattle.mdv_shown.specs.Shown.{ShowsNone, SlotShows}
 pub use Rattle.mdv_shown.specs.Site.{IsSite, place_on, size_on}
 pub use Rattle.mdv_shown.specs.declared.site.Site.{Site}
 pub use Rattle.mdv_table.specs.declared.plan.Lists.{Lists}
-pub use Rattle.mdv_table.specs.declared.plan.Lists.TheVariants.{One}
+pub use Rattle.mdv_table.specs.declared.plan.Lists.TheVariants.{One, Two}
 pub use Rattle.mdv_table.specs.declared.table.Table.{Table}

@@ -2,7 +2,7 @@
 use Rattle.std.specs.Prelude.{◌≡◌, ℕ, ◌+◌, ◌*◌, ◌/◌, ◌&&◌, ◌==◌, not, Bool, true, List, length, count_by, nat_lt, Contains, Option, Some, None, MatchOption, if◌then◌else◌, slice_get}
 use Rattle.std.specs.List.{find, list_any}
 use Rattle.mdv_name.specs.SliceIndex.{same_slice}
-use Rattle.mdv_survey.specs.Below.{Identity, Lists, One, Place, shows}
+use Rattle.mdv_survey.specs.Below.{Identity, Lists, One, Two, Place, shows}
 use Rattle.mdv_survey.specs.declared.choosing.Choice.{Choice}
 use Rattle.mdv_survey.specs.declared.choosing.Choice.TheVariants.{Empty, TwoDatabases, NoQuorum, Newest as Chosen}
 use Rattle.mdv_survey.specs.declared.replica.Newest.{Newest}
@@ -48,9 +48,10 @@ needed_of list = length list / 2 + 1
 abbrev pub is_read : List Replica → Identity → List Place → Bool
 is_read replicas identity list = nat_lt (length list) (2 * readable_of replicas identity list)
 
--- the first of a table's lists of which not more than half was found
+-- the first of a table's lists of which not more than half was found: the list that was before the one that comes
 abbrev pub failing : List Replica → Identity → Lists → Option (List Place)
 failing replicas identity (One list) = if is_read replicas identity list then None else Some list
+failing replicas identity (Two old new) = if is_read replicas identity old then (if is_read replicas identity new then None else Some new) else Some old
 
 -- the first replica that shows a table, and the first one that shows a table of another identity
 pub record AreTwo (replicas : List Replica) (a b : Identity) : Type 0 where

@@ -1,5 +1,5 @@
 // Which of the tables that a survey found a boot takes, if it takes one.
-ghost use Rattle.std.specs.Prelude.{◌≡◌, ◌≤◌, length, MatchOption, None, IfSome};
+ghost use Rattle.std.specs.Prelude.{◌≡◌, ◌≤◌, length, MatchOption, None, Some, IfSome, if◌then◌else◌};
 ghost use Rattle.std.specs.List.{find};
 ghost use Rattle.std.specs.Option.{option_copied};
 ghost use Rattle.mdv_name.specs.SliceIndex.{same_slice};
@@ -99,16 +99,28 @@ fn is_of(replica: &Replica, identity: Identity) -> bool
     own.fresh == identity.fresh && own.number == identity.number
 }
 
-// The first list of which not more than half is readable.
+// The first list of which not more than half is readable: the list that was before the one that comes.
 fn failing<'a>(replicas: &[Replica], identity: Identity, lists: &'a Lists) -> Option<&'a Places>
     ensures { option_copied result ≡ spec_failing replicas.now identity lists.now }
 {
     match lists {
-        Lists::One(list) => if is_read(replicas, identity, list) {
-            None
+        Lists::One(list) => unread(replicas, identity, list),
+        Lists::Two(old, new) => if is_read(replicas, identity, old) {
+            unread(replicas, identity, new)
         } else {
-            Some(list)
+            Some(old)
         },
+    }
+}
+
+// The list, unless more than half of it is readable.
+fn unread<'a>(replicas: &[Replica], identity: Identity, list: &'a Places) -> Option<&'a Places>
+    ensures { option_copied result ≡ (if spec_is_read replicas.now identity list.now then None else Some list.now) }
+{
+    if is_read(replicas, identity, list) {
+        None
+    } else {
+        Some(list)
     }
 }
 

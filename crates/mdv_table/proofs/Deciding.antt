@@ -32,7 +32,7 @@ share_a_block-true a b = (shared, meet)
         grind (arith, nat_tests)
 
 -- the tests of an element, as what is asked of it
-some_of : {X : Type 0} (p : X → Bool) (xs : List X) (x : X) → Contains xs x → p x ≡ true → list_any p xs ≡ true
+pub some_of : {X : Type 0} (p : X → Bool) (xs : List X) (x : X) → Contains xs x → p x ≡ true → list_any p xs ≡ true
 some_of p xs x has is = list_any-from_Any p xs (has.0, x, has.1, has.2, is)
 
 module _ (g : Geometry) (sound : IsSound g) where

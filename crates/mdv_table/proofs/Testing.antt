@@ -6,9 +6,9 @@ use Rattle.std.proofs.lemmas.List.Sums.{AllPass-from_list_all, list_all-from_All
 use Rattle.std.specs.Prelude.{◌↔◌, ◌==◌, ◌&&◌, nat_le, nat_lt, All, AllPairs}
 use Rattle.std.specs.List.{list_all}
 use Rattle.mdv_name.proofs.Finding.{same_slice-equal, same_slice-refl, slice_at-some}
-use Rattle.mdv_table.specs.Below.{SliceName, Place, Geometry, SliceAt, HasSlice, OneList, are_spaced, meets_db, same_slice, slice_at}
+use Rattle.mdv_table.specs.Below.{SliceName, Place, Geometry, SliceAt, HasSlice, OneList, TwoLists, are_spaced, meets_db, same_slice, slice_at}
 use Rattle.mdv_table.specs.declared.plan.Lists.{Lists}
-use Rattle.mdv_table.specs.declared.plan.Lists.TheVariants.{One}
+use Rattle.mdv_table.specs.declared.plan.Lists.TheVariants.{One, Two}
 use Rattle.mdv_table.specs.declared.table.Table.{Table}
 use Rattle.mdv_table.specs.declared.volume.Base.{Base}
 use Rattle.mdv_table.specs.declared.volume.Base.TheVariants.{Slice}
@@ -118,6 +118,10 @@ module _ (g : Geometry) (sound : IsSound g) where
 
   lists : (l : Lists) → are_lists_of g l ≡ true ↔ IsListsOf g l
   lists (One ps) = places ps
+  lists (Two old new) =
+      told (both (places old) (both (places new) (itself (are_spaced (TwoLists old new)))))
+      (λ has. (has.0, has.1.0, has.1.1))
+      (λ is. (is.0, (is.1, is.2)))
 
   component : (c : Component) (b : Base) → is_component_on g c b ≡ true ↔ IsComponentOn g c b
   component c (Slice s) =

@@ -12,4 +12,4 @@ pub use Rattle.mdv_name.specs.declared.geometry.Geometry.{Geometry}
 pub use Rattle.mdv_name.specs.declared.slice_lines.SliceAt.{SliceAt}
 pub use Rattle.mdv_name.specs.declared.slice_lines.SliceLine.{SliceLine}
 pub use Rattle.mdv_plan.specs.Slices.{meets_db}
-pub use Rattle.mdv_plan.specs.declared.lists.Lists.TheVariants.{One as OneList}
+pub use Rattle.mdv_plan.specs.declared.lists.Lists.TheVariants.{One as OneList, Two as TwoLists}

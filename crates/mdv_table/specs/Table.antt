@@ -1,8 +1,8 @@
 -- Which tables are of a geometry.
 use Rattle.std.specs.Prelude.{◌≡◌, ◌<◌, ◌≤◌, ◌+◌, ◌^◌, true, false, List, length, All, AllPairs, IsTrue}
-use Rattle.mdv_table.specs.Below.{SliceName, Place, Geometry, SliceAt, HasSlice, OneList, are_spaced, meets_db}
+use Rattle.mdv_table.specs.Below.{SliceName, Place, Geometry, SliceAt, HasSlice, OneList, TwoLists, are_spaced, meets_db}
 use Rattle.mdv_table.specs.declared.plan.Lists.{Lists}
-use Rattle.mdv_table.specs.declared.plan.Lists.TheVariants.{One}
+use Rattle.mdv_table.specs.declared.plan.Lists.TheVariants.{One, Two}
 use Rattle.mdv_table.specs.declared.plan.Plan.{Plan}
 use Rattle.mdv_table.specs.declared.table.Table.{Table}
 use Rattle.mdv_table.specs.declared.volume.Base.{Base}
@@ -38,9 +38,10 @@ pub record IsPlacesOf (g : Geometry) (places : List Place) : Type 0 where
   pub differ : AllPairs (λ (p q : Place). p ≡ q → ⊥) places
   pub each : All (IsPlaceOf g) places
 
--- one list of places
+-- one list of places, or two, whose places of a slice have one number b of blocks and start at 16 + k * b in both: so two of them are equal or apart
 abbrev pub IsListsOf : Geometry → Lists → Type 0
 IsListsOf g (One places) = IsPlacesOf g places
+IsListsOf g (Two old new) = IsPlacesOf g old × IsPlacesOf g new × IsTrue (are_spaced (TwoLists old new))
 
 -- all blocks of a slice that isn't set aside for replicas
 pub record IsWhole (at : SliceAt) (c : Component) : Type 0 where

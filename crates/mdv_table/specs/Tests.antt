@@ -1,9 +1,9 @@
 -- By tests, so that it can be computed: which tables are of a geometry.
 use Rattle.std.specs.Prelude.{◌==◌, ◌&&◌, ◌+◌, ◌^◌, Bool, true, false, not, nat_le, nat_lt, Option, None, Some, List, [], ◌∷◌, length}
 use Rattle.std.specs.List.{list_all}
-use Rattle.mdv_table.specs.Below.{SliceName, Place, Geometry, SliceAt, OneList, are_spaced, meets_db, same_slice, slice_at}
+use Rattle.mdv_table.specs.Below.{SliceName, Place, Geometry, SliceAt, OneList, TwoLists, are_spaced, meets_db, slice_at}
 use Rattle.mdv_table.specs.declared.plan.Lists.{Lists}
-use Rattle.mdv_table.specs.declared.plan.Lists.TheVariants.{One}
+use Rattle.mdv_table.specs.declared.plan.Lists.TheVariants.{One, Two}
 use Rattle.mdv_table.specs.declared.table.Table.{Table}
 use Rattle.mdv_table.specs.declared.volume.Base.{Base}
 use Rattle.mdv_table.specs.declared.volume.Base.TheVariants.{Slice}
@@ -13,6 +13,7 @@ use Rattle.mdv_table.specs.declared.volume.Volume.{Volume}
 use Rattle.mdv_table.specs.declared.volume.VolumeKind.{VolumeKind}
 use Rattle.mdv_table.specs.declared.volume.VolumeKind.TheVariants.{Stripe}
 use Rattle.mdv_table.specs.Plan.{places_of, component_slices}
+pub use Rattle.mdv_table.specs.Plan.{same_place}
 use Rattle.mdv_table.specs.Slices.{overlaps_by}
 
 -- each value passes with each later one
@@ -31,10 +32,6 @@ is_place_in p at = (at.db && nat_lt p.start (2 ^ 32)) && ((nat_le 16 p.blocks &&
 abbrev pub is_place_of : Geometry → Place → Bool
 is_place_of g p = is_there_and (is_place_in p) (slice_at g.slices p.slice) && not (meets_db g p.slice)
 
--- the same blocks of one slice
-abbrev pub same_place : Place → Place → Bool
-same_place p q = same_slice p.slice q.slice && ((p.start == q.start) && (p.blocks == q.blocks))
-
 -- no place stands there twice
 abbrev pub do_differ : List Place → Bool
 do_differ places = pairs_pass (λ p q. not (same_place p q)) places
@@ -44,6 +41,7 @@ are_places_of g places = (nat_le 1 (length places) && nat_le (length places) 50)
 
 abbrev pub are_lists_of : Geometry → Lists → Bool
 are_lists_of g (One places) = are_places_of g places
+are_lists_of g (Two old new) = are_places_of g old && (are_places_of g new && are_spaced (TwoLists old new))
 
 abbrev pub is_whole : Component → SliceAt → Bool
 is_whole c at = not at.db && (c.start == 0 && c.blocks == at.blocks)

@@ -2,11 +2,11 @@
 ghost use Rattle.std.specs.Prelude.{◌≡◌};
 ghost use Rattle.std.specs.List.{list_any};
 ghost use Rattle.mdv_plan.specs.Slices.{AreNeighbours, overlap};
-ghost use Rattle.mdv_table.specs.Plan.{is_in_use, used_slices};
+ghost use Rattle.mdv_table.specs.Plan.{is_in_use, places_of, used_slices};
 ghost use Rattle.mdv_table.specs.Slices.{IsSound};
 ghost use Rattle.mdv_table.specs.Volume.{volume_slices};
 
-use crate::plan::Plan;
+use crate::plan::{Lists, Plan, all_of};
 use crate::volume::{Base, Volume, VolumeKind};
 use mdv_base::{Place, SliceName};
 use mdv_name::Geometry;
@@ -19,12 +19,27 @@ impl Plan {
         requires marks { AreNeighbours geometry.now slice marks.now }
         ensures { result ≡ is_in_use geometry.now.slices (used_slices self.now) slice }
     {
-        are_places_beside(geometry, marks, slice, self.lists.places())
+        are_lists_beside(geometry, marks, slice, &self.lists)
             || are_volumes_beside(geometry, marks, slice, self.volumes.as_slice())
     }
 }
 
-// Whether one of the places lies on the slice, or on one that overlaps it.
+// Whether a place of the lists lies on the slice, or on one that overlaps it.
+fn are_lists_beside(geometry: &Geometry, marks: &[bool], slice: SliceName, lists: &Lists) -> bool
+    requires sound { IsSound geometry.now }
+    requires marks { AreNeighbours geometry.now slice marks.now }
+    ensures { result ≡ list_any (λ p. overlap geometry.now p.slice slice) (places_of lists.now) }
+{
+    match lists {
+        Lists::One(places) => are_places_beside(geometry, marks, slice, all_of(places)),
+        Lists::Two(old, new) => {
+            are_places_beside(geometry, marks, slice, all_of(old))
+                || are_places_beside(geometry, marks, slice, all_of(new))
+        }
+    }
+}
+
+// The same of one list.
 fn are_places_beside(
     geometry: &Geometry,
     marks: &[bool],

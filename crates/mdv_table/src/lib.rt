@@ -3,6 +3,7 @@
 #![tactic(auto)]
 
 mod change;
+mod each;
 mod in_use;
 mod of_geometry;
 mod plan;
@@ -12,6 +13,7 @@ mod volume;
 mod volumes;
 
 pub use change::{ApplyFault, Change};
+pub use each::EachPlace;
 pub use plan::{Lists, Plan};
 pub use table::{Status, Table};
 pub use volume::{Base, Component, DEFAULT_INTERLACE, Stripe, Volume, VolumeKind};

@@ -1,12 +1,13 @@
 // Which tables are of a geometry: what a record may say beside the drives that there are.
-ghost use Rattle.std.specs.Prelude.{◌≡◌, ◌↔◌, IsTrue, All, AllPairs, Contains};
+ghost use Rattle.std.specs.Prelude.{◌≡◌, ◌↔◌, IsTrue, All, AllPairs};
 ghost use Rattle.mdv_base.specs.declared.place.Place.{Place};
-ghost use Rattle.mdv_table.specs.Below.{OneList, are_spaced as spec_are_spaced};
+ghost use Rattle.mdv_table.specs.Below.{OneList, TwoLists, are_spaced as spec_are_spaced};
 ghost use Rattle.mdv_table.specs.Plan.{component_slices};
 ghost use Rattle.mdv_table.specs.Slices.{IsSound};
 ghost use Rattle.mdv_table.specs.Table.{IsOfGeometry, IsListsOf, IsPlacesOf, IsPlaceOf, IsPlaceIn};
 ghost use Rattle.mdv_table.specs.Table.{IsKindOf, IsStripeOf, IsComponentOn, IsWhole, IsWholeSlice, IsApart};
 
+use crate::each::is_among;
 use crate::plan::{Lists, all_of, copy_of};
 use crate::table::Table;
 use crate::uses::Uses;
@@ -37,7 +38,7 @@ impl Table {
         let volumes = self.plan.volumes.as_slice();
         are_lists_of(geometry, lists)
             && are_volumes_of(geometry, volumes)
-            && are_apart(geometry, lists.places(), volumes)
+            && are_apart(geometry, lists.each().as_slice(), volumes)
     }
 }
 
@@ -47,6 +48,11 @@ fn are_lists_of(geometry: &Geometry, lists: &Lists) -> bool
 {
     match lists {
         Lists::One(places) => are_places_of(geometry, places),
+        Lists::Two(old, new) => {
+            are_places_of(geometry, old)
+                && are_places_of(geometry, new)
+                && are_both_in_step(old, new)
+        }
     }
 }
 
@@ -73,17 +79,18 @@ fn do_differ(places: &[Place]) -> bool
     true
 }
 
-fn is_among(place: &Place, places: &[Place]) -> bool
-    ensures { IsTrue result ↔ Contains places.now place.now }
-{
-    places.iter().any(|other| other == place)
-}
-
 // Whether all places of a slice have one number b of blocks and start at 16 + k * b.
 fn are_in_step(places: &Places) -> bool
     ensures { result ≡ spec_are_spaced (OneList places.now) }
 {
     are_spaced(&PlanLists::One(copy_of(places)))
+}
+
+// The same of two lists, all places of a slice in both.
+fn are_both_in_step(old: &Places, new: &Places) -> bool
+    ensures { result ≡ spec_are_spaced (TwoLists old.now new.now) }
+{
+    are_spaced(&PlanLists::Two(copy_of(old), copy_of(new)))
 }
 
 fn is_place_of(geometry: &Geometry, place: &Place) -> bool

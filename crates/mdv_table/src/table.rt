@@ -1,6 +1,7 @@
 ghost use Rattle.std.specs.Prelude.{◌≡◌, []};
 ghost use Rattle.mdv_name.specs.declared.geometry.Geometry.{Geometry};
 ghost use Rattle.mdv_table.specs.declared.plan.Lists.TheVariants.{One};
+ghost use Rattle.mdv_table.specs.Plan.{settled};
 ghost use Rattle.mdv_table.specs.Table.{IsListsOf, IsOfGeometry};
 
 use crate::plan::{Lists, Plan};
@@ -33,6 +34,19 @@ impl Table {
         Table {
             plan,
             status: Status,
+        }
+    }
+    /// The table once the change of places is over: its only list is the one that comes.
+    pub fn settle(self) -> Table
+        ensures value { result ≡ settled self }
+        ensures of_geometry { (g : Geometry) → IsOfGeometry g self → IsOfGeometry g result }
+    {
+        let Table { plan, status } = self;
+        let Plan { lists, volumes } = plan;
+        let lists = lists.settle();
+        Table {
+            plan: Plan { lists, volumes },
+            status,
         }
     }
 }

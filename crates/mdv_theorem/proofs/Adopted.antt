@@ -1,9 +1,9 @@
 -- Which table a boot may adopt, by what it read: one that a boot may find by the history with which the drives stand.
 use Rattle.std.proofs.Common.{◌≡◌, ℕ, ◌+◌, ◌*◌, ◌<◌, ◌^◌, max, Bool, true, List, [], ◌∷◌, length, Option, Some, None, Contains, refl, sym, ◌∙◌, ap, subst, arith, ◌⊎◌, inl, inr, ⊎_elim, false, not, ◌&&◌, MatchOption, ◌≤◌, map, replicate}
-use Rattle.std.specs.List.{find}
+use Rattle.std.specs.List.{find, list_any}
 use Rattle.std.specs.Prelude.{nat_le}
 use Rattle.std.proofs.lemmas.Bool.{and_from, false≢true, le-leb, or_left, or_right}
-use Rattle.std.proofs.lemmas.List.{length-map, length-replicate}
+use Rattle.std.proofs.lemmas.List.{length-map, length-replicate, length-append}
 use Rattle.mdv_base.specs.declared.block.TheConstants.{ZERO_BLOCK}
 use Rattle.mdv_record.specs.Record.{IsRecordOf}
 use Rattle.mdv_record.proofs.Rooms.{room_most}
@@ -79,10 +79,10 @@ use Rattle.mdv_survey.specs.declared.replica.Survey.{Survey}
 use Rattle.mdv_record.specs.Text.{record_text}
 use Rattle.mdv_table.proofs.Testing.{same_place-true}
 use Rattle.mdv_table.specs.Tests.{same_place}
-use Rattle.mdv_table.specs.Plan.{places_of}
+use Rattle.mdv_table.specs.Plan.{places_of, beside}
 use Rattle.mdv_table.specs.Table.{IsListsOf, IsOfGeometry}
 use Rattle.mdv_table.specs.declared.plan.Lists.{Lists}
-use Rattle.mdv_table.specs.declared.plan.Lists.TheVariants.{One}
+use Rattle.mdv_table.specs.declared.plan.Lists.TheVariants.{One, Two}
 use Rattle.mdv_table.specs.declared.table.Table.{Table}
 use Rattle.mdv_databases.specs.Lasting.{HasNoTable}
 use Rattle.mdv_databases.proofs.Lasting.{stand_crashed}
@@ -101,6 +101,9 @@ use Rattle.mdv_volumes.proofs.Lists.{contains_behind, contains_first, first_or_b
 use Rattle.mdv_votes.specs.Spots.{covers, is_in, is_majority}
 use Rattle.mdv_theorem.proofs.Lines.{never_in}
 use Rattle.mdv_record.specs.Parsing.{read_of}
+use Rattle.mdv_store.specs.Shares.{short_of}
+use Rattle.mdv_store.specs.declared.seats.Need.TheVariants.{More}
+use Rattle.mdv_store.proofs.Rows.{part_filter, part_length}
 
 -- a head with an open gate shows a table
 pub open_shows : (head : Head) (slot : Slot) (mark : Mark) (bytes : ℕ) → gate_of head slot ≡ Open mark bytes → shows head ≡ true
@@ -116,8 +119,9 @@ module _ {X : Type 0} (p : X → Bool) (xs : List X) where
     by (Some y) some = (let one = find_some p xs y some in (y, some, one.0, one.1))
 
 -- a table of these drives lists few places
-few_listed : (g : Geometry) (lists : Lists) → IsListsOf g lists → length (places_of lists) ≤ 50
-few_listed g (One places) is = is.few
+few_listed : (g : Geometry) (lists : Lists) → IsListsOf g lists → length (places_of lists) ≤ 100
+few_listed g (One places) is = omega (arith, is.few)
+few_listed g (Two old new) is = omega (arith, is.0.few, is.1.few, length-append old (beside old new), part_length (beside old new) new (part_filter (λ (p : Place). not (list_any (same_place p) old)) new))
 
 -- drives that begin with an image read as it, and no crash leaves anything else
 begun_last : (image : Image) (told : List ℕ) → last (restarted image told) ≡ image
@@ -253,8 +257,8 @@ module _ (g : Geometry) (key : Key) (all : List Database) (t : Tale) (sound : Is
         synced = λ r has. begun_synced (last t) [] r.line.at.drive.0;
       }
 
-  enough : length a.written.hand.seats < 2 * active_of a.written.hand.seats
-  enough = subst (λ (seats : List Seat). length seats < 2 * active_of seats) (sym a.written.seats_are) a.drawn.enough
+  enough : short_of More a.written.hand.seats newest.table.plan.lists ≡ None
+  enough = subst (λ (seats : List Seat). short_of More seats newest.table.plan.lists ≡ None) (sym a.written.seats_are) a.drawn.enough
 
   to : IsToAdopt g key (record a.written.hand { room = record a.written.hand.room { len = room; cap = room; items = replicate room ZERO_BLOCK; ok = (sym (length-replicate room ZERO_BLOCK), omega arith); small = short } }) newest.table began
   to =
@@ -370,11 +374,12 @@ module _ (g : Geometry) (key : Key) (all : List Database) (t : Tale) (sound : Is
         (found.0, ap (λ (x : Seat). x.replica) (sym at.2) ∙ found.1, sym drive ∙ ap (λ (x : Seat). on_place x.place) at.2 ∙ is)
 
   -- and where each table that a boot may find lists these places, so do those in hand
+  pub lists_one : (list : List Place) → ((v : Version) → MayBeFound (log_of all key).family v → v.table.plan.lists ≡ One list) → newest.table.plan.lists ≡ One list
+  lists_one list lists = (let found = adopted_found in ap (λ (u : Table). u.plan.lists) (sym found.is_table) ∙ lists found.version (found.one_of, found.holds.not_older))
+
   pub seats_list : (list : List Place) → ((v : Version) → MayBeFound (log_of all key).family v → v.table.plan.lists ≡ One list) → map (λ (s : Seat). s.place) a.seats ≡ list
   seats_list list lists =
-      let found = adopted_found in
-      let same : newest.table.plan.lists ≡ One list = ap (λ (u : Table). u.plan.lists) (sym found.is_table) ∙ lists found.version (found.one_of, found.holds.not_older) in
-      ap (map (λ (s : Seat). s.place)) a.drawn.hand.seats_are ∙ seats_places replicas a.replica.head.master.identity text (places_of newest.table.plan.lists) ∙ ap places_of same
+      ap (map (λ (s : Seat). s.place)) a.drawn.hand.seats_are ∙ seats_places replicas a.replica.head.master.identity text (places_of newest.table.plan.lists) ∙ ap places_of (lists_one list lists)
 
 -- So a table that a boot may adopt of drives that stand with a history is one of its versions.
 pub adopts_found : (host : Host) → IsSound host.drives → SeesOwn host → (h : History) (t : Tale) → StandsAt host h t → (content : Image) → IsSame content (contents t) → (table : Table) → Adopts host.drives host.site content table → IsFoundBy host.drives (log_of h.databases (key_of host)) table

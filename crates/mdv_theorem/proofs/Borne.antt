@@ -1,7 +1,7 @@
 -- Where half of the slices on which a database was made, or more, are on drives on which no call fails: a boot that adopts its table finds a place at each of these, a creation makes it, and it stays active. So no boot and no
 -- line tells that places were lost. Where no more than half are, a boot may find nothing: then no creation is taken, since a call failed in it.
-use Rattle.std.proofs.Common.{◌≡◌, ◌⊎◌, inl, inr, ℕ, ◌*◌, ◌≤◌, ◌<◌, Bool, true, false, cond, List, [], ◌∷◌, Option, None, Some, MatchOption, Contains, length, refl, sym, ◌∙◌, ap, subst, arith, ◌+◌}
-use Rattle.std.proofs.lemmas.Bool.{false≢true, leb-false}
+use Rattle.std.proofs.Common.{◌≡◌, ◌⊎◌, inl, inr, ℕ, ◌*◌, ◌≤◌, ◌<◌, Bool, true, false, cond, List, [], ◌∷◌, Option, None, Some, MatchOption, Contains, length, refl, sym, ◌∙◌, ap, subst, arith, ◌+◌, is_some, map, ◌&&◌}
+use Rattle.std.proofs.lemmas.Bool.{false≢true, leb-false, and_from, and_parts, le-leb, or_cases, or_left, or_right}
 use Rattle.std.proofs.lemmas.List.{length-map}
 use Rattle.std.specs.List.{cons_option}
 use Rattle.std.specs.Bool.{MatchBool}
@@ -26,7 +26,7 @@ use Rattle.mdv_engine_law.specs.declared.answer.Ended.TheVariants as stop
 use Rattle.mdv_engine_law.specs.declared.host.Host.{Host}
 use Rattle.mdv_home.specs.View.{own_view}
 use Rattle.mdv_look.proofs.Bringing.{count_cons}
-use Rattle.mdv_look.proofs.Looks.{count_length}
+use Rattle.mdv_look.proofs.Looks.{count_length, count_within}
 use Rattle.mdv_name.specs.SliceIndex.{HasSlice, slice_at}
 use Rattle.mdv_name.specs.declared.geometry.Geometry.{Geometry}
 use Rattle.mdv_name.specs.declared.slice_lines.SliceAt.{SliceAt}
@@ -46,9 +46,9 @@ use Rattle.mdv_store.proofs.Seated.{seat_is}
 use Rattle.mdv_store.proofs.Sitting.{contains_behind, contains_first, left_count, replica_of}
 use Rattle.mdv_store.proofs.Spotting.{line_found}
 use Rattle.mdv_store.specs.Boot.{IsEndBy, TakesBoth, TakesClaimOrBoth, is_memory}
-use Rattle.mdv_store.specs.Create.{replica_on, seats_asked}
+use Rattle.mdv_store.specs.Create.{replica_on, seats_asked, table_of}
 use Rattle.mdv_store.specs.Opened.{Opened}
-use Rattle.mdv_store.specs.Seats.{AreLeft, TakesSlot, active_of, drive_of, is_half_active, replicas_of}
+use Rattle.mdv_store.specs.Seats.{AreLeft, TakesSlot, active_of, drive_of, replicas_of}
 use Rattle.mdv_store.specs.declared.booting.BootEnd.{BootEnd}
 use Rattle.mdv_store.specs.declared.booting.BootEnd.TheVariants as end
 use Rattle.mdv_store.specs.declared.seats.Seat.{Seat}
@@ -69,49 +69,76 @@ use Rattle.mdv_words.specs.declared.command.Command.TheVariants as command
 use Rattle.mdv_words.specs.declared.command.Command.TheVariants.{Create, Print, Read, Write}
 use Rattle.mdv_theorem.specs.Exchanges.{Asks, Exchange, IsTold}
 use Rattle.mdv_theorem.specs.Observed.{HalfLieOn, MostLieOn}
-use Rattle.mdv_theorem.proofs.Adopted.{IsAdoptable, IsBlind, adoptable, blind_bare, blind_boot, firm_shows, seat_has, seats_list}
+use Rattle.mdv_theorem.proofs.Adopted.{IsAdoptable, IsBlind, adoptable, blind_bare, blind_boot, firm_shows, lists_one, seat_has, seats_list}
 use Rattle.mdv_theorem.proofs.Counting.{half_up, made_on, most_up, places_in}
 use Rattle.mdv_theorem.proofs.Founded.{WasMade}
 use Rattle.mdv_theorem.proofs.Tables.{granted_done}
+use Rattle.mdv_store.specs.Shares.{has_active, is_active_at, short_of}
+use Rattle.mdv_store.specs.declared.seats.Need.TheVariants.{Half}
+use Rattle.mdv_store.specs.declared.seats.Share.{Share}
+use Rattle.mdv_store.proofs.Shares.{kept_lists, list_none}
+use Rattle.mdv_table.specs.declared.plan.Lists.{Lists}
+use Rattle.mdv_table.specs.declared.plan.Lists.TheVariants.{One}
+use Rattle.std.proofs.lemmas.List.Folds.{list_any_at}
+use Rattle.mdv_store.proofs.Passes.{mapped, unmapped}
+use Rattle.mdv_table.specs.Tests.{same_place}
+use Rattle.mdv_table.proofs.Testing.{same_place-true}
+use Rattle.mdv_table.specs.declared.table.Table.{Table}
 
 -- Of drives that pass a test.
 module _ (calm : ℕ → Bool) where
   abbrev pub is_borne : Replica → Bool
   is_borne r = calm (drive_of r)
 
-  -- half of the places, or more, have replicas on such drives
-  abbrev pub AreBorne : List Seat → Type 0
-  AreBorne seats = length seats ≤ 2 * count_by is_borne (replicas_of seats)
+  abbrev pub borne_of : Option Replica → Option Replica
+  borne_of None = None
+  borne_of (Some r) = cond (is_borne r) (Some r) None
 
-  borne_half : (seats : List Seat) → AreBorne seats → is_half_active seats ≡ false → ⊥
-  borne_half seats borne few =
-      let less = leb-false (length seats) (2 * active_of seats) few in
-      let some = count_length is_borne (replicas_of seats) in
-      omega (arith, borne, less, some)
+  -- a seat with its replica, where that is on such a drive
+  abbrev pub borne_seat : Seat → Seat
+  borne_seat s = record { place = s.place; replica = borne_of s.replica }
 
-  -- as many have, at least, as places pass another test, where the seat of each of these has one there
-  seats_least : (on : Place → Bool) (seats : List Seat) → ((s : Seat) → Contains seats s → on s.place ≡ true → (r : Replica) × (s.replica ≡ Some r) × (is_borne r ≡ true)) → count_by on (places_in seats) ≤ count_by is_borne (replicas_of seats)
-  seats_least on [] each = omega arith
-  seats_least on (s ∷ seats) each =
-      let rest = seats_least on seats (λ x has. each x (contains_behind s x seats has)) in
-      subst (λ (n : ℕ). n ≤ count_by is_borne (replicas_of (s ∷ seats))) (sym (count_cons on s.place (places_in seats))) (by (on s.place) refl s.replica refl rest)
+  -- of each list half of the places, or more, have replicas on such drives
+  abbrev pub AreBorne : List Seat → Lists → Type 0
+  AreBorne seats lists = short_of Half (map borne_seat seats) lists ≡ None
+
+  some_borne : (o : Option Replica) → is_some (borne_of o) ≡ true → is_some o ≡ true
+  some_borne None so = so
+  some_borne (Some r) so = refl
+
+  borne_active : (seats : List Seat) (p : Place) → has_active (map borne_seat seats) p ≡ true → has_active seats p ≡ true
+  borne_active [] p so = so
+  borne_active (s ∷ seats) p so = elim (or_cases (is_active_at p (borne_seat s)) (has_active (map borne_seat seats) p) so) [
+    | inl here ↦ (let both = and_parts (same_place s.place p) (is_some (borne_of s.replica)) here in or_left (is_active_at p s) (has_active seats p) (and_from (same_place s.place p) (is_some s.replica) both.0 (some_borne s.replica both.1)))
+    | inr rest ↦ or_right (is_active_at p s) (has_active seats p) (borne_active seats p rest)
+  ]
+
+  borne_half : (seats : List Seat) (lists : Lists) (share : Share) → AreBorne seats lists → short_of Half seats lists ≡ Some share → ⊥
+  borne_half seats lists share borne short = (let none = kept_lists Half Half (λ x so. so) (map borne_seat seats) seats (borne_active seats) lists borne in cc (none, short))
+
+  -- so it is of a list of which half of the places, or more, pass another test, where the seat of each of these has one there
+  borne_list : (on : Place → Bool) (seats : List Seat) → ((s : Seat) → Contains seats s → on s.place ≡ true → (r : Replica) × (s.replica ≡ Some r) × (is_borne r ≡ true)) → (list : List Place) → map (λ (s : Seat). s.place) seats ≡ list → length list ≤ 2 * count_by on list
+      → AreBorne seats (One list)
+  borne_list on seats each list are half =
+      let least = count_within on (has_active (map borne_seat seats)) list there in
+      list_none Half (map borne_seat seats) list (le-leb (length list) (2 * count_by (has_active (map borne_seat seats)) list) (omega (arith, half, least)))
     where
-      by : (b : Bool) → on s.place ≡ b → (o : Option Replica) → s.replica ≡ o → count_by on (places_in seats) ≤ count_by is_borne (replicas_of seats) → cond {A = ℕ} b 1 0 + count_by on (places_in seats) ≤ count_by is_borne (cons_option o (replicas_of seats))
-      by true is None none rest = absurd (let one = each s (contains_first s seats) is in let both : None ≡ Some one.0 = sym none ∙ one.1 in cc (both))
-      by true is (Some r) some rest =
-          let one = each s (contains_first s seats) is in
-          let both : Some one.0 ≡ Some r = sym one.1 ∙ some in
-          let same : one.0 ≡ r = cc (both) in
-          let more : cond {A = ℕ} (is_borne r) 1 0 ≡ 1 = ap (λ (b : Bool). cond {A = ℕ} b 1 0) (ap (λ (x : Replica). is_borne x) (sym same) ∙ one.2) in
-          omega (arith, rest, more, count_cons is_borne r (replicas_of seats))
-      by false isnt None none rest = omega (arith, rest)
-      by false isnt (Some r) some rest = omega (arith, rest, count_cons is_borne r (replicas_of seats))
+      active : (o : Option Replica) (r : Replica) → o ≡ Some r → is_borne r ≡ true → is_some (borne_of o) ≡ true
+      active o r is so = ap (λ (x : Option Replica). is_some (borne_of x)) is ∙ ap (λ (b : Bool). is_some (cond b (Some r) None)) so
+
+      there : (p : Place) → Contains list p → on p ≡ true → has_active (map borne_seat seats) p ≡ true
+      there p has is =
+          let at = unmapped (λ (s : Seat). s.place) seats p (subst (λ (l : List Place). Contains l p) (sym are) has) in
+          let one = each at.0 at.1 (ap on at.2 ∙ is) in
+          let here = and_from (same_place at.0.place p) (is_some (borne_of at.0.replica)) ((same_place-true at.0.place p).1 at.2) (active at.0.replica one.0 one.1 one.2) in
+          let seat = mapped borne_seat seats at.0 at.1 in
+          list_any_at (is_active_at p) (map borne_seat seats) seat.0 (borne_seat at.0) seat.1 (ap (is_active_at p) seat.2 ∙ here)
 
   -- what is open, of which that is so
   pub record IsOpen (kept : Kept) : Type 0 where
     pub o : Opened
     pub opened : kept.memory.opened ≡ Some o
-    pub borne : AreBorne o.seats
+    pub borne : AreBorne o.seats o.table.plan.lists
 
   -- nothing is, behind a boot in which a call failed
   pub record IsShut (kept : Kept) : Type 0 where
@@ -146,26 +173,35 @@ module _ (calm : ℕ → Bool) where
   module _ (calls : Outcomes) (unfailed : (drive : ℕ) → calm drive ≡ true → (calls drive).some → ⊥) where
     -- each such place stays behind a pass
     module _ (Took : Replica → Replica → Type 0) (stays : (r n : Replica) → Took r n → n.line ≡ r.line) where
-      left_least : (old new : List Seat) → AreLeft calls Took old new → count_by is_borne (replicas_of old) ≤ count_by is_borne (replicas_of new)
-      left_least [] [] are = omega arith
-      left_least [] (n ∷ new) are = absurd are
-      left_least (s ∷ old) [] are = absurd are
-      left_least (s ∷ old) (n ∷ new) are = by s.replica n.replica are.0.1 (left_least old new are.1) where
-        fallen : (r : Replica) (b : Bool) → is_borne r ≡ b → (calls (drive_of r)).some → cond {A = ℕ} b 1 0 ≡ 0
-        fallen r true is gone = absurd (unfailed (drive_of r) is gone)
-        fallen r false is gone = refl
+      left_one : (o m : Option Replica) → MatchOption o (m ≡ None) (λ (r : Replica). MatchOption m (calls (drive_of r)).some (λ (x : Replica). (calls (drive_of r)).none × Took r x)) → is_some (borne_of o) ≡ true → is_some (borne_of m) ≡ true
+      left_one None m is so = absurd (false≢true so)
+      left_one (Some r) None gone so = by (is_borne r) refl so where
+        by : (b : Bool) → is_borne r ≡ b → is_some (cond b (Some r) None) ≡ true → false ≡ true
+        by true is borne = absurd (unfailed (drive_of r) is gone)
+        by false is none = none
+      left_one (Some r) (Some x) took so =
+          let same : is_borne x ≡ is_borne r = ap (λ (l : SliceLine). calm l.at.drive.0) (stays r x took.1) in
+          by (is_borne r) so (is_borne x) same
+        where
+          by : (b : Bool) → is_some (cond b (Some r) None) ≡ true → (c : Bool) → c ≡ b → is_some (cond c (Some x) None) ≡ true
+          by true borne true is = refl
+          by true borne false is = absurd (false≢true is)
+          by false none c is = absurd (false≢true none)
 
-        by : (o m : Option Replica) → MatchOption o (m ≡ None) (λ (r : Replica). MatchOption m (calls (drive_of r)).some (λ (x : Replica). (calls (drive_of r)).none × Took r x)) → count_by is_borne (replicas_of old) ≤ count_by is_borne (replicas_of new)
-            → count_by is_borne (cons_option o (replicas_of old)) ≤ count_by is_borne (cons_option m (replicas_of new))
-        by None None is rest = rest
-        by None (Some x) is rest = absurd (cc (is))
-        by (Some r) None gone rest = omega (arith, rest, count_cons is_borne r (replicas_of old), fallen r (is_borne r) refl gone)
-        by (Some r) (Some x) took rest =
-            let same : cond {A = ℕ} (is_borne x) 1 0 ≡ cond {A = ℕ} (is_borne r) 1 0 = ap (λ (l : SliceLine). cond {A = ℕ} (calm l.at.drive.0) 1 0) (stays r x took.1) in
-            omega (arith, rest, count_cons is_borne r (replicas_of old), count_cons is_borne x (replicas_of new), same)
+      left_active : (old new : List Seat) → AreLeft calls Took old new → (p : Place) → has_active (map borne_seat old) p ≡ true → has_active (map borne_seat new) p ≡ true
+      left_active [] [] are p so = so
+      left_active [] (n ∷ new) are p so = absurd are
+      left_active (s ∷ old) [] are p so = absurd are
+      left_active (s ∷ old) (n ∷ new) are p so = elim (or_cases (is_active_at p (borne_seat s)) (has_active (map borne_seat old) p) so) [
+        | inl here ↦
+            let both = and_parts (same_place s.place p) (is_some (borne_of s.replica)) here in
+            or_left (is_active_at p (borne_seat n)) (has_active (map borne_seat new) p)
+            (and_from (same_place n.place p) (is_some (borne_of n.replica)) (ap (λ (q : Place). same_place q p) are.0.0 ∙ both.0) (left_one s.replica n.replica are.0.1 both.1))
+        | inr rest ↦ or_right (is_active_at p (borne_seat n)) (has_active (map borne_seat new) p) (left_active old new are.1 p rest)
+      ]
 
-      left_borne : (old new : List Seat) → AreLeft calls Took old new → AreBorne old → AreBorne new
-      left_borne old new left borne = (let least = left_least old new left in let same = left_count calls Took old new left in omega (arith, borne, least, same))
+      left_borne : (lists : Lists) (old new : List Seat) → AreLeft calls Took old new → AreBorne old lists → AreBorne new lists
+      left_borne lists old new left borne = kept_lists Half Half (λ x so. so) (map borne_seat old) (map borne_seat new) (left_active old new left) lists borne
 
     -- What a line comes to where that is so.
     module _ (host : Host) (kept next : Kept) (answer : Answer) where
@@ -182,8 +218,8 @@ module _ (calm : ℕ → Bool) where
       never_free slices force count blocks free (inr b) = false≢true (sym b.unclean ∙ allowed_clean (case_of host kept) slices force count blocks free)
 
       -- what is open there is so
-      its_borne : Bears kept → (o : Opened) → kept.memory.opened ≡ Some o → AreBorne o.seats
-      its_borne (inl b) o opened = subst (λ (x : Opened). AreBorne x.seats) (opened_twice kept.memory.opened o b.o opened b.opened) b.borne
+      its_borne : Bears kept → (o : Opened) → kept.memory.opened ≡ Some o → AreBorne o.seats o.table.plan.lists
+      its_borne (inl b) o opened = subst (λ (x : Opened). AreBorne x.seats x.table.plan.lists) (opened_twice kept.memory.opened o b.o opened b.opened) b.borne
       its_borne (inr b) o opened = absurd (never_shut kept.memory.opened o b.none opened)
 
       pub told_bears : (r : _) → answer ≡ refusing r → Bears next → IsBorneBy answer next
@@ -194,7 +230,8 @@ module _ (calm : ℕ → Bool) where
       effect_borne (command.MakeStripe volume slice) free b is = subst (λ (a : Answer). IsBorneBy a next) (sym is.0) (inl (record {
         o = is.3.opened;
         opened = ap (λ (m : Memory). m.opened) is.3.memory;
-        borne = left_borne (TakesSlot _ _) (λ r n took. ap (λ (x : Replica). x.line) took.2) is.1.seats is.3.opened.seats is.3.committed.tried.left (its_borne b is.1 is.2);
+        borne = subst (AreBorne is.3.opened.seats) (sym (ap (λ (x : Opened). x.table.plan.lists) is.3.committed.is))
+            (left_borne (TakesSlot _ _) (λ r n took. ap (λ (x : Replica). x.line) took.2) is.1.table.plan.lists is.1.seats is.3.opened.seats is.3.committed.tried.left (its_borne b is.1 is.2));
       }))
       effect_borne (Read volume at count) free b is = subst (λ (a : Answer). IsBorneBy a next) (sym is.3) (memory_bears b is.4.memory)
       effect_borne (Write volume at block) free b is = subst (λ (a : Answer). IsBorneBy a next) (sym is.3) (memory_bears b is.4)
@@ -203,8 +240,9 @@ module _ (calm : ℕ → Bool) where
       gives_borne : (cmd : Command) (over : Ended) → IsAllowed (case_of host kept) cmd → Bears kept → GivesUp calls host kept cmd over next → IsNoLoss over
       gives_borne (Create slices force count blocks) (stop.Lost active listed) free b gives = never_free slices force count blocks free b
       gives_borne (command.MakeStripe volume slice) (stop.Lost active listed) free b gives =
-          let left = left_borne (TakesSlot _ _) (λ r n took. ap (λ (x : Replica). x.line) took.2) gives.0.seats gives.2.lost.new.seats gives.2.lost.lost.tried.left (its_borne b gives.0 gives.1) in
-          borne_half gives.2.lost.new.seats left gives.2.lost.lost.few
+          let left = left_borne (TakesSlot _ _) (λ r n took. ap (λ (x : Replica). x.line) took.2) gives.0.table.plan.lists gives.0.seats gives.2.lost.new.seats gives.2.lost.lost.tried.left (its_borne b gives.0 gives.1) in
+          let few = ap (λ (t : Table). short_of Half gives.2.lost.new.seats t.plan.lists) (sym (ap (λ (x : Opened). x.table) gives.2.lost.lost.is)) ∙ gives.2.lost.few in
+          borne_half gives.2.lost.new.seats gives.0.table.plan.lists (record { active = active; listed = listed }) left few
       gives_borne (Read volume at count) (stop.Lost active listed) free b gives = gives
       gives_borne (Write volume at block) (stop.Lost active listed) free b gives = gives
       gives_borne (Print names) (stop.Lost active listed) free b gives = gives
@@ -270,17 +308,17 @@ module _ (calm : ℕ → Bool) where
           let own : (r : Replica) → Contains (replicas_of seats) r → Contains host.site.lines r.line = λ r has. (is.formed r has).1.found.one_of in
           let made = made_on host sound refl (key_of host) identity kept.memory slices force count blocks form.1.0 done.0 own in
           let up = half_up host sound refl slices (places_in seats) half.chosen calm made (lies_calm half.chosen half.each) half.half in
-          let least = seats_least (λ (place : Place). is_on calm (slice_at host.site.lines place.slice)) seats (λ s has on.
+          let borne = borne_list (λ (place : Place). is_on calm (slice_at host.site.lines place.slice)) seats (λ s has on.
           let at = seat_is (key_of host) identity count blocks (lines_asked host slices) s has in
           let r = replica_on (key_of host) identity at.line count blocks at.number in
           let some : s.replica ≡ Some r = ap (λ (x : Seat). x.replica) at.is in
           let found = line_found host.drives sound (key_of host) at.line (own r (replica_of seats s r has some)) in
-          (r, some, sym (ap (λ (x : Seat). is_on calm (slice_at host.site.lines x.place.slice)) at.is ∙ ap (is_on calm) found) ∙ on)) in
-          let long = length-map seats (λ (s : Seat). s.place) in
+          (r, some, sym (ap (λ (x : Seat). is_on calm (slice_at host.site.lines x.place.slice)) at.is ∙ ap (is_on calm) found) ∙ on)) (places_in seats) refl up in
           inl (record {
             o = is.opened;
             opened = ap (λ (m : Memory). m.opened) is.memory;
-            borne = left_borne (TakesSlot _ _) (λ r n took. ap (λ (x : Replica). x.line) took.2) seats is.opened.seats is.made.tried (omega (arith, up, least, long));
+            borne = subst (AreBorne is.opened.seats) (sym (ap (λ (x : Opened). x.table.plan.lists) is.made.is))
+                (left_borne (TakesSlot _ _) (λ r n took. ap (λ (x : Replica). x.line) took.2) (table_of seats).plan.lists seats is.opened.seats is.made.tried borne);
           })
 
       -- of each drive with lines of the host's one of both is told, that a call failed on it or that none did
@@ -309,12 +347,12 @@ module _ (calm : ℕ → Bool) where
             by false off = absurd (unfailed lies.at.drive.0 is (read.failed lies.at.drive (law_sites.brought host.drives (key_of host) lies has) off))
 
           -- so is what it has in hand and writes anew
-          in_hand_borne : (newest : Newest) (a : IsAdoptable survey newest) → AreBorne a.seats
+          in_hand_borne : (newest : Newest) (a : IsAdoptable survey newest) → AreBorne a.seats newest.table.plan.lists
           in_hand_borne newest a =
-              let least = seats_least on a.seats (λ s has there. seat_has host.drives (key_of host) was.history.databases t sound was.stands.databases read.calm survey read.survey_is of newest a calm answered s has there) in
+              let list = lists_one host.drives (key_of host) was.history.databases t sound was.stands.databases read.calm survey read.survey_is of newest a was.places (λ v may. was.lasting.all v may) in
               let are = seats_list host.drives (key_of host) was.history.databases t sound was.stands.databases read.calm survey read.survey_is of newest a was.places (λ v may. was.lasting.all v may) in
-              let long = length-map a.seats (λ (s : Seat). s.place) in
-              omega (arith, half_calm, least, long, ap length are, ap (count_by on) are)
+              subst (AreBorne a.seats) (sym list)
+              (borne_list on a.seats (λ s has there. seat_has host.drives (key_of host) was.history.databases t sound was.stands.databases read.calm survey read.survey_is of newest a calm answered s has there) was.places are half_calm)
 
           -- it finds something, where more than half of them are on such drives
           never_empty : MostLieOn drives name (λ (drive : DriveNo). calm drive.0 ≡ true) slices → IsChoice survey chosen.Empty → ⊥
@@ -348,7 +386,8 @@ module _ (calm : ℕ → Bool) where
         end_borne (end.Adopted o) up clean by_calls (inr (survey, read, a)) is memory = subst (λ (x : Answer). IsBorneBy x next) (sym is) (inl (record {
           o = o;
           opened = ap (λ (m : Memory). m.opened) (memory is);
-          borne = left_borne (TakesBoth _ _) (λ r n took. ap (λ (x : Replica). x.line) took.2) a.seats o.seats a.left (in_hand_borne up survey read a.newest (adoptable kept.content next.content survey a.newest a.replica a.seats a.number a.drawn a.written));
+          borne = subst (AreBorne o.seats) (sym (ap (λ (x : Opened). x.table.plan.lists) a.is))
+              (left_borne (TakesBoth _ _) (λ r n took. ap (λ (x : Replica). x.line) took.2) a.newest.table.plan.lists a.seats o.seats a.left (in_hand_borne up survey read a.newest (adoptable kept.content next.content survey a.newest a.replica a.seats a.number a.drawn a.written)));
         }))
         end_borne end.Empty up clean by_calls (inl never) is memory = absurd (false≢true never)
         end_borne end.Empty up clean by_calls (inr (survey, read, empty)) is memory = subst (λ (x : Answer). IsBorneBy x next) (sym is) (inr (record {
@@ -359,7 +398,7 @@ module _ (calm : ℕ → Bool) where
         end_borne (end.NoQuorum readable needed) up clean by_calls by is memory = subst (λ (x : Answer). IsBorneBy x next) (sym is) tt
         end_borne (end.Lost active listed) up clean by_calls (inl never) is memory = absurd (false≢true never)
         end_borne (end.Lost active listed) up clean by_calls (inr (survey, read, lost)) is memory =
-            absurd (borne_half lost.now (left_borne (TakesClaimOrBoth _ _) claimed lost.seats lost.now lost.left (in_hand_borne up survey read lost.newest (adoptable kept.content next.content survey lost.newest lost.replica lost.seats lost.number lost.drawn lost.written))) lost.few)
+            absurd (borne_half lost.now lost.newest.table.plan.lists (record { active = active; listed = listed }) (left_borne (TakesClaimOrBoth _ _) claimed lost.newest.table.plan.lists lost.seats lost.now lost.left (in_hand_borne up survey read lost.newest (adoptable kept.content next.content survey lost.newest lost.replica lost.seats lost.number lost.drawn lost.written))) lost.few)
           where
             claimed : (r n : Replica) → TakesClaimOrBoth lost.number (length (record_text lost.newest.table)) r n → n.line ≡ r.line
             claimed r n (inl one) = ap (λ (x : Replica). x.line) one

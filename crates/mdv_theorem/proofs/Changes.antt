@@ -8,7 +8,7 @@ use Rattle.mdv_name.specs.SliceIndex.{HasSlice, slice_at}
 use Rattle.mdv_name.specs.declared.geometry.Geometry.{Geometry}
 use Rattle.mdv_name.specs.declared.slice_lines.SliceAt.{SliceAt}
 use Rattle.mdv_name.proofs.Finding.{slice_at-some}
-use Rattle.mdv_store_law.specs.Log.{AreMade}
+use Rattle.mdv_store_law.specs.Log.{AreMade, IsSameOrSettled}
 use Rattle.mdv_table.specs.Change.{IsAfter, blocks_at}
 use Rattle.mdv_table.specs.Slices.{IsSound}
 use Rattle.mdv_table.specs.Volume.{kind_slices, stripe_on}
@@ -64,13 +64,19 @@ module _ (g : Geometry) where
   pub one_slice : (volume : VolId) (a b : SliceName) → stripe volume a ≡ stripe volume b → a ≡ b
   one_slice volume a b same = let both : a ∷ [] ≡ b ∷ [] = ap (λ (w : Volume). kind_slices w.kind) same in cc (both)
 
+  -- the end of a change of places leaves the volumes
+  volumes_kept : (old next : Table) → IsSameOrSettled old next → next.plan.volumes ≡ old.plan.volumes
+  volumes_kept old next (inl same) = ap (λ (t : Table). t.plan.volumes) same
+  volumes_kept old next (inr over) = ap (λ (t : Table). t.plan.volumes) over
+
   -- the table has the volume that a change made
   pub made_has : (changes : List Change) (table : Table) (volume : VolId) (slice : SliceName) → AreMade g changes table → Contains changes (MakeStripe volume slice) → HasStripe volume slice table
   made_has [] table volume slice made has = absurd (never_in (MakeStripe volume slice) has)
-  made_has (MakeStripe other its ∷ changes) table volume slice made has = elim (first_or_behind (MakeStripe other its) (MakeStripe volume slice) changes has) [
-    | inl here ↦ stripe_made made.0 table volume slice (subst (λ (c : Change). IsAfter g c made.0.plan table.plan) here made.2.0)
-    | inr before ↦ stripe_stays volume slice made.0 table other its made.2.0 (made_has changes made.0 volume slice made.1 before)
-  ]
+  made_has (MakeStripe other its ∷ changes) table volume slice (old, new, made, after, more) has =
+      subst (λ (vs : List Volume). Contains vs (stripe volume slice)) (sym (volumes_kept new table more)) (elim (first_or_behind (MakeStripe other its) (MakeStripe volume slice) changes has) [
+        | inl here ↦ stripe_made old new volume slice (subst (λ (c : Change). IsAfter g c old.plan new.plan) here after.0)
+        | inr before ↦ stripe_stays volume slice old new other its after.0 (made_has changes old volume slice made before)
+      ])
 
   -- a change that made the volume
   pub record IsMadeBy (changes : List Change) (volume : VolId) (of : Volume) : Type 0 where
@@ -79,9 +85,9 @@ module _ (g : Geometry) where
     pub is : of ≡ stripe volume slice
 
   pub made_by : (changes : List Change) (table : Table) (volume : VolId) (of : Volume) → AreMade g changes table → HasVolume table.plan.volumes volume of → IsMadeBy changes volume of
-  made_by [] table volume of made has = absurd (never_in of (subst (λ (vs : List Volume). Contains vs of) made has.0))
-  made_by (MakeStripe other its ∷ changes) table volume of made has =
-      elim (was_there (stripe other its) made.0.plan.volumes of (subst (λ (p : Plan). Contains p.volumes of) made.2.0.1 has.0)) [
+  made_by [] table volume of made has = absurd (never_in of (subst (λ (vs : List Volume). Contains vs of) made.0 has.0))
+  made_by (MakeStripe other its ∷ changes) table volume of (old_table, new_table, made, after, more) has =
+      elim (was_there (stripe other its) old_table.plan.volumes of (subst (λ (p : Plan). Contains p.volumes of) after.0.1 (subst (λ (vs : List Volume). Contains vs of) (volumes_kept new_table table more) has.0))) [
         | inl new ↦
             let number : other ≡ volume = sym (ap (λ (x : Volume). x.number) new) ∙ has.1 in
             record {
@@ -90,7 +96,7 @@ module _ (g : Geometry) where
               is = new ∙ ap (λ (n : VolId). stripe n its) number;
             }
         | inr old ↦
-            let before = made_by changes made.0 volume of made.1 (old, has.1) in
+            let before = made_by changes old_table volume of made (old, has.1) in
             record { slice = before.slice; change = contains_behind (MakeStripe other its) (MakeStripe volume before.slice) changes before.change; is = before.is }
       ]
 

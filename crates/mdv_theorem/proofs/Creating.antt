@@ -1,5 +1,5 @@
 -- A line that was told to have made a database, on some slices: the table that is open then lists places on these slices, as many on each.
-use Rattle.std.proofs.Common.{◌≡◌, ℕ, ◌≤◌, ◌*◌, Bool, List, [], ◌∷◌, length, Some, Contains, sym, ap, subst, arith}
+use Rattle.std.proofs.Common.{◌≡◌, ℕ, ◌≤◌, ◌*◌, Bool, List, [], ◌∷◌, length, Some, Contains, sym, ap, subst, arith, map, ◌∙◌}
 use Rattle.mdv_base.specs.declared.drive.SliceName.{SliceName}
 use Rattle.mdv_base.specs.declared.place.Place.{Place}
 use Rattle.mdv_engine_law.specs.Hosts.{identity_of, key_of, lines_asked}
@@ -38,6 +38,11 @@ use Rattle.mdv_volumes.proofs.Lists.{contains_first}
 use Rattle.mdv_theorem.proofs.Counting.{AreMadeOn, asked_some, made_on, places_in}
 use Rattle.mdv_theorem.proofs.Seeing.{ListsThese}
 use Rattle.mdv_theorem.proofs.Tables.{granted_done}
+use Rattle.mdv_store.specs.Shares.{short_of}
+use Rattle.mdv_store.specs.declared.seats.Need.TheVariants.{Half}
+use Rattle.mdv_store.proofs.Shares.{first_enough}
+use Rattle.std.proofs.lemmas.List.{length-map}
+use Rattle.mdv_store.specs.declared.seats.Seat.{Seat}
 
 first_of : {X : Type 0} (xs : List X) → 1 ≤ length xs → (x : X) × Contains xs x
 first_of [] some = absurd (omega (arith, some))
@@ -84,10 +89,10 @@ module _ (host : Host) (sound : IsSound host.drives) (sees : SeesOwn host) (call
       let form = commands_are_in_form one.text (Create slices force count blocks) asks.1 in
       let identity = identity_of host kept.memory.begun in
       let seats = seats_asked (key_of host) identity (lines_asked host slices) count blocks in
-      let long = left_count calls (TakesSlot first_mark (length (record_text (table_of seats)))) seats is.opened.seats is.made.tried in
       let some = asked_some host sound sees (key_of host) identity kept.memory slices force count blocks form.1.0 done.0 (λ r has. subst (λ (s : Site). Contains s.lines r.line) (sym sees) (is.formed r has).1.found.one_of) form.0 in
-      let half = leb-true (length is.opened.seats) (2 * active_of is.opened.seats) is.made.half in
-      let r = first_of (replicas_of is.opened.seats) (omega (arith, long, some, half)) in
+      let half = ap (λ (o : Opened). short_of Half is.opened.seats o.table.plan.lists) (sym is.made.is) ∙ is.made.half in
+      let listed : 1 ≤ length (map (λ (s : Seat). s.place) seats) = omega (arith, some, length-map seats (λ (s : Seat). s.place)) in
+      let r = first_of (replicas_of is.opened.seats) (first_enough Half is.opened.seats (table_of seats).plan.lists listed half) in
       let shown = is.content.shown r.0 r.1 in
       record {
         replica = r.0;

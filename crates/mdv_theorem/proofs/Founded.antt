@@ -116,7 +116,7 @@ module _ (given : Given) (drives : Geometry) (name : List ℕ) (sound : IsSound 
             firm = created_written drives name image ran t sound of_table life made slices force count blocks has asks told;
             all = λ v may. (
               (λ volume map lies. absurd (never_in lies.of (subst (λ (l : List Volume). Contains l lies.of) bare lies.has.0))),
-              alike v version.version may.0 version.one_of ∙ ap (λ (x : Table). x.plan.lists) version.is_table,
+              λ one_list one. alike.same v version.version may.0 version.one_of ∙ ap (λ (x : Table). x.plan.lists) version.is_table ∙ one,
             );
           };
         };
@@ -259,5 +259,5 @@ module _ (given : Given) (drives : Geometry) (name : List ℕ) (sound : IsSound 
         history = is.lasts.history;
         stands = is.lasts.stands;
         its = is.lasts.its;
-        lasting = record { is_log = is.lasts.lasting.is_log; firm = is.lasts.lasting.firm; all = λ v may. (is.lasts.lasting.all v may).1 ∙ is.lists };
+        lasting = record { is_log = is.lasts.lasting.is_log; firm = is.lasts.lasting.firm; all = λ v may. (is.lasts.lasting.all v may).1 is.places is.lists };
       }

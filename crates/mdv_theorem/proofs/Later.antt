@@ -5,6 +5,7 @@ use Rattle.std.specs.Str.{bytes_eq}
 use Rattle.mdv_base.specs.declared.mark.Identity.{Identity}
 use Rattle.mdv_base.specs.declared.name.Key.{Key}
 use Rattle.mdv_base.specs.declared.name.Key.TheVariants.{Local}
+use Rattle.mdv_base.specs.declared.place.Place.{Place}
 use Rattle.mdv_engine_law.specs.Awake.{Happening}
 use Rattle.mdv_engine_law.specs.Line.{Memory, contents}
 use Rattle.mdv_engine_law.specs.Standing.{AreOwn, BootedTo, IsKnown, IsOfRun, StandsAt}
@@ -26,6 +27,7 @@ use Rattle.mdv_store_law.specs.Log.{IsMade, IsRising, Log, Version}
 use Rattle.mdv_store_law.specs.Machine as machine
 use Rattle.mdv_table.specs.Slices.{IsSound}
 use Rattle.mdv_table.specs.declared.change.Change.{Change}
+use Rattle.mdv_table.specs.declared.plan.Lists.TheVariants.{One}
 use Rattle.mdv_table.specs.declared.table.Table.{Table}
 use Rattle.mdv_volumes.specs.Databases.{Database, log_of}
 use Rattle.mdv_volumes.specs.Happening as happening
@@ -34,12 +36,11 @@ use Rattle.mdv_volumes.specs.HistoryLaws.{log_events_of}
 use Rattle.mdv_volumes.specs.Tables.{IsMapOf}
 use Rattle.mdv_volumes.proofs.Found.{AreLasting, lasting_all, newest_found}
 use Rattle.mdv_volumes.proofs.Keys.{databases_live}
+use Rattle.mdv_volumes.proofs.Made.{made_lists, map_stays}
 use Rattle.mdv_volumes.proofs.Owners.{AreEach}
 use Rattle.mdv_volumes.proofs.Restarts.{restarts_go}
 use Rattle.mdv_theorem.specs.Running.{Runs, no_run, run_on}
 use Rattle.mdv_theorem.proofs.Owned.{HaveWords, IsInRun, lines_make, more_runs, own_new, with_run, words_on}
-use Rattle.mdv_theorem.proofs.Ranges.{map_stays}
-use Rattle.mdv_theorem.proofs.Sharing.{made_lists}
 use Rattle.mdv_theorem.proofs.Sure.{open_lasting, open_newest}
 use Rattle.mdv_theorem.proofs.Tables.{Grows, Offers, lasting_offers}
 
@@ -47,9 +48,9 @@ module _ (drives : Geometry) (name : List ℕ) (table : Table) where
   abbrev own : Host
   own = host_of drives name 0
 
-  -- it has its volumes, and its places
+  -- it has its volumes, and its places, where these are one list
   abbrev pub Has : Table → Type 0
-  Has other = Grows own.drives table other × (other.plan.lists ≡ table.plan.lists)
+  Has other = Grows own.drives table other × ((places : List Place) → table.plan.lists ≡ One places → other.plan.lists ≡ One places)
 
   -- each table that a boot may find by the history has its volumes
   abbrev pub IsLasting : History → Type 0
@@ -70,7 +71,7 @@ module _ (drives : Geometry) (name : List ℕ) (table : Table) where
     pub lasting : IsLasting history
 
   grows_stay : (asked : Option Change) (old next : Table) → IsMade own.drives asked old next → Has old → Has next
-  grows_stay asked old next made has = ((λ volume v lies. map_stays own.drives volume v asked old next made (has.0 volume v lies)), made_lists own.drives asked old next made ∙ has.1)
+  grows_stay asked old next made has = ((λ volume v lies. map_stays own.drives volume v asked old next made (has.0 volume v lies)), λ places one. made_lists own.drives asked old next places made (has.1 places one))
 
   -- whatever happens
   lasting_on : (h : History) (es : List Event) → machine.IsCourse history_after (Happening own) h es → IsLasting h → IsLasting (history_after_all h es)
@@ -86,7 +87,7 @@ module _ (drives : Geometry) (name : List ℕ) (table : Table) where
     history = h;
     known = known;
     words = words;
-    lasting = open_lasting (host_of drives name fresh) memory h t o known opened Has ((λ volume v lies. subst (λ (b : Table). IsMapOf own.drives b volume v) (sym same) lies), ap (λ (b : Table). b.plan.lists) same);
+    lasting = open_lasting (host_of drives name fresh) memory h t o known opened Has ((λ volume v lies. subst (λ (b : Table). IsMapOf own.drives b volume v) (sym same) lies), λ places one. ap (λ (b : Table). b.plan.lists) same ∙ one);
   }
 
   -- so what is open then has the volumes

@@ -1,5 +1,5 @@
 -- What a run has open: at least half of the places are active, on slices on which a boot looks. So where a boot or a line ends the run for want of places, a call failed on the drive of one of these.
-use Rattle.std.proofs.Common.{◌≡◌, ◌≢◌, ◌⊎◌, ◌*◌, ◌<◌, ◌≤◌, inl, inr, ℕ, Bool, true, false, List, [], ◌∷◌, Option, Some, None, Contains, MatchOption, length, if◌then◌else◌, refl, sym, ◌∙◌, ap, subst, arith}
+use Rattle.std.proofs.Common.{◌≡◌, ◌≢◌, ◌⊎◌, ◌*◌, ◌<◌, ◌≤◌, inl, inr, ℕ, Bool, true, false, List, [], ◌∷◌, Option, Some, None, Contains, MatchOption, length, if◌then◌else◌, refl, sym, ◌∙◌, ap, subst, arith, map}
 use Rattle.std.proofs.lemmas.Bool.{false≢true, leb-false, leb-true}
 use Rattle.std.proofs.lemmas.Bool.Decides.{nat_tests}
 use Rattle.std.specs.List.{find}
@@ -28,48 +28,58 @@ use Rattle.mdv_store.proofs.Seating.{seated_at}
 use Rattle.mdv_store.proofs.Adoptions.{same_identity_self}
 use Rattle.mdv_store.proofs.Sitting.{left_count, left_replica}
 use Rattle.mdv_store.proofs.Spotting.{asked_active, asked_length}
-use Rattle.mdv_store.specs.Boot.{IsAdopted, IsEndBy, IsInHand, IsLost, IsShort, TakesBoth, is_enough, is_memory}
+use Rattle.mdv_store.specs.Boot.{IsAdopted, IsEndBy, IsInHand, IsLost, IsShort, TakesBoth, is_memory, need_of}
 use Rattle.mdv_store.specs.Commit as commit
 use Rattle.mdv_store.specs.Create as create
-use Rattle.mdv_store.specs.Opened.{Opened}
-use Rattle.mdv_store.specs.Seats.{AreLeft, TakesSlot, active_of, drive_of, is_half_active, replicas_of}
+use Rattle.mdv_store.specs.Opened.{Opened, shortage}
+use Rattle.mdv_store.specs.Seats.{AreLeft, TakesSlot, active_of, drive_of, replicas_of}
 use Rattle.mdv_store.specs.Text.{blocks_for}
 use Rattle.mdv_store.specs.declared.booting.BootEnd.{BootEnd}
 use Rattle.mdv_store.specs.declared.booting.BootEnd.TheVariants as end
 use Rattle.mdv_store.specs.declared.seats.Seat.{Seat}
-use Rattle.mdv_survey.specs.Choice.{AreTwo, IsChoice, IsChoiceAmong, failing, is_of, needed_of, readable_of, same_identity, shows_other}
+use Rattle.mdv_survey.specs.Choice.{AreTwo, IsChoice, IsChoiceAmong, failing, is_of, needed_of, readable_of, same_identity, shows_other, is_read}
 use Rattle.mdv_survey.specs.declared.choosing.Choice.TheVariants as chosen
 use Rattle.mdv_survey.specs.declared.replica.Newest.{Newest}
 use Rattle.mdv_survey.specs.declared.replica.Replica.{Replica}
 use Rattle.mdv_survey.specs.declared.replica.Survey.{Survey}
 use Rattle.mdv_table.specs.Plan.{places_of}
 use Rattle.mdv_table.specs.declared.plan.Lists.{Lists}
-use Rattle.mdv_table.specs.declared.plan.Lists.TheVariants.{One}
+use Rattle.mdv_table.specs.declared.plan.Lists.TheVariants.{One, Two}
 use Rattle.mdv_table.specs.declared.table.Table.{Table}
+use Rattle.mdv_store.specs.Shares.{short_of}
+use Rattle.mdv_store.specs.declared.seats.Need.TheVariants.{Half, More}
+use Rattle.mdv_store.specs.declared.seats.Share.{Share}
+use Rattle.mdv_store.proofs.Shares.{half_less, half_none, more_less, more_suffices, short_fewer}
 
 -- with what answer a run may be over, and why
 abbrev pub IsEndOf : Type 0 → Answer → Type 0
 IsEndOf failed (Said this) = Unit {0}
 IsEndOf failed (Ends over) = HasEndCause failed over
 
--- of places of which half were active, and fewer are then, a call failed on the drive of one
-half_lost : (failed : ℕ → Failures) (Took : Replica → Replica → Type 0) (old now : List Seat) → AreLeft failed Took old now → length old ≤ 2 * active_of old → is_half_active now ≡ false → (r : Replica) × Contains (replicas_of old) r × (failed (drive_of r)).some
-half_lost failed Took old now left half few =
-    let behind = leb-false (length now) (2 * active_of now) few in
-    let same = left_count failed Took old now left in
-    some_lost failed Took old now left (omega (arith, half, behind, same))
-
-few_active : (now : List Seat) (active listed : ℕ) → active ≡ active_of now → listed ≡ length now → is_half_active now ≡ false → 2 * active < listed
-few_active now active listed active_is listed_is few = (let less = leb-false (length now) (2 * active_of now) few in omega (arith, less, active_is, listed_is))
+-- of places of which half of each list was active, and of a list fewer are then, a call failed on the drive of one
+half_lost : (failed : ℕ → Failures) (Took : Replica → Replica → Type 0) (lists : Lists) (old now : List Seat) (share : Share) → AreLeft failed Took old now → short_of Half old lists ≡ None → short_of Half now lists ≡ Some share
+    → (r : Replica) × Contains (replicas_of old) r × (failed (drive_of r)).some
+half_lost failed Took lists old now share left half few = some_lost failed Took old now left (short_fewer failed Took Half Half (λ x so. so) lists old now share left half few)
 
 -- of a list of which not more than half is readable more are needed
 short_read : (replicas : List Replica) (identity : Identity) (lists : Lists) (list : List Place) → failing replicas identity lists ≡ Some list → readable_of replicas identity list < needed_of list
-short_read replicas identity (One places) list fails = by (nat_lt (length places) (2 * readable_of replicas identity places)) refl fails where
-  by : (b : Bool) → nat_lt (length places) (2 * readable_of replicas identity places) ≡ b → (if b then None else Some places) ≡ Some list → readable_of replicas identity list < needed_of list
-  by true is none = absurd (cc (none))
-  by false is same =
+short_read replicas identity lists list fails = by lists fails where
+  short : (places : List Place) → is_read replicas identity places ≡ false → Some places ≡ Some list → readable_of replicas identity list < needed_of list
+  short places is same =
       let few : 2 * readable_of replicas identity places ≤ length places = grind (arith, nat_tests) in
       subst (λ (l : List Place). readable_of replicas identity l < needed_of l) (let one : places ≡ list = cc (same) in one) (omega (arith, few))
+
+  last : (places : List Place) (b : Bool) → is_read replicas identity places ≡ b → (if b then None else Some places) ≡ Some list → readable_of replicas identity list < needed_of list
+  last places true is none = absurd (cc (none))
+  last places false is same = short places is same
+
+  first : (old new : List Place) (b : Bool) → is_read replicas identity old ≡ b → (if b then (if is_read replicas identity new then None else Some new) else Some old) ≡ Some list → readable_of replicas identity list < needed_of list
+  first old new true is rest = last new (is_read replicas identity new) refl rest
+  first old new false is same = short old is same
+
+  by : (of : Lists) → failing replicas identity of ≡ Some list → readable_of replicas identity list < needed_of list
+  by (One places) is = last places (is_read replicas identity places) refl is
+  by (Two old new) is = first old new (is_read replicas identity old) refl is
 
 -- what is found passes the test
 found_passes : (p : Replica → Bool) (rs : List Replica) (r : Replica) → find p rs ≡ Some r → p r ≡ true
@@ -91,9 +101,9 @@ two_differ replicas a b are same =
     and_not _ (is_of are.one.head.master.identity are.other) other (subst (λ (i : Identity). same_identity i are.one.head.master.identity ≡ true) (sym one) (same_identity_self are.one.head.master.identity))
 
 module _ (host : Host) (is_host : IsOfTable host) where
-  -- what is open: half of its places are active, on slices of the host's site
+  -- what is open: half of each of its lists is active, on slices of the host's site
   pub record IsHeld (o : Opened) : Type 0 where
-    pub half : is_half_active o.seats ≡ true
+    pub half : shortage o ≡ None
     pub own : (r : Replica) → Contains (replicas_of o.seats) r → Contains host.site.lines r.line
 
   abbrev pub Holds : Kept → Type 0
@@ -130,22 +140,23 @@ module _ (host : Host) (is_host : IsOfTable host) where
         (read.of.each r at.1).one_of
 
     -- for a host's own database that is half of them
-    own_enough : (seats : List Seat) (enough : Bool) → is_enough host.site.key seats ≡ enough → is_half_active seats ≡ enough
-    own_enough seats enough is = subst (λ (k : Key). is_enough k seats ≡ enough) (ap (λ (s : Site). s.key) is_host.site ∙ is_host.key) is
+    own_enough : (seats : List Seat) (lists : Lists) (came : Option Share) → short_of (need_of host.site.key) seats lists ≡ came → short_of Half seats lists ≡ came
+    own_enough seats lists came is = subst (λ (k : Key). short_of (need_of k) seats lists ≡ came) (ap (λ (s : Site). s.key) is_host.site ∙ is_host.key) is
 
     module _ (content : Image) (up : Drives) {e : BootEnd} (survey : Survey) (read : IsReadOf calls host content up e survey) (Wrote : _) where
       adopted_held : (o : Opened) → IsAdopted calls Wrote host.site survey o → IsHeld o
       adopted_held o a = record {
-        half = own_enough o.seats true a.enough;
+        half = ap (λ (x : Opened). short_of Half o.seats x.table.plan.lists) a.is ∙ own_enough o.seats a.newest.table.plan.lists None a.enough;
         own = left_own calls (TakesBoth a.number (length (record_text a.newest.table))) a.seats o.seats a.left (λ r n took. ap (λ (x : Replica). x.line) took.2) (in_hand_own content up survey a.newest a.replica a.seats read a.drawn.hand);
       }
 
       lost_boot : (active listed : ℕ) → IsLost calls Wrote host.site.key survey active listed → HasFailedThere × (2 * active < listed)
       lost_boot active listed lost =
-          let few = own_enough lost.now false lost.few in
-          let enough = lost.drawn.enough in
-          let one = half_lost calls _ lost.seats lost.now lost.left (omega (arith, enough)) few in
-          ((one.0.line, in_hand_own content up survey lost.newest lost.replica lost.seats read lost.drawn.hand one.0 one.1, one.2), few_active lost.now active listed lost.active_is lost.listed_is few)
+          let share : Share = record { active = active; listed = listed } in
+          let lists = lost.newest.table.plan.lists in
+          let fewer = short_fewer calls _ More (need_of host.site.key) (more_suffices (need_of host.site.key)) lists lost.seats lost.now share lost.left lost.drawn.enough lost.few in
+          let one = some_lost calls _ lost.seats lost.now lost.left fewer in
+          ((one.0.line, in_hand_own content up survey lost.newest lost.replica lost.seats read lost.drawn.hand one.0 one.1, one.2), half_less lost.now lists share (own_enough lost.now lists (Some share) lost.few))
 
     short_boot : (survey : Survey) (readable needed : ℕ) → IsShort survey readable needed → readable < needed
     short_boot survey readable needed (inl choice) = by survey.newest choice where
@@ -154,7 +165,7 @@ module _ (host : Host) (is_host : IsOfTable host) where
       by (Some n) is =
           let short = short_read survey.replicas is.replica.head.master.identity n.table.plan.lists is.list is.fails in
           omega (arith, short, is.readable_is, is.needed_is)
-    short_boot survey readable needed (inr (was, newest, replica, seats, hand, few, readable_is, needed_is)) = omega (arith, few, readable_is, needed_is)
+    short_boot survey readable needed (inr (was, newest, replica, seats, hand, share, few, readable_is, needed_is)) = omega (arith, more_less seats newest.table.plan.lists share few, readable_is, needed_is)
 
     two_boot : (survey : Survey) (a b : Identity) → IsChoice survey (chosen.TwoDatabases a b) → a ≢ b
     two_boot survey a b choice = by survey.newest choice where
@@ -212,8 +223,10 @@ module _ (host : Host) (is_host : IsOfTable host) where
       lost_creation active listed lost =
           let long = asked_length key identity count blocks lines in
           let all = asked_active key identity count blocks lines in
-          let one = half_lost calls _ (create.seats_asked key identity lines count blocks) lost.now lost.tried (omega (arith, long, all)) lost.few in
-          ((one.0.line, made_own one.0 one.1, one.2), few_active lost.now active listed lost.active_is lost.listed_is lost.few)
+          let seats = create.seats_asked key identity lines count blocks in
+          let share : Share = record { active = active; listed = listed } in
+          let one = half_lost calls _ (create.table_of seats).plan.lists seats lost.now share lost.tried (half_none seats (map (λ (s : Seat). s.place) seats) refl (omega (arith, long, all))) lost.few in
+          ((one.0.line, made_own one.0 one.1, one.2), half_less lost.now (create.table_of seats).plan.lists share lost.few)
 
     -- a change of what is open
     pub changed_held : (old new : Opened) (table : Table) → IsHeld old → commit.IsCommitted calls old new table → IsHeld new
@@ -221,5 +234,7 @@ module _ (host : Host) (is_host : IsOfTable host) where
 
     pub lost_change : (old : Opened) (table : Table) (active listed : ℕ) → IsHeld old → IsLostCommit calls old table active listed → HasFailedThere × (2 * active < listed)
     lost_change old table active listed held is =
-        let one = half_lost calls _ old.seats is.new.seats is.lost.tried.left (leb-true (length old.seats) (2 * active_of old.seats) held.half) is.lost.few in
-        ((one.0.line, held.own one.0 one.1, one.2), few_active is.new.seats active listed is.active_is is.listed_is is.lost.few)
+        let share : Share = record { active = active; listed = listed } in
+        let few = ap (λ (t : Table). short_of Half is.new.seats t.plan.lists) (sym (ap (λ (x : Opened). x.table) is.lost.is)) ∙ is.few in
+        let one = half_lost calls _ old.table.plan.lists old.seats is.new.seats share is.lost.tried.left held.half few in
+        ((one.0.line, held.own one.0 one.1, one.2), half_less is.new.seats old.table.plan.lists share few)

@@ -1,12 +1,9 @@
 -- A volume that the newest table of a host had, whose write was answered: each table that a boot may find since has it, where it lay.
-use Rattle.std.proofs.Common.{ℕ, List, Option, Some, None, sym, subst}
+use Rattle.std.proofs.Common.{ℕ, List, sym, subst}
 use Rattle.mdv_base.specs.declared.name.Key.{Key}
 use Rattle.mdv_base.specs.declared.name.VolId.{VolId}
-use Rattle.mdv_map.specs.Maps.{Map}
 use Rattle.mdv_name.specs.declared.geometry.Geometry.{Geometry}
-use Rattle.mdv_store_law.specs.Log.{IsMade, Log}
-use Rattle.mdv_table.specs.declared.change.Change.{Change}
-use Rattle.mdv_table.specs.declared.change.Change.TheVariants.{MakeStripe}
+use Rattle.mdv_store_law.specs.Log.{Log}
 use Rattle.mdv_table.specs.declared.table.Table.{Table}
 use Rattle.mdv_volumes.specs.Databases.{log_of}
 use Rattle.mdv_volumes.specs.Happening.{HasRange, IsCourse}
@@ -15,12 +12,7 @@ use Rattle.mdv_volumes.specs.HistoryLaws.{HasLogs, log_events_of}
 use Rattle.mdv_volumes.specs.Tables.{IsMapOf}
 use Rattle.mdv_volumes.proofs.Found.{AreLasting, lasting_all, lasting_at}
 use Rattle.mdv_volumes.proofs.Keys.{databases_live}
-use Rattle.mdv_volumes.proofs.Tables.{tables_lie}
-
--- a volume stays where it lies
-pub map_stays : (g : Geometry) (volume : VolId) (v : Map) (asked : Option Change) (old next : Table) → IsMade g asked old next → IsMapOf g old volume v → IsMapOf g next volume v
-map_stays g volume v None old next made map = subst (λ (table : Table). IsMapOf g table volume v) (sym made) map
-map_stays g volume v (Some (MakeStripe other slice)) old next made map = tables_lie.stays g old next other slice volume v made.0 map
+use Rattle.mdv_volumes.proofs.Made.{map_stays}
 
 pub range_lasts : (g : Geometry) (key : Key) (h : History) (es : List Event) (volume : VolId) (at count : ℕ) → HasLogs g h → (range : HasRange g h.databases key volume at count) → IsCourse g h es
     → AreLasting g (λ table. IsMapOf g table volume range.map) (log_of (history_after_all h es).databases key)

@@ -28,38 +28,39 @@ use Rattle.mdv_standing.proofs.Versions.{version_has}
 use Rattle.mdv_standing.proofs.Voting.{in_log}
 use Rattle.mdv_store.specs.Records.{Spells}
 use Rattle.mdv_store_law.specs.Log as log
-use Rattle.mdv_store_law.specs.Log.{IsMade, Log, Version, answered, empty_log}
+use Rattle.mdv_store_law.specs.Log.{HasOneList, Log, Version, answered, empty_log}
 use Rattle.mdv_survey.specs.Choice.{is_of}
 use Rattle.mdv_survey.specs.Replica.{at_of}
 use Rattle.mdv_survey.specs.declared.replica.Replica.{Replica}
-use Rattle.mdv_table.specs.declared.change.Change.{Change}
-use Rattle.mdv_table.specs.declared.change.Change.TheVariants.{MakeStripe}
-use Rattle.mdv_table.specs.declared.plan.Plan.{Plan}
 use Rattle.mdv_table.specs.declared.table.Table.{Table}
 use Rattle.mdv_volumes.specs.Happening.{IsCourse}
 use Rattle.mdv_volumes.specs.History.{Event, History, history_after_all}
 use Rattle.mdv_volumes.specs.HistoryLaws.{log_events_of, new_history}
 use Rattle.mdv_volumes.proofs.Keys.{databases_live}
+use Rattle.mdv_volumes.proofs.Made.{made_lists}
 use Rattle.mdv_volumes.proofs.Lists.{contains_behind, contains_first, first_or_behind}
 use Rattle.mdv_theorem.proofs.Adopted.{open_shows}
 use Rattle.mdv_theorem.proofs.Lines.{never_in}
 
--- a change makes volumes, and moves no place
-pub made_lists : (g : Geometry) (asked : Option Change) (old next : Table) → IsMade g asked old next → next.plan.lists ≡ old.plan.lists
-made_lists g None old next made = ap (λ (t : Table). t.plan.lists) made
-made_lists g (Some (MakeStripe volume slice)) old next made = ap (λ (p : Plan). p.lists) made.0.1
+-- all of these list the same places, in one list
+pub record AreAlike (family : List Version) : Type 0 where
+  pub one : (v : Version) → Contains family v → HasOneList v.table
+  pub same : (v w : Version) → Contains family v → Contains family w → v.table.plan.lists ≡ w.table.plan.lists
 
--- all of these list the same places
-abbrev pub AreAlike : List Version → Type 0
-AreAlike family = (v w : Version) → Contains family v → Contains family w → v.table.plan.lists ≡ w.table.plan.lists
+none_alike : AreAlike []
+none_alike = record { one = λ v has. absurd (never_in v has); same = λ v w has also. absurd (never_in v has) }
 
-more_alike : (new : Version) (family : List Version) → AreAlike family → ((w : Version) → Contains family w → new.table.plan.lists ≡ w.table.plan.lists) → AreAlike (new ∷ family)
-more_alike new family alike first v w has also = by (first_or_behind new v family has) (first_or_behind new w family also) where
-  by : (new ≡ v) ⊎ Contains family v → (new ≡ w) ⊎ Contains family w → v.table.plan.lists ≡ w.table.plan.lists
-  by (inl one) (inl other) = ap (λ (x : Version). x.table.plan.lists) (sym one ∙ other)
-  by (inl one) (inr behind) = ap (λ (x : Version). x.table.plan.lists) (sym one) ∙ first w behind
-  by (inr behind) (inl other) = sym (first v behind) ∙ ap (λ (x : Version). x.table.plan.lists) other
-  by (inr one) (inr other) = alike v w one other
+more_alike : (new : Version) (family : List Version) → AreAlike family → HasOneList new.table → ((w : Version) → Contains family w → new.table.plan.lists ≡ w.table.plan.lists) → AreAlike (new ∷ family)
+more_alike new family alike its first = record {
+  one = λ v has. elim (first_or_behind new v family has) [ inl here ↦ subst (λ (x : Version). HasOneList x.table) here its | inr behind ↦ alike.one v behind ];
+  same = λ v w has also. by v w (first_or_behind new v family has) (first_or_behind new w family also);
+}
+  where
+    by : (v w : Version) → (new ≡ v) ⊎ Contains family v → (new ≡ w) ⊎ Contains family w → v.table.plan.lists ≡ w.table.plan.lists
+    by v w (inl one) (inl other) = ap (λ (x : Version). x.table.plan.lists) (sym one ∙ other)
+    by v w (inl one) (inr behind) = ap (λ (x : Version). x.table.plan.lists) (sym one) ∙ first w behind
+    by v w (inr behind) (inl other) = sym (first v behind) ∙ ap (λ (x : Version). x.table.plan.lists) other
+    by v w (inr one) (inr other) = alike.same v w one other
 
 -- an answer changes no table
 answered_has : (family : List Version) (v : Version) → Contains (answered family) v → (w : Version) × Contains family w × (w.table ≡ v.table)
@@ -71,14 +72,21 @@ answered_has (newest ∷ older) v has = elim (first_or_behind (record newest { i
 
 module _ (g : Geometry) where
   alike_step : (lg : Log) (e : log.Event) → log.MayHappen g lg e → AreAlike lg.family → AreAlike (log.log_after lg e).family
-  alike_step lg (log.Issued identity) may alike = λ v w has also. absurd (never_in v has)
-  alike_step lg (log.Writing mark asked before table) may alike = more_alike _ lg.family alike (first may.1) where
+  alike_step lg (log.Issued identity) may alike = none_alike
+  alike_step lg (log.Writing mark asked before table) may alike = more_alike _ lg.family alike (its may.1) (first may.1) where
+    its : log.IsFirst lg.issued lg.family asked before table ⊎ log.IsNext g lg.family asked before table → HasOneList table
+    its (inl is) = is.one
+    its (inr is) = let was = alike.one is.parent is.one_of in (was.0, made_lists g asked is.parent.table table was.0 is.made was.1)
+
     first : log.IsFirst lg.issued lg.family asked before table ⊎ log.IsNext g lg.family asked before table → (w : Version) → Contains lg.family w → table.plan.lists ≡ w.table.plan.lists
     first (inl is) w has = absurd (never_in w (subst (λ (f : List Version). Contains f w) is.none has))
-    first (inr is) w has = made_lists g asked is.parent.table table is.made ∙ alike is.parent w is.one_of has
-  alike_step lg log.Written may alike = λ v w has also.
-      (let one = answered_has lg.family v has in let other = answered_has lg.family w also in
-      ap (λ (t : Table). t.plan.lists) (sym one.2) ∙ alike one.0 other.0 one.1 other.1 ∙ ap (λ (t : Table). t.plan.lists) other.2)
+    first (inr is) w has = (let was = alike.one is.parent is.one_of in made_lists g asked is.parent.table table was.0 is.made was.1 ∙ sym was.1) ∙ alike.same is.parent w is.one_of has
+  alike_step lg log.Written may alike = record {
+    one = λ v has. (let was = answered_has lg.family v has in subst HasOneList was.2 (alike.one was.0 was.1));
+    same = λ v w has also.
+        (let one = answered_has lg.family v has in let other = answered_has lg.family w also in
+        ap (λ (t : Table). t.plan.lists) (sym one.2) ∙ alike.same one.0 other.0 one.1 other.1 ∙ ap (λ (t : Table). t.plan.lists) other.2);
+  }
   alike_step lg (log.Told which before) may alike = alike
 
   alike_all : (lg : Log) (es : List log.Event) → log.IsCourse g lg es → AreAlike lg.family → AreAlike (log.log_after_all lg es).family
@@ -91,7 +99,7 @@ module _ (g : Geometry) where
       subst (λ (lg : Log). AreAlike lg.family) (sym (databases_live.is key g h es course)) (alike_all (log_of h.databases key) (log_events_of key es) (databases_live.may key g h es course) alike)
 
   pub alike_from_new : (key : Key) (es : List Event) → IsCourse g new_history es → AreAlike (log_of (history_after_all new_history es).databases key).family
-  alike_from_new key es course = alike_on key new_history es course (λ v w has also. absurd (never_in v has))
+  alike_from_new key es course = alike_on key new_history es course none_alike
 
 -- A table of the key's current database that a replica shows is one of its log's versions.
 pub record HasVersion (lg : Log) (table : Table) : Type 0 where

@@ -8,6 +8,7 @@ use Rattle.mdv_store_law.specs.Log as log
 use Rattle.mdv_store_law.specs.Log.{IsLog, IsMade, IsNotOlder, IsRising, Log, Version, answered, is_firm, log_after}
 use Rattle.mdv_store_law.proofs.Families.{contains_behind, contains_cases, contains_first, written_firm}
 use Rattle.mdv_store_law.proofs.Logs.{firm_stays, is_log_after, is_log_after_all}
+use Rattle.mdv_table.specs.Plan.{settled}
 use Rattle.mdv_volumes.specs.Below.{Change, Geometry, Table}
 use Rattle.mdv_volumes.specs.Happening.{MayBeFound}
 use Rattle.mdv_volumes.specs.HistoryLaws.{AsksTable, IsAsked}
@@ -74,11 +75,13 @@ module _ (P : Table → Type 0) where
   begun_found lg mark asked before table here all v found = ⊎_elim (λ new. subst P (ap (λ (w : Version). w.table) new) here) (λ old. all v old)
       (older_found (record { mark = mark; table = table; changes = log.with_asked asked before; is_written = false }) lg.family v found)
 
-module _ (g : Geometry) (P : Table → Type 0) (none : (table : Table) → table.plan.volumes ≡ [] → P table) where
+module _ (g : Geometry) (P : Table → Type 0) (none : (table : Table) → table.plan.volumes ≡ [] → P table) (over : (table : Table) → P table → P (settled table)) where
   next_table : (lg : Log) (asked : Option Change) (before : List Change) (mark : Mark) (table : Table) → log.IsFirst lg.issued lg.family asked before table ⊎ log.IsNext g lg.family asked before table
       → AllFound P lg.family → ((other : Table) → AsksTable (log.Writing mark asked before table) other → P other) → P table
   next_table lg asked before mark table (inl first) all new = none table first.empty
-  next_table lg None before mark table (inr next) all new = subst P (sym next.made) (all next.parent (next.one_of, next.not_older))
+  next_table lg None before mark table (inr next) all new =
+      let was = all next.parent (next.one_of, next.not_older) in
+      ⊎_elim (λ same. subst P (sym same) was) (λ settles. subst P (sym settles) (over next.parent.table was)) next.made
   next_table lg (Some change) before mark table (inr next) all new = new table refl
 
   found_step : (lg : Log) (e : log.Event) → IsLog g lg → log.MayHappen g lg e → AllFound P lg.family → ((table : Table) → AsksTable e table → P table) → AllFound P (log_after lg e).family
@@ -87,7 +90,7 @@ module _ (g : Geometry) (P : Table → Type 0) (none : (table : Table) → table
   found_step lg log.Written is may all new = written_found P lg.family may all
   found_step lg (log.Told which before) is may all new = all
 
-  -- each table that a boot may find in the end is so, where those at the start are, and those that were asked
+  -- each table that a boot may find in the end is so, where those at the start are, and those that were asked, and it stays so once a change of places is over
   pub found_all : (lg : Log) (es : List log.Event) → IsLog g lg → log.IsCourse g lg es → AllFound P lg.family → ((table : Table) → IsAsked es table → P table) → AllFound P (log.log_after_all lg es).family
   found_all lg [] is course all new = all
   found_all lg (e ∷ es) is course all new =

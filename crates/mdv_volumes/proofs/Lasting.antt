@@ -1,10 +1,10 @@
 -- A block of a volume that the newest table has, whose write was answered: every table that a boot may find since has it, so its log begins no more.
-use Rattle.std.proofs.Common.{inl, inr, ℕ, ◌+◌, ◌<◌, List, [], ◌∷◌, Option, None, Some, sym, subst, arith}
+use Rattle.std.proofs.Common.{inl, inr, ℕ, ◌+◌, ◌<◌, List, [], ◌∷◌, Option, sym, subst, arith}
 use Rattle.mdv_shelf.proofs.Blocks.{both_ways}
 use Rattle.mdv_store_law.specs.Log as log
 use Rattle.mdv_store_law.specs.Log.{IsMade}
 use Rattle.mdv_store_law.proofs.Logs.{is_log_after_all}
-use Rattle.mdv_volumes.specs.Below.{Change, Geometry, Key, MakeStripe, Map, Table, VolId}
+use Rattle.mdv_volumes.specs.Below.{Change, Geometry, Key, Map, Table, VolId}
 use Rattle.mdv_volumes.specs.Databases.{is_volume, log_of}
 use Rattle.mdv_volumes.specs.Events.{AllGoOn, Answers, Begins, Flushes, GoesOn, Issues, VolumeEvent, Woke}
 use Rattle.mdv_volumes.specs.Events as lives
@@ -16,7 +16,7 @@ use Rattle.mdv_volumes.proofs.Databases.{volume_key, volume_number}
 use Rattle.mdv_volumes.proofs.Found.{AreLasting, lasting_all, lasting_at, some_lasts}
 use Rattle.mdv_volumes.proofs.Keys.{databases_live}
 use Rattle.mdv_volumes.proofs.Lists.{all_both}
-use Rattle.mdv_volumes.proofs.Tables.{tables_lie}
+use Rattle.mdv_volumes.proofs.Made.{map_stays}
 
 -- the logs of a history stay logs
 pub still_logs : (g : Geometry) (h : History) (es : List Event) → IsCourse g h es → HasLogs g h → HasLogs g (history_after_all h es)
@@ -29,8 +29,7 @@ HasBlock g volume b table = (v : Map) × IsMapOf g table volume v × (b < v.bloc
 
 -- no change takes it away
 block_stays : (g : Geometry) (volume : VolId) (b : ℕ) (asked : Option Change) (old next : Table) → IsMade g asked old next → HasBlock g volume b old → HasBlock g volume b next
-block_stays g volume b None old next made has = subst (HasBlock g volume b) (sym made) has
-block_stays g volume b (Some (MakeStripe other slice)) old next made has = (has.0, tables_lie.stays g old next other slice volume has.0 made.0 has.1, has.2)
+block_stays g volume b asked old next made has = (has.0, map_stays g volume has.0 asked old next made has.1, has.2)
 
 module _ (g : Geometry) (key : Key) (volume : VolId) (b : ℕ) where
   -- each table that a boot may find has it

@@ -8,6 +8,7 @@ pub mod Databases
 pub mod Owners
 pub mod Lives
 pub mod Keys
+pub mod Made
 pub mod Found
 pub mod Listed
 pub mod Volumes

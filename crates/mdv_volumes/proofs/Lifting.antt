@@ -14,6 +14,7 @@ use Rattle.mdv_volumes.specs.HistoryLaws.{AreLater, CreationsGo, DatabasesGo, Is
 use Rattle.mdv_volumes.specs.Tables.{AreLaid, IsMapOf}
 use Rattle.mdv_volumes.proofs.Databases.{is_log_of}
 use Rattle.mdv_volumes.proofs.Found.{found_all, none_found}
+use Rattle.mdv_volumes.proofs.Made.{ready_settled}
 use Rattle.mdv_volumes.proofs.Standing.{frames_stand}
 use Rattle.mdv_volumes.proofs.Volumes.{named_as}
 
@@ -148,7 +149,7 @@ module _ (g : Geometry) (h : History) (key : Key) (identity : Identity) (es : Li
   -- what a boot may find of this key
   own_ready : (v : Version) → MayBeFound (log_of behind key).family v → IsReady g h key m v.table
   own_ready v found =
-      found_all g (IsReady g h key m) empty_ready before es (is_log_of g h.databases t stands.databases key) course old_ready (λ table asked. here table (ready table asked)) v
+      found_all g (IsReady g h key m) empty_ready (λ table. ready_settled g table h key m) before es (is_log_of g h.databases t stands.databases key) course old_ready (λ table asked. here table (ready table asked)) v
       (subst (λ (l : Log). MayBeFound l.family v) own found)
 
   course_lifted : IsCourse g h (lifted key (identity_in (current_of h.databases key)) es)

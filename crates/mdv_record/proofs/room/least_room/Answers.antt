@@ -1,6 +1,10 @@
-use Rattle.std.proofs.Common.{arith}
-use Rattle.mdv_record.proofs.Rooms.{room_most}
+use Rattle.std.proofs.Common.{min, sym, ◌∙◌, ap}
+use Rattle.mdv_record.specs.Room.{least_room}
+use Rattle.mdv_record.proofs.Rooms.{room_each}
 use Rattle.mdv_record.proofs.room.least_room.Goals as goal
 
-pub loop-place-init : goal.loop-place-init
-loop-place-init c = (omega arith, omega (arith, room_most c.args.places.now))
+pub returns-in-Two-clause-value : goal.returns-in-Two-clause-value
+returns-in-Two-clause-value c =
+    let old = c.least_of-in-Two.ensures.value ∙ ap least_room c.as_slice-in-Two.ensures in
+    let new = c.least_of-in-Two-2.ensures.value ∙ ap least_room c.as_slice-in-Two-2.ensures in
+    rw c.in-Two.is (c.min.ensures ∙ (λ i. min (old i) (new i)) ∙ sym (room_each c.in-Two.old c.in-Two.new))

@@ -1,11 +1,13 @@
-use Rattle.std.proofs.Common.{◌<◌, ◌*◌, length, ap, arith}
+use Rattle.std.proofs.Common.{◌≡◌, ◌∙◌, List, None, sym, ap, arith}
 use Rattle.mdv_shelf.proofs.Among.{among_wider}
 use Rattle.mdv_store.specs.Booting.{has_written}
-use Rattle.mdv_store.specs.Seats.{active_of, drives_of}
+use Rattle.mdv_store.specs.Seats.{drives_of}
+use Rattle.mdv_store.specs.Shares.{short_of}
 use Rattle.mdv_store.specs.Taking.{drives_read}
+use Rattle.mdv_store.specs.declared.seats.Need.TheVariants.{More}
+use Rattle.mdv_store.specs.declared.seats.Seat.{Seat}
 use Rattle.mdv_store.proofs.Adoptions.{adopt_still, adopted_answer, adopted_ends, adopted_moments, got_within, hand_drives, hand_laid, seated_small}
 use Rattle.mdv_store.proofs.Reading.{hand_ready}
-use Rattle.mdv_store.proofs.Sitting.{active_most}
 use Rattle.mdv_store.proofs.booting.adopt.Goals as goal
 use Rattle.mdv_store.proofs.booting.adopt.Goals.{After-rewrite}
 
@@ -18,12 +20,9 @@ in_hand-requires-clause-within g c = got_within c.args.replicas.now c.args.newes
 pub returns-in-Err-clause-moments : goal.returns-in-Err-clause-moments
 returns-in-Err-clause-moments g c = adopt_still c.args.site.now c.args.replicas.now c.args.newest c.quiet.result.end (g.S.Shelf.tale c.args.shelf.now) (ap has_written c.quiet.ensures.end)
 
-pub overflow_mul-readable : goal.overflow_mul-readable
-overflow_mul-readable g c = omega (arith, c.active-readable.ensures, ap active_of c.as_slice.ensures, active_most c.in-Ok.hand.seats, c.in-Ok.ensures.few)
-
-pub returns-then-readable-listed-clause-moments : goal.returns-then-readable-listed-clause-moments
-returns-then-readable-listed-clause-moments g c =
-    adopt_still c.args.site.now c.args.replicas.now c.args.newest c.quiet-then-readable-listed.result.end (g.S.Shelf.tale c.args.shelf.now) (ap has_written c.quiet-then-readable-listed.ensures.end)
+pub returns-in-Some-clause-moments : goal.returns-in-Some-clause-moments
+returns-in-Some-clause-moments g c =
+    adopt_still c.args.site.now c.args.replicas.now c.args.newest c.quiet-in-Some.result.end (g.S.Shelf.tale c.args.shelf.now) (ap has_written (c.quiet-in-Some.ensures.end ∙ c.unread.ensures))
 
 pub returns-then-hand-ge-NUMBER_LIMIT-clause-moments : goal.returns-then-hand-ge-NUMBER_LIMIT-clause-moments
 returns-then-hand-ge-NUMBER_LIMIT-clause-moments g c =
@@ -32,15 +31,15 @@ returns-then-hand-ge-NUMBER_LIMIT-clause-moments g c =
 pub rewrite-requires-clause-laid : goal.rewrite-requires-clause-laid
 rewrite-requires-clause-laid g c =
     hand_laid c.args.site.now c.args.replicas.now c.args.newest c.in-Ok.hand c.in-Ok.ensures c.requires.seated c.requires.newest
-    (omega (arith, c.if-readable-listed.false, c.active-readable.ensures, ap active_of c.as_slice.ensures, ap length c.as_slice-listed.ensures)) (g.S.Shelf.sizes c.args.shelf.now) c.requires.on_shelf
+    (ap (λ (l : List Seat). short_of More l c.args.newest.table.plan.lists) (sym c.as_slice.ensures) ∙ sym c.short.ensures ∙ c.in_default.is) (g.S.Shelf.sizes c.args.shelf.now) c.requires.on_shelf
 
 pub rewrite-requires-clause-ready : goal.rewrite-requires-clause-ready
 rewrite-requires-clause-ready g c =
     hand_ready c.args.site.now c.args.replicas.now c.args.newest c.in-Ok.hand c.in-Ok.ensures c.requires.seated
-    (omega (arith, c.if-readable-listed.false, c.active-readable.ensures, ap active_of c.as_slice.ensures, ap length c.as_slice-listed.ensures)) (omega (arith, c.if-hand-ge-NUMBER_LIMIT.false))
+    (ap (λ (l : List Seat). short_of More l c.args.newest.table.plan.lists) (sym c.as_slice.ensures) ∙ sym c.short.ensures ∙ c.in_default.is) (omega (arith, c.if-hand-ge-NUMBER_LIMIT.false))
 
-enough : (g : _) (c : After-rewrite g) → length c.in-Ok.hand.seats < 2 * active_of c.in-Ok.hand.seats
-enough g c = omega (arith, c.if-readable-listed.false, c.active-readable.ensures, ap active_of c.as_slice.ensures, ap length c.as_slice-listed.ensures)
+enough : (g : _) (c : After-rewrite g) → short_of More c.in-Ok.hand.seats c.args.newest.table.plan.lists ≡ None
+enough g c = ap (λ (l : List Seat). short_of More l c.args.newest.table.plan.lists) (sym c.as_slice.ensures) ∙ sym c.short.ensures ∙ c.in_default.is
 
 pub returns-clause-answer : goal.returns-clause-answer
 returns-clause-answer g c =

@@ -25,7 +25,7 @@ returns c =
       one_of = slice_get-get_or c.args.replicas.now c.args.newest.now.replica replica c.requires.within;
       identity_is = refl;
       number_is = ap (λ (n : ℕ). n + 1) c.greatest_number.ensures;
-      seats_are = seats ∙ ap (λ (n : ℕ). seats_of rs identity n c.places-places.result.now) text ∙ ap (λ (ps : List Place). seats_of rs identity (blocks_for (length (record_text c.args.newest.now.table))) ps) c.places-places.ensures.value;
-      few = omega (arith, ap length seats, length-map c.places-places.result.now (seat_for rs identity c.blocks_for-text.result), c.places-places.ensures.few);
-      room_is = omega (arith, c.in_ok-room_for.field-0.ok.0, c.in_ok-room_for.ensures, c.max.ensures, max_is c.least_room.result c.blocks_for-text.result, text, c.least_room.ensures.value, ap least_room c.places-places.ensures.value);
+      seats_are = seats ∙ ap (λ (n : ℕ). seats_of rs identity n c.as_slice.result.now) text ∙ ap (λ (ps : List Place). seats_of rs identity (blocks_for (length (record_text c.args.newest.now.table))) ps) (c.as_slice.ensures.value ∙ c.each-places.ensures.value);
+      few = omega (arith, ap length seats, length-map c.as_slice.result.now (seat_for rs identity c.blocks_for-text.result), c.as_slice.ensures.few);
+      room_is = omega (arith, c.in_ok-room_for.field-0.ok.0, c.in_ok-room_for.ensures, c.max.ensures, max_is c.least_room.result c.blocks_for-text.result, text, c.least_room.ensures.value);
     }

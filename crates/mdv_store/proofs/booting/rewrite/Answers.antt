@@ -1,39 +1,31 @@
 use Rattle.std.proofs.Common.{◌∙◌, ℕ, length, nat_eq, sym, ap}
 use Rattle.mdv_shelf.specs.Shelves.{DriveFailures}
-use Rattle.mdv_store.specs.Boot.{is_enough}
 use Rattle.mdv_store.specs.Seats.{active_of}
-use Rattle.mdv_store.proofs.Rewrites.{all_took, both_kept, claimed_few, claimed_laid, claimed_room, done_answer, done_counted, done_end, done_open, first_answer, first_counted, first_moments, first_synced, lost_answer, last_few, lost_counted, room_short, second_moments, second_synced}
+use Rattle.mdv_store.proofs.Rewrites.{all_took, as_needed, both_kept, claimed_laid, claimed_room, done_answer, done_counted, done_end, done_open, first_answer, first_counted, first_moments, first_synced, lost_answer, lost_counted, room_short, second_moments, second_synced}
 use Rattle.mdv_store.proofs.booting.rewrite.Goals as goal
 
-pub is_enough-requires : goal.is_enough-requires
-is_enough-requires g c = rw c.as_slice-2.ensures (claimed_few c.args.hand c.args.table c.requires.ready (DriveFailures g.S.Shelf c.args.shelf.now c.claim_all.new.shelf) c.claim_all.new.seats c.claim_all.ensures.left)
-
-pub lost-requires : goal.lost-requires
-lost-requires g c =
-    rw c.as_slice-then-not-is_enough.ensures (claimed_few c.args.hand c.args.table c.requires.ready (DriveFailures g.S.Shelf c.args.shelf.now c.claim_all.new.shelf) c.claim_all.new.seats c.claim_all.ensures.left)
-
-pub returns-then-not-is_enough-clause-answer : goal.returns-then-not-is_enough-clause-answer
-returns-then-not-is_enough-clause-answer g c =
+pub returns-in-Some-clause-answer : goal.returns-in-Some-clause-answer
+returns-in-Some-clause-answer g c =
     let claimed = c.claim_all.ensures in
     first_answer g.S.Shelf c.args.key.now c.args.hand c.args.table c.requires.ready c.args.shelf.now c.claim_all.new.shelf c.claim_all.new.seats claimed.left claimed.moments claimed.end claimed.passed claimed.kept
-    (ap (is_enough c.args.key.now) (sym c.as_slice-2.ensures) ∙ sym c.is_enough.ensures ∙ c.if-not-is_enough.true) c.lost.result (rw c.as_slice-then-not-is_enough.ensures at c.lost.ensures.end) c.lost.ensures.calm
+    c.in-Some.share (as_needed c.args.key.now _ c.claim_all.new.seats _ c.args.table.plan.lists _ c.need_of-need.ensures c.as_slice-2.ensures c.in-Some.ensures) c.lost.result c.lost.ensures.end c.lost.ensures.calm
 
-pub returns-then-not-is_enough-clause-moments : goal.returns-then-not-is_enough-clause-moments
-returns-then-not-is_enough-clause-moments g c =
+pub returns-in-Some-clause-moments : goal.returns-in-Some-clause-moments
+returns-in-Some-clause-moments g c =
     let claimed = c.claim_all.ensures in
     first_moments g.S.Shelf c.args.key.now c.args.hand c.args.table c.requires.ready c.args.shelf.now c.claim_all.new.shelf c.claim_all.new.seats claimed.left claimed.moments claimed.end claimed.passed claimed.kept
 
-pub returns-then-not-is_enough-clause-synced : goal.returns-then-not-is_enough-clause-synced
-returns-then-not-is_enough-clause-synced g c =
+pub returns-in-Some-clause-synced : goal.returns-in-Some-clause-synced
+returns-in-Some-clause-synced g c =
     let claimed = c.claim_all.ensures in
     first_synced g.S.Shelf c.args.key.now c.args.hand c.args.table c.requires.ready c.args.shelf.now c.claim_all.new.shelf c.claim_all.new.seats claimed.left claimed.moments claimed.end claimed.passed claimed.kept
-    (ap (is_enough c.args.key.now) (sym c.as_slice-2.ensures) ∙ sym c.is_enough.ensures ∙ c.if-not-is_enough.true) c.lost.result (rw c.as_slice-then-not-is_enough.ensures at c.lost.ensures.end) c.lost.ensures.calm
+    c.in-Some.share (as_needed c.args.key.now _ c.claim_all.new.seats _ c.args.table.plan.lists _ c.need_of-need.ensures c.as_slice-2.ensures c.in-Some.ensures) c.lost.result c.lost.ensures.end c.lost.ensures.calm
 
-pub returns-then-not-is_enough-clause-counted : goal.returns-then-not-is_enough-clause-counted
-returns-then-not-is_enough-clause-counted g c =
+pub returns-in-Some-clause-counted : goal.returns-in-Some-clause-counted
+returns-in-Some-clause-counted g c =
     let claimed = c.claim_all.ensures in (
       first_counted g.S.Shelf c.args.key.now c.args.hand c.args.table c.requires.ready c.args.shelf.now c.claim_all.new.shelf c.claim_all.new.seats claimed.left claimed.moments claimed.end claimed.passed claimed.kept
-          (ap (is_enough c.args.key.now) (sym c.as_slice-2.ensures) ∙ sym c.is_enough.ensures ∙ c.if-not-is_enough.true) c.lost.result (rw c.as_slice-then-not-is_enough.ensures at c.lost.ensures.end) c.lost.ensures.calm,
+          c.in-Some.share (as_needed c.args.key.now _ c.claim_all.new.seats _ c.args.table.plan.lists _ c.need_of-need.ensures c.as_slice-2.ensures c.in-Some.ensures) c.lost.result c.lost.ensures.end c.lost.ensures.calm,
       claimed.kept,
     )
 
@@ -49,59 +41,43 @@ pub slot_all-requires-clause-room : goal.slot_all-requires-clause-room
 slot_all-requires-clause-room g c =
     claimed_room c.args.hand c.args.table c.requires.ready (DriveFailures g.S.Shelf c.args.shelf.now c.claim_all.new.shelf) c.claim_all.new.seats c.claim_all.ensures.left c.spell-text.result.bytes c.spell-text.result.body.now c.spell-text.ensures.spelled
 
-pub is_enough-requires-2 : goal.is_enough-requires-2
-is_enough-requires-2 g c =
-    let claimed = c.claim_all.ensures in
-    let slotted = c.slot_all.ensures in
-    rw c.as_slice-3.ensures (last_few g.S.Shelf c.args.key.now c.args.hand c.args.table c.requires.ready c.args.shelf.now c.claim_all.new.shelf c.claim_all.new.seats claimed.left claimed.moments claimed.end claimed.passed claimed.kept
-    (ap (is_enough c.args.key.now) (sym c.as_slice-2.ensures) ∙ sym c.is_enough.ensures ∙ c.if-not-is_enough.false) c.spell-text.result.bytes c.spell-text.result.body.now c.spell-text.ensures.spelled c.slot_all.new.shelf c.slot_all.new.seats slotted.left
-    slotted.moments slotted.end slotted.passed slotted.kept)
-
-pub lost-requires-then-not-is_enough-2 : goal.lost-requires-then-not-is_enough-2
-lost-requires-then-not-is_enough-2 g c =
-    let claimed = c.claim_all.ensures in
-    let slotted = c.slot_all.ensures in
-    rw c.as_slice-then-not-is_enough-2.ensures (last_few g.S.Shelf c.args.key.now c.args.hand c.args.table c.requires.ready c.args.shelf.now c.claim_all.new.shelf c.claim_all.new.seats claimed.left claimed.moments claimed.end claimed.passed claimed.kept
-    (ap (is_enough c.args.key.now) (sym c.as_slice-2.ensures) ∙ sym c.is_enough.ensures ∙ c.if-not-is_enough.false) c.spell-text.result.bytes c.spell-text.result.body.now c.spell-text.ensures.spelled c.slot_all.new.shelf c.slot_all.new.seats slotted.left
-    slotted.moments slotted.end slotted.passed slotted.kept)
-
-pub returns-then-not-is_enough-2-clause-answer : goal.returns-then-not-is_enough-2-clause-answer
-returns-then-not-is_enough-2-clause-answer g c =
+pub returns-in-Some-short-clause-answer : goal.returns-in-Some-short-clause-answer
+returns-in-Some-short-clause-answer g c =
     let claimed = c.claim_all.ensures in
     let slotted = c.slot_all.ensures in
     lost_answer g.S.Shelf c.args.key.now c.args.hand c.args.table c.requires.ready c.args.shelf.now c.claim_all.new.shelf c.claim_all.new.seats claimed.left claimed.moments claimed.end claimed.passed claimed.kept
-    (ap (is_enough c.args.key.now) (sym c.as_slice-2.ensures) ∙ sym c.is_enough.ensures ∙ c.if-not-is_enough.false) c.spell-text.result.bytes c.spell-text.result.body.now c.spell-text.ensures.spelled c.slot_all.new.shelf c.slot_all.new.seats slotted.left
+    (as_needed c.args.key.now _ c.claim_all.new.seats _ c.args.table.plan.lists _ c.need_of-need.ensures c.as_slice-2.ensures c.short.ensures ∙ c.in_default.is) c.spell-text.result.bytes c.spell-text.result.body.now c.spell-text.ensures.spelled c.slot_all.new.shelf c.slot_all.new.seats slotted.left
     slotted.moments slotted.end slotted.passed slotted.kept
-    (ap (is_enough c.args.key.now) (sym c.as_slice-3.ensures) ∙ sym c.is_enough-2.ensures ∙ c.if-not-is_enough-2.true) c.lost-then-not-is_enough-2.result (rw c.as_slice-then-not-is_enough-2.ensures at c.lost-then-not-is_enough-2.ensures.end)
-    c.lost-then-not-is_enough-2.ensures.calm
+    c.in-Some-short.share (as_needed c.args.key.now _ c.slot_all.new.seats _ c.args.table.plan.lists _ c.need_of-need.ensures c.as_slice-3.ensures c.in-Some-short.ensures) c.lost-in-Some-short.result c.lost-in-Some-short.ensures.end
+    c.lost-in-Some-short.ensures.calm
 
-pub returns-then-not-is_enough-2-clause-moments : goal.returns-then-not-is_enough-2-clause-moments
-returns-then-not-is_enough-2-clause-moments g c =
+pub returns-in-Some-short-clause-moments : goal.returns-in-Some-short-clause-moments
+returns-in-Some-short-clause-moments g c =
     let claimed = c.claim_all.ensures in
     let slotted = c.slot_all.ensures in
     second_moments g.S.Shelf c.args.key.now c.args.hand c.args.table c.requires.ready c.args.shelf.now c.claim_all.new.shelf c.claim_all.new.seats claimed.left claimed.moments claimed.end claimed.passed claimed.kept
-    (ap (is_enough c.args.key.now) (sym c.as_slice-2.ensures) ∙ sym c.is_enough.ensures ∙ c.if-not-is_enough.false) c.spell-text.result.bytes c.spell-text.result.body.now c.spell-text.ensures.spelled c.slot_all.new.shelf c.slot_all.new.seats slotted.left
+    (as_needed c.args.key.now _ c.claim_all.new.seats _ c.args.table.plan.lists _ c.need_of-need.ensures c.as_slice-2.ensures c.short.ensures ∙ c.in_default.is) c.spell-text.result.bytes c.spell-text.result.body.now c.spell-text.ensures.spelled c.slot_all.new.shelf c.slot_all.new.seats slotted.left
     slotted.moments slotted.end slotted.passed slotted.kept
 
-pub returns-then-not-is_enough-2-clause-synced : goal.returns-then-not-is_enough-2-clause-synced
-returns-then-not-is_enough-2-clause-synced g c =
+pub returns-in-Some-short-clause-synced : goal.returns-in-Some-short-clause-synced
+returns-in-Some-short-clause-synced g c =
     let claimed = c.claim_all.ensures in
     let slotted = c.slot_all.ensures in
     second_synced g.S.Shelf c.args.key.now c.args.hand c.args.table c.requires.ready c.args.shelf.now c.claim_all.new.shelf c.claim_all.new.seats claimed.left claimed.moments claimed.end claimed.passed claimed.kept
-    (ap (is_enough c.args.key.now) (sym c.as_slice-2.ensures) ∙ sym c.is_enough.ensures ∙ c.if-not-is_enough.false) c.spell-text.result.bytes c.spell-text.result.body.now c.spell-text.ensures.spelled c.slot_all.new.shelf c.slot_all.new.seats slotted.left
+    (as_needed c.args.key.now _ c.claim_all.new.seats _ c.args.table.plan.lists _ c.need_of-need.ensures c.as_slice-2.ensures c.short.ensures ∙ c.in_default.is) c.spell-text.result.bytes c.spell-text.result.body.now c.spell-text.ensures.spelled c.slot_all.new.shelf c.slot_all.new.seats slotted.left
     slotted.moments slotted.end slotted.passed slotted.kept
 
-pub returns-then-not-is_enough-2-clause-counted : goal.returns-then-not-is_enough-2-clause-counted
-returns-then-not-is_enough-2-clause-counted g c =
+pub returns-in-Some-short-clause-counted : goal.returns-in-Some-short-clause-counted
+returns-in-Some-short-clause-counted g c =
     let claimed = c.claim_all.ensures in
     let slotted = c.slot_all.ensures in (
       lost_counted g.S.Shelf c.args.key.now c.args.hand c.args.table c.requires.ready c.args.shelf.now c.claim_all.new.shelf c.claim_all.new.seats claimed.left claimed.moments claimed.end claimed.passed claimed.kept
-          (ap (is_enough c.args.key.now) (sym c.as_slice-2.ensures) ∙ sym c.is_enough.ensures ∙ c.if-not-is_enough.false) c.spell-text.result.bytes c.spell-text.result.body.now c.spell-text.ensures.spelled c.slot_all.new.shelf c.slot_all.new.seats slotted.left
+          (as_needed c.args.key.now _ c.claim_all.new.seats _ c.args.table.plan.lists _ c.need_of-need.ensures c.as_slice-2.ensures c.short.ensures ∙ c.in_default.is) c.spell-text.result.bytes c.spell-text.result.body.now c.spell-text.ensures.spelled c.slot_all.new.shelf c.slot_all.new.seats slotted.left
           slotted.moments slotted.end slotted.passed slotted.kept
-          (ap (is_enough c.args.key.now) (sym c.as_slice-3.ensures) ∙ sym c.is_enough-2.ensures ∙ c.if-not-is_enough-2.true) c.lost-then-not-is_enough-2.result (rw c.as_slice-then-not-is_enough-2.ensures at c.lost-then-not-is_enough-2.ensures.end)
-          c.lost-then-not-is_enough-2.ensures.calm,
+          c.in-Some-short.share (as_needed c.args.key.now _ c.slot_all.new.seats _ c.args.table.plan.lists _ c.need_of-need.ensures c.as_slice-3.ensures c.in-Some-short.ensures) c.lost-in-Some-short.result c.lost-in-Some-short.ensures.end
+          c.lost-in-Some-short.ensures.calm,
       both_kept g.S.Shelf c.args.key.now c.args.hand c.args.table c.requires.ready c.args.shelf.now c.claim_all.new.shelf c.claim_all.new.seats claimed.left claimed.moments claimed.end claimed.passed claimed.kept
-          (ap (is_enough c.args.key.now) (sym c.as_slice-2.ensures) ∙ sym c.is_enough.ensures ∙ c.if-not-is_enough.false) c.spell-text.result.bytes c.spell-text.result.body.now c.spell-text.ensures.spelled c.slot_all.new.shelf c.slot_all.new.seats slotted.left
+          (as_needed c.args.key.now _ c.claim_all.new.seats _ c.args.table.plan.lists _ c.need_of-need.ensures c.as_slice-2.ensures c.short.ensures ∙ c.in_default.is) c.spell-text.result.bytes c.spell-text.result.body.now c.spell-text.ensures.spelled c.slot_all.new.shelf c.slot_all.new.seats slotted.left
           slotted.moments slotted.end slotted.passed slotted.kept,
     )
 
@@ -110,25 +86,25 @@ invariant_of-result g c =
     let claimed = c.claim_all.ensures in
     let slotted = c.slot_all.ensures in
     done_open c.args.hand c.args.table c.requires.ready (DriveFailures g.S.Shelf c.args.shelf.now c.slot_all.new.shelf) c.spell-text.result.bytes c.args.key.now c.slot_all.new.seats (all_took g.S.Shelf c.args.key.now c.args.hand c.args.table c.requires.ready c.args.shelf.now c.claim_all.new.shelf c.claim_all.new.seats claimed.left claimed.moments claimed.end claimed.passed claimed.kept
-    (ap (is_enough c.args.key.now) (sym c.as_slice-2.ensures) ∙ sym c.is_enough.ensures ∙ c.if-not-is_enough.false) c.spell-text.result.bytes c.spell-text.result.body.now c.spell-text.ensures.spelled c.slot_all.new.shelf c.slot_all.new.seats slotted.left
+    (as_needed c.args.key.now _ c.claim_all.new.seats _ c.args.table.plan.lists _ c.need_of-need.ensures c.as_slice-2.ensures c.short.ensures ∙ c.in_default.is) c.spell-text.result.bytes c.spell-text.result.body.now c.spell-text.ensures.spelled c.slot_all.new.shelf c.slot_all.new.seats slotted.left
     slotted.moments slotted.end slotted.passed slotted.kept
-    (ap (is_enough c.args.key.now) (sym c.as_slice-3.ensures) ∙ sym c.is_enough-2.ensures ∙ c.if-not-is_enough-2.false)) _ c.requires.ready.whole
+    (as_needed c.args.key.now _ c.slot_all.new.seats _ c.args.table.plan.lists _ c.need_of-need.ensures c.as_slice-3.ensures c.short-2.ensures ∙ c.in_default-short.is)) _ c.requires.ready.whole
 
 pub returns-clause-answer : goal.returns-clause-answer
 returns-clause-answer g c =
     let claimed = c.claim_all.ensures in
     let slotted = c.slot_all.ensures in
     done_answer g.S.Shelf c.args.key.now c.args.hand c.args.table c.requires.ready c.args.shelf.now c.claim_all.new.shelf c.claim_all.new.seats claimed.left claimed.moments claimed.end claimed.passed claimed.kept
-    (ap (is_enough c.args.key.now) (sym c.as_slice-2.ensures) ∙ sym c.is_enough.ensures ∙ c.if-not-is_enough.false) c.spell-text.result.bytes c.spell-text.result.body.now c.spell-text.ensures.spelled c.slot_all.new.shelf c.slot_all.new.seats slotted.left
+    (as_needed c.args.key.now _ c.claim_all.new.seats _ c.args.table.plan.lists _ c.need_of-need.ensures c.as_slice-2.ensures c.short.ensures ∙ c.in_default.is) c.spell-text.result.bytes c.spell-text.result.body.now c.spell-text.ensures.spelled c.slot_all.new.shelf c.slot_all.new.seats slotted.left
     slotted.moments slotted.end slotted.passed slotted.kept
-    (ap (is_enough c.args.key.now) (sym c.as_slice-3.ensures) ∙ sym c.is_enough-2.ensures ∙ c.if-not-is_enough-2.false) _ (ap (λ (n : ℕ). nat_eq n c.active-readable.result) (c.active.ensures ∙ ap active_of c.as_slice-4.ensures) ∙ ap (λ (n : ℕ). nat_eq (active_of c.slot_all.new.seats) n) (c.active-readable.ensures ∙ ap active_of c.as_slice.ensures))
+    (as_needed c.args.key.now _ c.slot_all.new.seats _ c.args.table.plan.lists _ c.need_of-need.ensures c.as_slice-3.ensures c.short-2.ensures ∙ c.in_default-short.is) _ (ap (λ (n : ℕ). nat_eq n c.active-readable.result) (c.active.ensures ∙ ap active_of c.as_slice-4.ensures) ∙ ap (λ (n : ℕ). nat_eq (active_of c.slot_all.new.seats) n) (c.active-readable.ensures ∙ ap active_of c.as_slice.ensures))
 
 pub returns-clause-moments : goal.returns-clause-moments
 returns-clause-moments g c =
     let claimed = c.claim_all.ensures in
     let slotted = c.slot_all.ensures in
     second_moments g.S.Shelf c.args.key.now c.args.hand c.args.table c.requires.ready c.args.shelf.now c.claim_all.new.shelf c.claim_all.new.seats claimed.left claimed.moments claimed.end claimed.passed claimed.kept
-    (ap (is_enough c.args.key.now) (sym c.as_slice-2.ensures) ∙ sym c.is_enough.ensures ∙ c.if-not-is_enough.false) c.spell-text.result.bytes c.spell-text.result.body.now c.spell-text.ensures.spelled c.slot_all.new.shelf c.slot_all.new.seats slotted.left
+    (as_needed c.args.key.now _ c.claim_all.new.seats _ c.args.table.plan.lists _ c.need_of-need.ensures c.as_slice-2.ensures c.short.ensures ∙ c.in_default.is) c.spell-text.result.bytes c.spell-text.result.body.now c.spell-text.ensures.spelled c.slot_all.new.shelf c.slot_all.new.seats slotted.left
     slotted.moments slotted.end slotted.passed slotted.kept
 
 pub returns-clause-end : goal.returns-clause-end
@@ -136,16 +112,16 @@ returns-clause-end g c =
     let claimed = c.claim_all.ensures in
     let slotted = c.slot_all.ensures in
     done_end g.S.Shelf c.args.key.now c.args.hand c.args.table c.requires.ready c.args.shelf.now c.claim_all.new.shelf c.claim_all.new.seats claimed.left claimed.moments claimed.end claimed.passed claimed.kept
-    (ap (is_enough c.args.key.now) (sym c.as_slice-2.ensures) ∙ sym c.is_enough.ensures ∙ c.if-not-is_enough.false) c.spell-text.result.bytes c.spell-text.result.body.now c.spell-text.ensures.spelled c.slot_all.new.shelf c.slot_all.new.seats slotted.left
+    (as_needed c.args.key.now _ c.claim_all.new.seats _ c.args.table.plan.lists _ c.need_of-need.ensures c.as_slice-2.ensures c.short.ensures ∙ c.in_default.is) c.spell-text.result.bytes c.spell-text.result.body.now c.spell-text.ensures.spelled c.slot_all.new.shelf c.slot_all.new.seats slotted.left
     slotted.moments slotted.end slotted.passed slotted.kept
-    (ap (is_enough c.args.key.now) (sym c.as_slice-3.ensures) ∙ sym c.is_enough-2.ensures ∙ c.if-not-is_enough-2.false)
+    (as_needed c.args.key.now _ c.slot_all.new.seats _ c.args.table.plan.lists _ c.need_of-need.ensures c.as_slice-3.ensures c.short-2.ensures ∙ c.in_default-short.is)
 
 pub returns-clause-synced : goal.returns-clause-synced
 returns-clause-synced g c =
     let claimed = c.claim_all.ensures in
     let slotted = c.slot_all.ensures in
     second_synced g.S.Shelf c.args.key.now c.args.hand c.args.table c.requires.ready c.args.shelf.now c.claim_all.new.shelf c.claim_all.new.seats claimed.left claimed.moments claimed.end claimed.passed claimed.kept
-    (ap (is_enough c.args.key.now) (sym c.as_slice-2.ensures) ∙ sym c.is_enough.ensures ∙ c.if-not-is_enough.false) c.spell-text.result.bytes c.spell-text.result.body.now c.spell-text.ensures.spelled c.slot_all.new.shelf c.slot_all.new.seats slotted.left
+    (as_needed c.args.key.now _ c.claim_all.new.seats _ c.args.table.plan.lists _ c.need_of-need.ensures c.as_slice-2.ensures c.short.ensures ∙ c.in_default.is) c.spell-text.result.bytes c.spell-text.result.body.now c.spell-text.ensures.spelled c.slot_all.new.shelf c.slot_all.new.seats slotted.left
     slotted.moments slotted.end slotted.passed slotted.kept
 
 pub returns-clause-counted : goal.returns-clause-counted
@@ -153,10 +129,10 @@ returns-clause-counted g c =
     let claimed = c.claim_all.ensures in
     let slotted = c.slot_all.ensures in (
       done_counted g.S.Shelf c.args.key.now c.args.hand c.args.table c.requires.ready c.args.shelf.now c.claim_all.new.shelf c.claim_all.new.seats claimed.left claimed.moments claimed.end claimed.passed claimed.kept
-          (ap (is_enough c.args.key.now) (sym c.as_slice-2.ensures) ∙ sym c.is_enough.ensures ∙ c.if-not-is_enough.false) c.spell-text.result.bytes c.spell-text.result.body.now c.spell-text.ensures.spelled c.slot_all.new.shelf c.slot_all.new.seats slotted.left
+          (as_needed c.args.key.now _ c.claim_all.new.seats _ c.args.table.plan.lists _ c.need_of-need.ensures c.as_slice-2.ensures c.short.ensures ∙ c.in_default.is) c.spell-text.result.bytes c.spell-text.result.body.now c.spell-text.ensures.spelled c.slot_all.new.shelf c.slot_all.new.seats slotted.left
           slotted.moments slotted.end slotted.passed slotted.kept
-          (ap (is_enough c.args.key.now) (sym c.as_slice-3.ensures) ∙ sym c.is_enough-2.ensures ∙ c.if-not-is_enough-2.false) _ (ap (λ (n : ℕ). nat_eq n c.active-readable.result) (c.active.ensures ∙ ap active_of c.as_slice-4.ensures) ∙ ap (λ (n : ℕ). nat_eq (active_of c.slot_all.new.seats) n) (c.active-readable.ensures ∙ ap active_of c.as_slice.ensures)),
+          (as_needed c.args.key.now _ c.slot_all.new.seats _ c.args.table.plan.lists _ c.need_of-need.ensures c.as_slice-3.ensures c.short-2.ensures ∙ c.in_default-short.is) _ (ap (λ (n : ℕ). nat_eq n c.active-readable.result) (c.active.ensures ∙ ap active_of c.as_slice-4.ensures) ∙ ap (λ (n : ℕ). nat_eq (active_of c.slot_all.new.seats) n) (c.active-readable.ensures ∙ ap active_of c.as_slice.ensures)),
       both_kept g.S.Shelf c.args.key.now c.args.hand c.args.table c.requires.ready c.args.shelf.now c.claim_all.new.shelf c.claim_all.new.seats claimed.left claimed.moments claimed.end claimed.passed claimed.kept
-          (ap (is_enough c.args.key.now) (sym c.as_slice-2.ensures) ∙ sym c.is_enough.ensures ∙ c.if-not-is_enough.false) c.spell-text.result.bytes c.spell-text.result.body.now c.spell-text.ensures.spelled c.slot_all.new.shelf c.slot_all.new.seats slotted.left
+          (as_needed c.args.key.now _ c.claim_all.new.seats _ c.args.table.plan.lists _ c.need_of-need.ensures c.as_slice-2.ensures c.short.ensures ∙ c.in_default.is) c.spell-text.result.bytes c.spell-text.result.body.now c.spell-text.ensures.spelled c.slot_all.new.shelf c.slot_all.new.seats slotted.left
           slotted.moments slotted.end slotted.passed slotted.kept,
     )

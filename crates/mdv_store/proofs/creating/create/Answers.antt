@@ -8,16 +8,19 @@ use Rattle.mdv_store.specs.Below.{Table, places_of, record_text}
 use Rattle.mdv_store.specs.Counts.{ArePassCounted}
 use Rattle.mdv_store.specs.Create.{CreateEnds, IsCreated, IsCreationCounted, drives_asked, seats_asked, table_of}
 use Rattle.mdv_store.specs.Opened.{IsOpen, least_room}
-use Rattle.mdv_store.specs.Seats.{AreLaid, AreLeft, HaveRoom, TakesSlot, active_of, drives_of, is_half_active}
+use Rattle.mdv_store.specs.Seats.{AreLaid, AreLeft, HaveRoom, TakesSlot, drives_of}
+use Rattle.mdv_store.specs.Shares.{short_of}
+use Rattle.mdv_store.specs.declared.seats.Need.TheVariants.{Half}
 use Rattle.mdv_store.specs.Text.{blocks_for}
 use Rattle.mdv_store.specs.Writing.{WereWritten, WritingEnds, WritingMoment, text_size}
 use Rattle.mdv_store.specs.declared.creating.CreateFault.{CreateFault}
 use Rattle.mdv_store.specs.declared.seats.Seat.{Seat}
 use Rattle.mdv_store.proofs.Acting.{gone_then, stopped_front, stopped_then}
 use Rattle.mdv_store.proofs.Given.{IsOwner}
-use Rattle.mdv_store.proofs.Making.{all_kept, few_new, lost_counted, lost_created, lost_end, made_counted, made_created, made_end, made_open, memory_created, memory_moments, stopped_counted, stopped_created, stopped_end, stopped_moments, written_moments}
+use Rattle.mdv_store.proofs.Making.{all_kept, lost_counted, lost_created, lost_end, made_counted, made_created, made_end, made_open, memory_created, memory_moments, stopped_counted, stopped_created, stopped_end, stopped_moments, written_moments}
 use Rattle.mdv_record.proofs.Rooms.{room_most}
-use Rattle.mdv_store.proofs.Seated.{room_asked, room_for_text, seats_laid, seats_of_table, text_asked}
+use Rattle.mdv_store.proofs.Seated.{room_asked, room_for_text, seats_laid, text_asked}
+use Rattle.mdv_store.proofs.Spotting.{asked_length}
 use Rattle.mdv_store.proofs.creating.create.Goals as goal
 use Rattle.mdv_store.proofs.creating.create.Goals.{After-check_owner, After-clear_all, After-format_all, After-deref_mut}
 
@@ -45,7 +48,7 @@ returns-in_err-room-clause-moments g c =
 pub table_asked-table-requires : goal.table_asked-table-requires
 table_asked-table-requires g c =
     subst (λ (l : List Seat). length l ≤ 50) (sym (c.as_slice.ensures ∙ c.in_ok-seats.ensures))
-    (seats_of_table c.args.key.now c.args.identity c.args.count c.args.blocks c.args.lines.now (g.S.Shelf.sizes c.args.shelf.now) c.requires.asked).few
+    (let few = c.requires.asked.few in omega (arith, asked_length c.args.key.now c.args.identity c.args.count c.args.blocks c.args.lines.now, few))
 
 -- a call failed while masters were blanked
 cleared : (g : _) (c : After-clear_all g) → HaveStopped g.S.Shelf c.args.shelf.now c.clear_all.new.shelf (drives_asked c.args.lines.now) (blanks_asked c.args.lines.now c.args.count c.args.blocks) → HaveStopped g.S.Shelf c.args.shelf.now c.clear_all.new.shelf (drives_asked c.args.lines.now) ((blanks_asked c.args.lines.now c.args.count c.args.blocks) ++ (forms_asked c.args.key.now c.args.identity c.args.lines.now c.args.count c.args.blocks))
@@ -109,7 +112,7 @@ as_made : (g : _) (c : After-deref_mut g) (P : List Seat → Table → Type 0) �
 as_made g c P is = subst (λ (l : List Seat). P l c.table_asked-table.result) (sym c.in_ok-seats.ensures) (subst (λ (u : Table). P (seats g c) u) (sym (table_is g c)) is)
 
 room_is : (g : _) (c : After-deref_mut g) → length c.in_ok-room.room.items ≡ least_room (map (λ (s : Seat). s.place) (seats g c))
-room_is g c = c.in_ok-room.ensures ∙ c.least_room.ensures.value ∙ ap least_room (c.places.ensures.value ∙ ap (λ (u : Table). places_of u.plan.lists) (table_is g c))
+room_is g c = c.in_ok-room.ensures ∙ c.least_room.ensures.value ∙ ap least_room (ap (λ (u : Table). places_of u.plan.lists) (table_is g c))
 
 room_now : (g : _) (c : After-deref_mut g) → length c.deref_mut.result.now ≡ least_room (map (λ (s : Seat). s.place) (seats g c))
 room_now g c = ap length c.deref_mut.ensures.value ∙ room_is g c
@@ -147,54 +150,40 @@ pub write_all-requires-clause-short : goal.write_all-requires-clause-short
 write_all-requires-clause-short g c = (let room = room_now g c in let most = room_most (map (λ (s : Seat). s.place) (seats g c)) in omega (arith, room, most))
 
 -- Behind the writing.
-pub is_half_active-requires : goal.is_half_active-requires
-is_half_active-requires g c =
-    let d = (goal.at.is_half_active-requires g c).After-deref_mut in
-    let own = owner g (goal.at.is_half_active-requires g c).After-check_owner in
-    let left = as_asked g d (λ l u. AreLeft (DriveFailures g.S.Shelf c.format_all.new.shelf c.write_all.new.shelf) (TakesSlot first_mark (text_size u)) l c.write_all.new.seats) c.write_all.ensures.left in
-    subst (λ (l : List Seat). length l ≤ 50) (sym c.as_slice-2.ensures) (few_new g.S.Shelf c.args.key.now c.args.identity c.args.lines.now c.args.count c.args.blocks c.args.shelf.now c.requires.asked own c.format_all.new.shelf c.write_all.new.shelf c.write_all.new.seats (gone g d) left)
-
-pub lost-requires : goal.lost-requires
-lost-requires g c =
-    let d = (goal.at.lost-requires g c).After-deref_mut in
-    let own = owner g (goal.at.lost-requires g c).After-check_owner in
-    let left = as_asked g d (λ l u. AreLeft (DriveFailures g.S.Shelf c.format_all.new.shelf c.write_all.new.shelf) (TakesSlot first_mark (text_size u)) l c.write_all.new.seats) c.write_all.ensures.left in
-    subst (λ (l : List Seat). length l ≤ 50) (sym c.as_slice-then-not-is_half_active.ensures) (few_new g.S.Shelf c.args.key.now c.args.identity c.args.lines.now c.args.count c.args.blocks c.args.shelf.now c.requires.asked own c.format_all.new.shelf c.write_all.new.shelf c.write_all.new.seats (gone g d) left)
-
-pub returns-then-not-is_half_active-clause-answer : goal.returns-then-not-is_half_active-clause-answer
-returns-then-not-is_half_active-clause-answer g c =
-    let d = (goal.at.returns-then-not-is_half_active-clause-answer g c).After-deref_mut in
-    let own = owner g (goal.at.returns-then-not-is_half_active-clause-answer g c).After-check_owner in
+pub returns-in-Some-clause-answer : goal.returns-in-Some-clause-answer
+returns-in-Some-clause-answer g c =
+    let d = (goal.at.returns-in-Some-clause-answer g c).After-deref_mut in
+    let own = owner g (goal.at.returns-in-Some-clause-answer g c).After-check_owner in
     let left = as_asked g d (λ l u. AreLeft (DriveFailures g.S.Shelf c.format_all.new.shelf c.write_all.new.shelf) (TakesSlot first_mark (text_size u)) l c.write_all.new.seats) c.write_all.ensures.left in
     subst (λ (f : CreateFault). IsCreated g.S.Shelf c.args.shelf.now c.write_all.new.shelf c.args.key.now c.args.identity c.args.lines.now c.args.count c.args.blocks (Err f)) (sym c.lost.ensures)
-    (lost_created g.S.Shelf c.args.key.now c.args.identity c.args.lines.now c.args.count c.args.blocks c.args.shelf.now c.requires.asked own c.format_all.new.shelf c.write_all.new.shelf c.write_all.new.seats (gone g d) left (active_of c.as_slice-then-not-is_half_active.result.now) (length c.as_slice-then-not-is_half_active.result.now) (ap is_half_active (sym c.as_slice-2.ensures) ∙ (sym c.is_half_active.ensures ∙ c.if-not-is_half_active.true)) (ap active_of c.as_slice-then-not-is_half_active.ensures) (ap length c.as_slice-then-not-is_half_active.ensures) (as_asked g d (λ l u. WereWritten g.S.Shelf first_mark u c.format_all.new.shelf c.write_all.new.shelf l c.write_all.new.seats) c.write_all.ensures.passed) (as_asked g d (λ l u. KeptAmong g.S.Shelf c.format_all.new.shelf c.write_all.new.shelf (drives_of l)) c.write_all.ensures.kept) (as_asked g d (λ l u. AtEachTale g.S.Shelf (WritingMoment l first_mark u) c.format_all.new.shelf c.write_all.new.shelf) c.write_all.ensures.moments) (as_asked g d (λ l u. AtEnd g.S.Shelf (WritingEnds l c.write_all.new.seats first_mark u) c.format_all.new.shelf c.write_all.new.shelf) c.write_all.ensures.end))
+    (lost_created g.S.Shelf c.args.key.now c.args.identity c.args.lines.now c.args.count c.args.blocks c.args.shelf.now c.requires.asked own c.format_all.new.shelf c.write_all.new.shelf c.write_all.new.seats (gone g d) left c.in-Some.share.active c.in-Some.share.listed (ap (λ (u : Table). short_of Half c.write_all.new.seats u.plan.lists) (sym (table_is g d)) ∙ ap (λ (l : List Seat). short_of Half l c.table_asked-table.result.plan.lists) (sym c.as_slice-2.ensures) ∙ sym c.in-Some.ensures) (as_asked g d (λ l u. WereWritten g.S.Shelf first_mark u c.format_all.new.shelf c.write_all.new.shelf l c.write_all.new.seats) c.write_all.ensures.passed) (as_asked g d (λ l u. KeptAmong g.S.Shelf c.format_all.new.shelf c.write_all.new.shelf (drives_of l)) c.write_all.ensures.kept) (as_asked g d (λ l u. AtEachTale g.S.Shelf (WritingMoment l first_mark u) c.format_all.new.shelf c.write_all.new.shelf) c.write_all.ensures.moments) (as_asked g d (λ l u. AtEnd g.S.Shelf (WritingEnds l c.write_all.new.seats first_mark u) c.format_all.new.shelf c.write_all.new.shelf) c.write_all.ensures.end))
 
-pub returns-then-not-is_half_active-clause-moments : goal.returns-then-not-is_half_active-clause-moments
-returns-then-not-is_half_active-clause-moments g c =
-    let d = (goal.at.returns-then-not-is_half_active-clause-moments g c).After-deref_mut in
-    let own = owner g (goal.at.returns-then-not-is_half_active-clause-moments g c).After-check_owner in
+pub returns-in-Some-clause-moments : goal.returns-in-Some-clause-moments
+returns-in-Some-clause-moments g c =
+    let d = (goal.at.returns-in-Some-clause-moments g c).After-deref_mut in
+    let own = owner g (goal.at.returns-in-Some-clause-moments g c).After-check_owner in
     let left = as_asked g d (λ l u. AreLeft (DriveFailures g.S.Shelf c.format_all.new.shelf c.write_all.new.shelf) (TakesSlot first_mark (text_size u)) l c.write_all.new.seats) c.write_all.ensures.left in
     written_moments g.S.Shelf c.args.key.now c.args.identity c.args.lines.now c.args.count c.args.blocks c.args.shelf.now c.requires.asked own c.format_all.new.shelf c.write_all.new.shelf c.write_all.new.seats (gone g d) left (as_asked g d (λ l u. AtEachTale g.S.Shelf (WritingMoment l first_mark u) c.format_all.new.shelf c.write_all.new.shelf) c.write_all.ensures.moments)
 
-pub returns-then-not-is_half_active-clause-end : goal.returns-then-not-is_half_active-clause-end
-returns-then-not-is_half_active-clause-end g c =
-    let d = (goal.at.returns-then-not-is_half_active-clause-end g c).After-deref_mut in
-    let own = owner g (goal.at.returns-then-not-is_half_active-clause-end g c).After-check_owner in
+pub returns-in-Some-clause-end : goal.returns-in-Some-clause-end
+returns-in-Some-clause-end g c =
+    let d = (goal.at.returns-in-Some-clause-end g c).After-deref_mut in
+    let own = owner g (goal.at.returns-in-Some-clause-end g c).After-check_owner in
     let left = as_asked g d (λ l u. AreLeft (DriveFailures g.S.Shelf c.format_all.new.shelf c.write_all.new.shelf) (TakesSlot first_mark (text_size u)) l c.write_all.new.seats) c.write_all.ensures.left in
-    subst (λ (f : CreateFault). AtEnd g.S.Shelf (CreateEnds c.args.key.now c.args.identity c.args.lines.now c.args.count c.args.blocks (Err f)) c.args.shelf.now c.write_all.new.shelf) (sym c.lost.ensures) (lost_end g.S.Shelf c.args.key.now c.args.identity c.args.lines.now c.args.count c.args.blocks c.args.shelf.now c.requires.asked own c.format_all.new.shelf c.write_all.new.shelf c.write_all.new.seats (gone g d) left (active_of c.as_slice-then-not-is_half_active.result.now) (length c.as_slice-then-not-is_half_active.result.now) (as_asked g d (λ l u. AtEnd g.S.Shelf (WritingEnds l c.write_all.new.seats first_mark u) c.format_all.new.shelf c.write_all.new.shelf) c.write_all.ensures.end))
+    subst (λ (f : CreateFault). AtEnd g.S.Shelf (CreateEnds c.args.key.now c.args.identity c.args.lines.now c.args.count c.args.blocks (Err f)) c.args.shelf.now c.write_all.new.shelf) (sym c.lost.ensures) (lost_end g.S.Shelf c.args.key.now c.args.identity c.args.lines.now c.args.count c.args.blocks c.args.shelf.now c.requires.asked own c.format_all.new.shelf c.write_all.new.shelf c.write_all.new.seats (gone g d) left c.in-Some.share.active c.in-Some.share.listed (as_asked g d (λ l u. AtEnd g.S.Shelf (WritingEnds l c.write_all.new.seats first_mark u) c.format_all.new.shelf c.write_all.new.shelf) c.write_all.ensures.end))
 
-pub returns-then-not-is_half_active-clause-counted : goal.returns-then-not-is_half_active-clause-counted
-returns-then-not-is_half_active-clause-counted g c =
-    let d = (goal.at.returns-then-not-is_half_active-clause-counted g c).After-deref_mut in
-    let own = owner g (goal.at.returns-then-not-is_half_active-clause-counted g c).After-check_owner in
+pub returns-in-Some-clause-counted : goal.returns-in-Some-clause-counted
+returns-in-Some-clause-counted g c =
+    let d = (goal.at.returns-in-Some-clause-counted g c).After-deref_mut in
+    let own = owner g (goal.at.returns-in-Some-clause-counted g c).After-check_owner in
     let left = as_asked g d (λ l u. AreLeft (DriveFailures g.S.Shelf c.format_all.new.shelf c.write_all.new.shelf) (TakesSlot first_mark (text_size u)) l c.write_all.new.seats) c.write_all.ensures.left in
     subst (λ (f : CreateFault). IsCreationCounted g.S.Shelf c.args.shelf.now c.write_all.new.shelf c.args.lines.now c.args.count c.args.blocks (Err f)) (sym c.lost.ensures)
-    (lost_counted g.S.Shelf c.args.key.now c.args.identity c.args.lines.now c.args.count c.args.blocks c.args.shelf.now c.requires.asked own c.format_all.new.shelf c.write_all.new.shelf c.write_all.new.seats (gone g d) left (as_asked g d (λ l u. ArePassCounted g.S.Shelf c.format_all.new.shelf c.write_all.new.shelf 6 (2 + blocks_for (text_size u)) l c.write_all.new.seats) c.write_all.ensures.passed.counted) (active_of c.as_slice-then-not-is_half_active.result.now) (length c.as_slice-then-not-is_half_active.result.now) (ap is_half_active (sym c.as_slice-2.ensures) ∙ (sym c.is_half_active.ensures ∙ c.if-not-is_half_active.true)))
+    (lost_counted g.S.Shelf c.args.key.now c.args.identity c.args.lines.now c.args.count c.args.blocks c.args.shelf.now c.requires.asked own c.format_all.new.shelf c.write_all.new.shelf c.write_all.new.seats (gone g d) left (as_asked g d (λ l u. ArePassCounted g.S.Shelf c.format_all.new.shelf c.write_all.new.shelf 6 (2 + blocks_for (text_size u)) l c.write_all.new.seats) c.write_all.ensures.passed.counted) c.in-Some.share.active c.in-Some.share.listed)
 
-pub returns-then-not-is_half_active-clause-kept : goal.returns-then-not-is_half_active-clause-kept
-returns-then-not-is_half_active-clause-kept g c =
-    let d = (goal.at.returns-then-not-is_half_active-clause-kept g c).After-deref_mut in
-    let own = owner g (goal.at.returns-then-not-is_half_active-clause-kept g c).After-check_owner in
+pub returns-in-Some-clause-kept : goal.returns-in-Some-clause-kept
+returns-in-Some-clause-kept g c =
+    let d = (goal.at.returns-in-Some-clause-kept g c).After-deref_mut in
+    let own = owner g (goal.at.returns-in-Some-clause-kept g c).After-check_owner in
     let left = as_asked g d (λ l u. AreLeft (DriveFailures g.S.Shelf c.format_all.new.shelf c.write_all.new.shelf) (TakesSlot first_mark (text_size u)) l c.write_all.new.seats) c.write_all.ensures.left in
     all_kept g.S.Shelf c.args.key.now c.args.identity c.args.lines.now c.args.count c.args.blocks c.args.shelf.now c.requires.asked own c.format_all.new.shelf c.write_all.new.shelf c.write_all.new.seats (gone g d) left (as_asked g d (λ l u. KeptAmong g.S.Shelf c.format_all.new.shelf c.write_all.new.shelf (drives_of l)) c.write_all.ensures.kept)
 
@@ -211,7 +200,7 @@ returns-clause-answer g c =
     let d = (goal.at.returns-clause-answer g c).After-deref_mut in
     let own = owner g (goal.at.returns-clause-answer g c).After-check_owner in
     let left = as_asked g d (λ l u. AreLeft (DriveFailures g.S.Shelf c.format_all.new.shelf c.write_all.new.shelf) (TakesSlot first_mark (text_size u)) l c.write_all.new.seats) c.write_all.ensures.left in
-    subst (λ (u : Table). IsCreated g.S.Shelf c.args.shelf.now c.write_all.new.shelf c.args.key.now c.args.identity c.args.lines.now c.args.count c.args.blocks (Ok (record { key = c.args.key.now; identity = c.args.identity; mark = first_mark; table = u; seats = c.write_all.new.seats }))) (sym (table_is g d)) (made_created g.S.Shelf c.args.key.now c.args.identity c.args.lines.now c.args.count c.args.blocks c.args.shelf.now c.requires.asked own c.format_all.new.shelf c.write_all.new.shelf c.write_all.new.seats (gone g d) left (ap is_half_active (sym c.as_slice-2.ensures) ∙ (sym c.is_half_active.ensures ∙ c.if-not-is_half_active.false)) (as_asked g d (λ l u. WereWritten g.S.Shelf first_mark u c.format_all.new.shelf c.write_all.new.shelf l c.write_all.new.seats) c.write_all.ensures.passed) (as_asked g d (λ l u. KeptAmong g.S.Shelf c.format_all.new.shelf c.write_all.new.shelf (drives_of l)) c.write_all.ensures.kept) (as_asked g d (λ l u. AtEachTale g.S.Shelf (WritingMoment l first_mark u) c.format_all.new.shelf c.write_all.new.shelf) c.write_all.ensures.moments) (as_asked g d (λ l u. AtEnd g.S.Shelf (WritingEnds l c.write_all.new.seats first_mark u) c.format_all.new.shelf c.write_all.new.shelf) c.write_all.ensures.end))
+    subst (λ (u : Table). IsCreated g.S.Shelf c.args.shelf.now c.write_all.new.shelf c.args.key.now c.args.identity c.args.lines.now c.args.count c.args.blocks (Ok (record { key = c.args.key.now; identity = c.args.identity; mark = first_mark; table = u; seats = c.write_all.new.seats }))) (sym (table_is g d)) (made_created g.S.Shelf c.args.key.now c.args.identity c.args.lines.now c.args.count c.args.blocks c.args.shelf.now c.requires.asked own c.format_all.new.shelf c.write_all.new.shelf c.write_all.new.seats (gone g d) left (ap (λ (u : Table). short_of Half c.write_all.new.seats u.plan.lists) (sym (table_is g d)) ∙ ap (λ (l : List Seat). short_of Half l c.table_asked-table.result.plan.lists) (sym c.as_slice-2.ensures) ∙ sym c.short.ensures ∙ c.in_default.is) (as_asked g d (λ l u. WereWritten g.S.Shelf first_mark u c.format_all.new.shelf c.write_all.new.shelf l c.write_all.new.seats) c.write_all.ensures.passed) (as_asked g d (λ l u. KeptAmong g.S.Shelf c.format_all.new.shelf c.write_all.new.shelf (drives_of l)) c.write_all.ensures.kept) (as_asked g d (λ l u. AtEachTale g.S.Shelf (WritingMoment l first_mark u) c.format_all.new.shelf c.write_all.new.shelf) c.write_all.ensures.moments) (as_asked g d (λ l u. AtEnd g.S.Shelf (WritingEnds l c.write_all.new.seats first_mark u) c.format_all.new.shelf c.write_all.new.shelf) c.write_all.ensures.end))
 
 pub returns-clause-moments : goal.returns-clause-moments
 returns-clause-moments g c =
@@ -225,7 +214,7 @@ returns-clause-end g c =
     let d = (goal.at.returns-clause-end g c).After-deref_mut in
     let own = owner g (goal.at.returns-clause-end g c).After-check_owner in
     let left = as_asked g d (λ l u. AreLeft (DriveFailures g.S.Shelf c.format_all.new.shelf c.write_all.new.shelf) (TakesSlot first_mark (text_size u)) l c.write_all.new.seats) c.write_all.ensures.left in
-    subst (λ (u : Table). AtEnd g.S.Shelf (CreateEnds c.args.key.now c.args.identity c.args.lines.now c.args.count c.args.blocks (Ok (record { key = c.args.key.now; identity = c.args.identity; mark = first_mark; table = u; seats = c.write_all.new.seats }))) c.args.shelf.now c.write_all.new.shelf) (sym (table_is g d)) (made_end g.S.Shelf c.args.key.now c.args.identity c.args.lines.now c.args.count c.args.blocks c.args.shelf.now c.requires.asked own c.format_all.new.shelf c.write_all.new.shelf c.write_all.new.seats (gone g d) left (ap is_half_active (sym c.as_slice-2.ensures) ∙ (sym c.is_half_active.ensures ∙ c.if-not-is_half_active.false)) (as_asked g d (λ l u. AtEnd g.S.Shelf (WritingEnds l c.write_all.new.seats first_mark u) c.format_all.new.shelf c.write_all.new.shelf) c.write_all.ensures.end))
+    subst (λ (u : Table). AtEnd g.S.Shelf (CreateEnds c.args.key.now c.args.identity c.args.lines.now c.args.count c.args.blocks (Ok (record { key = c.args.key.now; identity = c.args.identity; mark = first_mark; table = u; seats = c.write_all.new.seats }))) c.args.shelf.now c.write_all.new.shelf) (sym (table_is g d)) (made_end g.S.Shelf c.args.key.now c.args.identity c.args.lines.now c.args.count c.args.blocks c.args.shelf.now c.requires.asked own c.format_all.new.shelf c.write_all.new.shelf c.write_all.new.seats (gone g d) left (ap (λ (u : Table). short_of Half c.write_all.new.seats u.plan.lists) (sym (table_is g d)) ∙ ap (λ (l : List Seat). short_of Half l c.table_asked-table.result.plan.lists) (sym c.as_slice-2.ensures) ∙ sym c.short.ensures ∙ c.in_default.is) (as_asked g d (λ l u. AtEnd g.S.Shelf (WritingEnds l c.write_all.new.seats first_mark u) c.format_all.new.shelf c.write_all.new.shelf) c.write_all.ensures.end))
 
 pub returns-clause-counted : goal.returns-clause-counted
 returns-clause-counted g c =

@@ -130,7 +130,7 @@ returns-clause-counted g c =
       faulted = λ is. fault_then g.B.Shelf _ _ _ host command (fault_told g.B.Shelf _ _ host command before now _ answer piece (rw is at answers) by) (c.tell.ensures.counted.once (λ lost. subst IsLost is lost));
       lost = λ active listed is.
           let same = c.tell.ensures.counted.silent (subst IsLost (sym is) tt) in
-          subst (λ (x : g.row.B.Denot). LossCalls (made_of g.B.Shelf c.args.bench.now x) command host before × HasTriedAll g.B.Shelf c.args.bench.now x host command before active) (sym same) (lost_told g.B.Shelf _ _ host command before now _ answer active listed piece (rw is at answers) by);
+          subst (λ (x : g.row.B.Denot). LossCalls (made_of g.B.Shelf c.args.bench.now x) command host before × HasTriedAll g.B.Shelf c.args.bench.now x host command before active listed) (sym same) (lost_told g.B.Shelf _ _ host command before now _ answer active listed piece (rw is at answers) by);
       spent = λ is.
           let same = c.tell.ensures.counted.silent (subst IsLost (sym is) tt) in
           none_within g.B.Shelf _ _ 0 0 (same ∙ spent_told g.B.Shelf _ _ host command before now _ answer piece (rw is at answers) by);

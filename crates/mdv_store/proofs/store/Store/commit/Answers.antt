@@ -1,24 +1,25 @@
-use Rattle.std.proofs.Common.{◌≡◌, inl, ℕ, List, ◌≤◌, ◌∙◌, true, Err, ap, arith, length, refl, subst, sym, vec_len}
+use Rattle.std.proofs.Common.{◌≡◌, inl, ℕ, List, ◌≤◌, ◌∙◌, None, Err, ap, arith, length, refl, subst, sym, vec_len}
 use Rattle.mdv_shelf.specs.Moments.{Ends, Moments}
 use Rattle.mdv_shelf.specs.Shelves.{AtEnd, DriveFailures}
 use Rattle.mdv_store.specs.Below.{Failures, Geometry, IsOfGeometry, record_text}
 use Rattle.mdv_store.specs.Commit.{CameOfCommit, CommitDone, CommitMoment, IsCommitted, IsLostNow, next_mark, room_in}
-use Rattle.mdv_store.specs.Opened.{IsOpenedAt, Opened}
-use Rattle.mdv_store.specs.Seats.{AreLaid, TakesSlot, active_of, is_half_active}
+use Rattle.mdv_store.specs.Opened.{IsOpenedAt, Opened, shortage}
+use Rattle.mdv_store.specs.Seats.{AreLaid, TakesSlot}
+use Rattle.mdv_store.specs.Shares.{short_of}
 use Rattle.mdv_store.specs.Writing.{AreWrittenBy, WritingEnds}
+use Rattle.mdv_store.specs.declared.seats.Need.TheVariants.{Half}
 use Rattle.mdv_store.specs.declared.seats.Seat.{Seat}
 use Rattle.mdv_store.specs.declared.store.CommitFault.{CommitFault}
-use Rattle.mdv_store.specs.declared.store.CommitFault.TheVariants.{Lost}
 use Rattle.mdv_store.proofs.Committing.{IsCommitting, commit_ends, commit_moments, committed, left_ends, lost_now, lost_open, new_open, none_moments}
 use Rattle.mdv_store.proofs.Marks.{slot_laid}
 use Rattle.mdv_store.proofs.Rooms.{have_room}
-use Rattle.mdv_store.proofs.Sitting.{left_count, left_laid}
+use Rattle.mdv_store.proofs.Sitting.{left_laid}
 use Rattle.mdv_store.proofs.Texts.{text_some}
 use Rattle.mdv_store.proofs.store.Store.commit.Goals as goal
 use Rattle.mdv_store.proofs.store.Store.commit.Goals.{After-write_all}
 
-pub returns-then-not-is_half_active-clause-moments : goal.returns-then-not-is_half_active-clause-moments
-returns-then-not-is_half_active-clause-moments g c = none_moments c.args.self.now c.args.next _
+pub returns-in-Some-clause-moments : goal.returns-in-Some-clause-moments
+returns-in-Some-clause-moments g c = none_moments c.args.self.now c.args.next _
 
 pub returns-in_err-check_room-clause-moments : goal.returns-in_err-check_room-clause-moments
 returns-in_err-check_room-clause-moments g c = none_moments c.args.self.now c.args.next _
@@ -45,7 +46,7 @@ opened g c = record { key = c.self.inside.key; identity = c.self.inside.identity
 
 committing : (g : _) (c : After-write_all g) → IsCommitting (opened g c) c.args.next
 committing g c =
-    let half : is_half_active c.self.inside.seats ≡ true = ap is_half_active (sym c.as_slice.ensures) ∙ (sym c.is_half_active.ensures ∙ c.if-not-is_half_active.false) in
+    let half : short_of Half c.self.inside.seats c.self.inside.table.plan.lists ≡ None = subst (λ (o : Opened). shortage o ≡ None) (sym c.self.view_is) (sym c.shortage.ensures ∙ c.in_default.is) in
     record {
       seats = c.self.invariant.seats;
       boot = c.self.invariant.boot;
@@ -58,18 +59,6 @@ committing g c =
 
 abbrev failed : (g : _) → After-write_all g → ℕ → Failures
 failed g c = DriveFailures g.S.Shelf c.args.shelf.now c.write_all.new.shelf
-
--- as many seats are left
-few : (g : _) (c : After-write_all g) → length c.write_all.new.seats ≤ 50
-few g c =
-    let same = left_count (failed g c) (TakesSlot (next_mark c.self.inside.mark) (length (record_text c.args.next))) c.self.inside.seats c.write_all.new.seats c.write_all.ensures.left in
-    omega (arith, same, c.self.invariant.seats.few)
-
-pub is_half_active-requires-2 : goal.is_half_active-requires-2
-is_half_active-requires-2 g c = subst (λ (l : List Seat). length l ≤ 50) (sym c.as_slice-2.ensures) (few g (goal.at.is_half_active-requires-2 g c).After-write_all)
-
-pub lost-requires-then-not-is_half_active-2 : goal.lost-requires-then-not-is_half_active-2
-lost-requires-then-not-is_half_active-2 g c = subst (λ (l : List Seat). length l ≤ 50) (sym c.as_slice-then-not-is_half_active-2.ensures) (few g (goal.at.lost-requires-then-not-is_half_active-2 g c).After-write_all)
 
 -- where they lie then
 laid : (g : _) (c : After-write_all g) → AreLaid (g.S.Shelf.sizes c.write_all.new.shelf) c.write_all.new.seats
@@ -96,19 +85,18 @@ left_show g c =
     subst (λ (o : Opened). Ends (λ t u. (geometry : Geometry) → IsOfGeometry geometry c.args.next → IsOpenedAt geometry o t → IsOpenedAt geometry (record (opened g c) { mark = next_mark o.mark; table = c.args.next; seats = c.write_all.new.seats }) u) (g.S.Shelf.tale c.args.shelf.now) (g.S.Shelf.tale c.write_all.new.shelf)) c.self.view_is
     (left_ends (opened g c) c.args.next (committing g c) (failed g c) c.write_all.new.seats c.write_all.ensures.left _ _ c.write_all.ensures.end)
 
-pub returns-then-not-is_half_active-2-clause-answer : goal.returns-then-not-is_half_active-2-clause-answer
-returns-then-not-is_half_active-2-clause-answer g c =
-    let w = (goal.at.returns-then-not-is_half_active-2-clause-answer g c).After-write_all in
-    let few = ap is_half_active (sym c.as_slice-2.ensures) ∙ (sym c.is_half_active-2.ensures ∙ c.if-not-is_half_active-2.true) in
+pub returns-in-Some-short-clause-answer : goal.returns-in-Some-short-clause-answer
+returns-in-Some-short-clause-answer g c =
+    let w = (goal.at.returns-in-Some-short-clause-answer g c).After-write_all in
+    let few = ap (λ (l : List Seat). short_of Half l c.self.inside.table.plan.lists) (sym c.as_slice.ensures) ∙ sym c.in-Some-short.ensures in
     let new : Opened = record (opened g w) { seats = c.write_all.new.seats } in
-    let now = subst (λ (o : Opened). IsLostNow (failed g w) o new c.args.next) c.self.view_is (lost_now (opened g w) c.args.next (committing g w) (failed g w) c.write_all.new.seats c.write_all.ensures.left few) in
-    let told = subst (λ (l : List Seat). c.lost-then-not-is_half_active-2.result ≡ Lost (active_of l) (length l)) c.as_slice-then-not-is_half_active-2.ensures c.lost-then-not-is_half_active-2.ensures in
-    record { came = subst (λ (fault : CommitFault). CameOfCommit (failed g w) c.args.self.now new c.args.next (Err fault)) (sym told) (refl, refl, inl now); laid = laid g w; steps = λ tried. steps g w; passed = λ tried. written g w; shown = λ tried. left_show g w }
+    let now = subst (λ (o : Opened). IsLostNow (failed g w) o new c.args.next) c.self.view_is (lost_now (opened g w) c.args.next (committing g w) (failed g w) c.write_all.new.seats c.write_all.ensures.left) in
+    record { came = subst (λ (fault : CommitFault). CameOfCommit (failed g w) c.args.self.now new c.args.next (Err fault)) (sym c.lost-in-Some-short.ensures) (few, inl now); laid = laid g w; steps = λ tried. steps g w; passed = λ tried. written g w; shown = λ tried. left_show g w }
 
 pub returns-clause-answer : goal.returns-clause-answer
 returns-clause-answer g c =
     let w = (goal.at.returns-clause-answer g c).After-write_all in
-    let half = ap is_half_active (sym c.as_slice-2.ensures) ∙ (sym c.is_half_active-2.ensures ∙ c.if-not-is_half_active-2.false) in
+    let half = ap (λ (l : List Seat). short_of Half l c.self.inside.table.plan.lists) (sym c.as_slice.ensures) ∙ sym c.short.ensures ∙ c.in_default-short.is in
     let new : Opened = record (opened g w) { mark = next_mark c.self.inside.mark; table = c.args.next; seats = c.write_all.new.seats } in
     record {
       came = subst (λ (o : Opened). IsCommitted (failed g w) o new c.args.next) c.self.view_is (committed (opened g w) c.args.next (committing g w) (failed g w) c.write_all.new.seats c.write_all.ensures.left half);
@@ -124,8 +112,8 @@ writing g c =
     subst (λ (o : Opened). Moments (CommitMoment o c.args.next) (g.S.Shelf.tale c.args.shelf.now) (g.S.Shelf.tale c.write_all.new.shelf)) c.self.view_is
     (commit_moments (opened g c) c.args.next (committing g c) _ _ c.write_all.ensures.moments)
 
-pub returns-then-not-is_half_active-2-clause-moments : goal.returns-then-not-is_half_active-2-clause-moments
-returns-then-not-is_half_active-2-clause-moments g c = writing g (goal.at.returns-then-not-is_half_active-2-clause-moments g c).After-write_all
+pub returns-in-Some-short-clause-moments : goal.returns-in-Some-short-clause-moments
+returns-in-Some-short-clause-moments g c = writing g (goal.at.returns-in-Some-short-clause-moments g c).After-write_all
 
 pub returns-clause-moments : goal.returns-clause-moments
 returns-clause-moments g c = writing g (goal.at.returns-clause-moments g c).After-write_all
@@ -133,8 +121,8 @@ returns-clause-moments g c = writing g (goal.at.returns-clause-moments g c).Afte
 pub invariant_of-self : goal.invariant_of-self
 invariant_of-self g c =
     let w = (goal.at.invariant_of-self g c).After-write_all in
-    let few = ap is_half_active (sym c.as_slice-2.ensures) ∙ (sym c.is_half_active-2.ensures ∙ c.if-not-is_half_active-2.true) in
-    lost_open (opened g w) c.args.next (committing g w) (failed g w) c.write_all.new.seats c.write_all.ensures.left (vec_len c.self.inside.room) c.self.invariant.whole c.self.invariant.short few
+    let few = ap (λ (l : List Seat). short_of Half l c.self.inside.table.plan.lists) (sym c.as_slice.ensures) ∙ sym c.in-Some-short.ensures in
+    lost_open (opened g w) c.args.next (committing g w) (failed g w) c.write_all.new.seats c.write_all.ensures.left (vec_len c.self.inside.room) c.self.invariant.whole c.self.invariant.short c.in-Some-short.share few
 
 pub invariant_of-self-2 : goal.invariant_of-self-2
 invariant_of-self-2 g c =
@@ -144,7 +132,7 @@ invariant_of-self-2 g c =
 pub returns-clause-end : goal.returns-clause-end
 returns-clause-end g c =
     let w = (goal.at.returns-clause-end g c).After-write_all in
-    let half = ap is_half_active (sym c.as_slice-2.ensures) ∙ (sym c.is_half_active-2.ensures ∙ c.if-not-is_half_active-2.false) in
+    let half = ap (λ (l : List Seat). short_of Half l c.self.inside.table.plan.lists) (sym c.as_slice.ensures) ∙ sym c.short.ensures ∙ c.in_default-short.is in
     let new : Opened = record (opened g w) { mark = next_mark c.self.inside.mark; table = c.args.next; seats = c.write_all.new.seats } in
     subst (λ (o : Opened). Ends (CommitDone o new c.args.next) (g.S.Shelf.tale c.args.shelf.now) (g.S.Shelf.tale c.write_all.new.shelf)) c.self.view_is
     (commit_ends (opened g w) c.args.next (committing g w) (failed g w) c.write_all.new.seats c.write_all.ensures.left _ _ half c.write_all.ensures.end)

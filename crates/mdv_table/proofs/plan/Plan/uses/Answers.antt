@@ -10,23 +10,23 @@ use Rattle.mdv_table.specs.Volume.{volume_slices}
 use Rattle.mdv_table.proofs.InUse.{uses_are}
 use Rattle.mdv_table.proofs.plan.Plan.uses.Goals as goal
 
-pub returns-then-are_places_beside : goal.returns-then-are_places_beside
-returns-then-are_places_beside c =
+pub returns-then-are_lists_beside : goal.returns-then-are_lists_beside
+returns-then-are_lists_beside c =
     let g = c.args.geometry.now in
     let p = c.args.self.now in
     let name = c.args.slice in
     let places = list_any (λ (q : Place). overlap g q.slice name) (places_of p.lists) in
     let volumes = list_any (λ (v : Volume). list_any (λ by. overlap g by name) (volume_slices v)) p.volumes in
-    let is : c.are_places_beside.result ≡ places = c.are_places_beside.ensures ∙ ap (list_any (λ (q : Place). overlap g q.slice name)) c.places.ensures.value in
-    c.if-are_places_beside.true ∙ sym (or_left places volumes (sym is ∙ c.if-are_places_beside.true)) ∙ uses_are g c.requires.sound p name
+    let is : c.are_lists_beside.result ≡ places = c.are_lists_beside.ensures in
+    c.if-are_lists_beside.true ∙ sym (or_left places volumes (sym is ∙ c.if-are_lists_beside.true)) ∙ uses_are g c.requires.sound p name
 
-pub returns-else-are_places_beside : goal.returns-else-are_places_beside
-returns-else-are_places_beside c =
+pub returns-else-are_lists_beside : goal.returns-else-are_lists_beside
+returns-else-are_lists_beside c =
     let g = c.args.geometry.now in
     let p = c.args.self.now in
     let name = c.args.slice in
     let places = list_any (λ (q : Place). overlap g q.slice name) (places_of p.lists) in
     let volumes = list_any (λ (v : Volume). list_any (λ by. overlap g by name) (volume_slices v)) p.volumes in
-    let is : c.are_places_beside.result ≡ places = c.are_places_beside.ensures ∙ ap (list_any (λ (q : Place). overlap g q.slice name)) c.places.ensures.value in
+    let is : c.are_lists_beside.result ≡ places = c.are_lists_beside.ensures in
     let also : c.are_volumes_beside.result ≡ volumes = c.are_volumes_beside.ensures ∙ ap (list_any (λ (v : Volume). list_any (λ by. overlap g by name) (volume_slices v))) c.as_slice.ensures.value in
-    also ∙ sym (ap (λ b. b || volumes) (sym is ∙ c.if-are_places_beside.false)) ∙ uses_are g c.requires.sound p name
+    also ∙ sym (ap (λ b. b || volumes) (sym is ∙ c.if-are_lists_beside.false)) ∙ uses_are g c.requires.sound p name

@@ -1,0 +1,56 @@
+-- What a change leaves of a table, and what the end of a change of places does, which leaves all its volumes.
+use Rattle.std.proofs.Common.{◌≡◌, inl, inr, List, Option, Some, None, sym, ◌∙◌, ap, subst}
+use Rattle.mdv_shelf.specs.Tale.{Tale}
+use Rattle.mdv_store_law.specs.Log.{IsMade, IsSameOrSettled}
+use Rattle.mdv_table.specs.Plan.{last_of, settled}
+use Rattle.mdv_table.specs.declared.plan.Lists.{Lists}
+use Rattle.mdv_table.specs.declared.plan.Plan.{Plan}
+use Rattle.mdv_volumes.specs.Below.{Change, Geometry, Key, MakeStripe, Map, One, Place, Table, VolId}
+use Rattle.mdv_volumes.specs.History.{History}
+use Rattle.mdv_volumes.specs.HistoryLaws.{IsReady}
+use Rattle.mdv_volumes.specs.Tables.{AreLaid, IsMapOf}
+use Rattle.mdv_volumes.proofs.Tables.{tables_lie}
+
+module _ (g : Geometry) (table : Table) where
+  map_settled : (volume : VolId) (v : Map) → IsMapOf g table volume v → IsMapOf g (settled table) volume v
+  map_settled volume v map = record { of = map.of; has = map.has; kind = map.kind }
+
+  settled_map : (volume : VolId) (v : Map) → IsMapOf g (settled table) volume v → IsMapOf g table volume v
+  settled_map volume v map = record { of = map.of; has = map.has; kind = map.kind }
+
+  laid_settled : AreLaid g table → AreLaid g (settled table)
+  laid_settled is = record {
+    one = λ volume v w map other. is.one volume v w (settled_map volume v map) (settled_map volume w other);
+    disjoint = λ volume v map. is.disjoint volume v (settled_map volume v map);
+    apart = λ volume beside v w differ map other. is.apart volume beside v w differ (settled_map volume v map) (settled_map beside w other);
+    clear = λ volume v map. is.clear volume v (settled_map volume v map);
+  }
+
+  -- a boot may find it as well
+  pub ready_settled : (h : History) (key : Key) (t : Tale) → IsReady g h key t table → IsReady g h key t (settled table)
+  ready_settled h key t is = record {
+    laid = laid_settled is.laid;
+    apart = λ other volume beside v w differ map named. is.apart other volume beside v w differ (settled_map volume v map) named;
+    follows = λ volume v map. is.follows volume v (settled_map volume v map);
+  }
+
+pub ready_more : (g : Geometry) (h : History) (key : Key) (t : Tale) (old next : Table) → IsSameOrSettled old next → IsReady g h key t old → IsReady g h key t next
+ready_more g h key t old next (inl same) is = subst (IsReady g h key t) (sym same) is
+ready_more g h key t old next (inr over) is = subst (IsReady g h key t) (sym over) (ready_settled g old h key t is)
+
+-- a table has no volume that it didn't have before
+pub map_was : (g : Geometry) (old next : Table) (volume : VolId) (v : Map) → IsSameOrSettled old next → IsMapOf g next volume v → IsMapOf g old volume v
+map_was g old next volume v (inl same) map = subst (λ (t : Table). IsMapOf g t volume v) same map
+map_was g old next volume v (inr over) map = settled_map g old volume v (subst (λ (t : Table). IsMapOf g t volume v) over map)
+
+-- a volume stays where it lies
+pub map_stays : (g : Geometry) (volume : VolId) (v : Map) (asked : Option Change) (old next : Table) → IsMade g asked old next → IsMapOf g old volume v → IsMapOf g next volume v
+map_stays g volume v None old next (inl same) map = subst (λ (table : Table). IsMapOf g table volume v) (sym same) map
+map_stays g volume v None old next (inr over) map = subst (λ (table : Table). IsMapOf g table volume v) (sym over) (map_settled g old volume v map)
+map_stays g volume v (Some (MakeStripe other slice)) old next made map = tables_lie.stays g old next other slice volume v made.0 map
+
+-- a change makes volumes, and moves no place of one list
+pub made_lists : (g : Geometry) (asked : Option Change) (old next : Table) (places : List Place) → IsMade g asked old next → old.plan.lists ≡ One places → next.plan.lists ≡ One places
+made_lists g None old next places (inl same) one = ap (λ (t : Table). t.plan.lists) same ∙ one
+made_lists g None old next places (inr over) one = ap (λ (t : Table). t.plan.lists) over ∙ ap (λ (l : Lists). One (last_of l)) one
+made_lists g (Some (MakeStripe volume slice)) old next places made one = ap (λ (p : Plan). p.lists) made.0.1 ∙ one
