@@ -1,5 +1,5 @@
 -- A boot that reads all drives on which it looks finds each place that the newest table lists.
-use Rattle.std.proofs.Common.{◌≡◌, inl, inr, ⊎_elim, ℕ, ◌+◌, ◌*◌, ◌≤◌, ◌<◌, ◌&&◌, Bool, true, false, cond, is_some, List, [], ◌∷◌, Option, None, Some, MatchOption, Contains, length, slice_get, refl, sym, ◌∙◌, ap, subst, arith}
+use Rattle.std.proofs.Common.{◌≡◌, inl, inr, ⊎_elim, ◌⊎◌, ℕ, ◌+◌, ◌*◌, ◌/◌, ◌≤◌, ◌<◌, ◌&&◌, Bool, true, false, cond, is_some, List, [], ◌∷◌, Option, None, Some, MatchOption, Contains, length, slice_get, refl, sym, ◌∙◌, ap, subst, arith}
 use Rattle.std.specs.List.{cons_option, find}
 use Rattle.std.specs.Prelude.{count_by, nat_le}
 use Rattle.std.proofs.lemmas.Bool.{and_from, cases_lt, cond-true, false≢true, le-leb, lt-ltb}
@@ -30,7 +30,6 @@ use Rattle.mdv_standing.proofs.Voting.{all_that, numbered}
 use Rattle.mdv_standing.proofs.Adopting.{finds}
 use Rattle.mdv_standing.proofs.Looking.{looks}
 use Rattle.mdv_look.proofs.Bringing.{count_cons}
-use Rattle.mdv_look.proofs.Looks.{count_length}
 use Rattle.mdv_store.proofs.Adoptions.{got_contains, same_identity_self}
 use Rattle.mdv_store.proofs.Boots.{count_all}
 use Rattle.mdv_store.proofs.Passes.{mapped}
@@ -38,20 +37,20 @@ use Rattle.mdv_store.proofs.Reading.{lies_at, seated_place, seen_of}
 use Rattle.mdv_store.proofs.Records.{spelled_of}
 use Rattle.mdv_store.proofs.Rooms.{room_least}
 use Rattle.mdv_store.proofs.Seating.{seats_places}
-use Rattle.mdv_store.proofs.Shares.{in_first, in_last, list_none, lists_none}
+use Rattle.mdv_store.proofs.Shares.{in_first, in_last, list_none, list_suffices, lists_none, short_list}
 use Rattle.mdv_store.proofs.Sitting.{contains_behind, contains_first, first_or_behind}
 use Rattle.mdv_store.proofs.Spotting.{line_found}
 use Rattle.mdv_store_law.specs.Log.{Version, is_firm}
 use Rattle.mdv_store.specs.Boot.{IsShort, is_seated, seat_for, seats_of}
 use Rattle.mdv_store.specs.Opened.{least_room}
 use Rattle.mdv_store.specs.Seats.{replicas_of}
-use Rattle.mdv_store.specs.Shares.{has_active, is_active_at, short_in, short_of}
+use Rattle.mdv_store.specs.Shares.{has_active, is_active_at, share_in, short_in, short_of, suffices}
 use Rattle.mdv_store.specs.Text.{blocks_for}
 use Rattle.mdv_replica.specs.Form.{text_of}
 use Rattle.mdv_replica.specs.Replica.{slot_blocks}
 use Rattle.mdv_survey.proofs.Identities.{find_some}
 use Rattle.mdv_survey.proofs.Newests.{below_more}
-use Rattle.mdv_survey.specs.Choice.{IsChoiceAmong, IsTheOne, failing, is_found_at, is_of, is_read, is_there, place_of, readable_of, same_identity, same_place}
+use Rattle.mdv_survey.specs.Choice.{IsChoiceAmong, IsNotEnough, IsTheOne, failing, is_found_at, is_of, is_read, is_there, needed_of, place_of, readable_of, same_identity, same_place}
 use Rattle.mdv_survey.specs.declared.choosing.Choice.TheVariants as chosen
 use Rattle.mdv_survey.specs.Newest.{HasTable, IsGreatest, IsMarked, IsTableIn}
 use Rattle.mdv_survey.specs.Replica.{at_of}
@@ -59,7 +58,7 @@ use Rattle.mdv_survey.specs.Survey.{IsSurvey, IsSurveyOf, answers_in}
 use Rattle.mdv_survey.specs.declared.replica.Newest.{Newest}
 use Rattle.mdv_survey.specs.declared.replica.Survey.{Survey}
 use Rattle.mdv_table.proofs.Testing.{same_place-true}
-use Rattle.mdv_table.specs.Plan.{places_of}
+use Rattle.mdv_table.specs.Plan.{first_of, last_of, places_of}
 use Rattle.mdv_table.specs.Table.{IsListsOf}
 use Rattle.mdv_table.specs.declared.plan.Lists.{Lists}
 use Rattle.mdv_base.specs.DriveSet.{Drives}
@@ -67,12 +66,36 @@ use Rattle.mdv_store.specs.declared.seats.Need.TheVariants.{More}
 use Rattle.mdv_store.specs.declared.seats.Share.{Share}
 use Rattle.mdv_databases.specs.Below.{Core, Database, Geometry, Identity, Image, Key, Log, One, Two, Place, Replica, Seat, SliceLine, Spells, Table, Tale, log_of, site_of, slice_at}
 use Rattle.mdv_databases.specs.Booting.{AllAnswer, IsShortOf}
-use Rattle.mdv_databases.specs.Meeting.{MayBeFound, MostOn, MostOnEach, answers_on, is_on}
+use Rattle.mdv_databases.specs.Meeting.{MayBeFound, MostOn, answers_on, is_on}
 use Rattle.mdv_databases.specs.Standing.{Stand}
 use Rattle.mdv_databases.specs.Going.{IsCurrentOf}
 use Rattle.mdv_databases.proofs.Booting.{shown_current}
 use Rattle.mdv_databases.proofs.Lists.{current_in, current_key}
 use Rattle.mdv_databases.proofs.Meeting.{Meets, firm_found, firm_some, meets, opens}
+
+-- more than half of each list of a table lies on drives that pass the test
+abbrev MostOnEach : Geometry → Key → (ℕ → Bool) → Lists → Type 0
+MostOnEach g key up (One places) = MostOn g key up places
+MostOnEach g key up (Two old new) = MostOn g key up old × MostOn g key up new
+
+-- it is one of the lists
+abbrev pub IsOneOf : Lists → List Place → Type 0
+IsOneOf lists list = (list ≡ first_of lists) ⊎ (list ≡ last_of lists)
+
+-- the list that fails is one of them, and not more than half of it was found
+pub failing_list : (rs : List Replica) (identity : Identity) (lists : Lists) (list : List Place) → failing rs identity lists ≡ Some list → IsOneOf lists list × (is_read rs identity list ≡ false)
+failing_list rs identity lists list fails = by lists fails where
+  one : (l : List Place) (b : Bool) → is_read rs identity l ≡ b → cond b None (Some l) ≡ Some list → (list ≡ l) × (is_read rs identity list ≡ false)
+  one l true is fails = absurd (cc (fails))
+  one l false is fails = (let same : list ≡ l = cc (fails) in (same, ap (is_read rs identity) same ∙ is))
+
+  two : (old new : List Place) (b : Bool) → is_read rs identity old ≡ b → cond b (cond (is_read rs identity new) None (Some new)) (Some old) ≡ Some list → ((list ≡ old) ⊎ (list ≡ new)) × (is_read rs identity list ≡ false)
+  two old new true is fails = (let found = one new (is_read rs identity new) refl fails in (inr found.0, found.1))
+  two old new false is fails = (let same : list ≡ old = cc (fails) in (inl same, ap (is_read rs identity) same ∙ is))
+
+  by : (of : Lists) → failing rs identity of ≡ Some list → IsOneOf of list × (is_read rs identity list ≡ false)
+  by (One l) fails = (let found = one l (is_read rs identity l) refl fails in (inl found.0, found.1))
+  by (Two old new) fails = two old new (is_read rs identity old) refl fails
 
 -- where one passes the test, one is found
 find_has : {X : Type 0} (p : X → Bool) (xs : List X) (x : X) → Contains xs x → p x ≡ true → (y : X) × (find p xs ≡ Some y)
@@ -334,14 +357,17 @@ module _ (g : Geometry) (all : List Database) (key : Key) (up : Drives) (survey 
         let each = count_all on list (λ p has. (let h = its_place p (within p has) in drive_of p h ∙ all_answer h.line h.own.found.one_of)) in
         omega (arith, each, some)
 
-    all_most : AllAnswer g key up survey → MostOnEach g key answers newest.table.plan.lists
-    all_most all_answer = by newest.table.plan.lists (λ p has. has) its_record.of_geometry.lists where
-      by : (lists : Lists) → ((p : Place) → Contains (places_of lists) p → Contains places p) → IsListsOf g lists → MostOnEach g key answers lists
-      by (One list) within are = list_most all_answer list within are.some
-      by (Two old new) within are = (
-        list_most all_answer old (λ p has. within p (in_first (Two old new) p has)) are.0.some,
-        list_most all_answer new (λ p has. within p (in_last (Two old new) p has)) are.1.some,
-      )
+    in_list : (list : List Place) → IsOneOf newest.table.plan.lists list → (p : Place) → Contains list p → Contains places p
+    in_list list (inl is) p has = in_first newest.table.plan.lists p (subst (λ (l : List Place). Contains l p) is has)
+    in_list list (inr is) p has = in_last newest.table.plan.lists p (subst (λ (l : List Place). Contains l p) is has)
+
+    some_listed : (list : List Place) → IsOneOf newest.table.plan.lists list → 1 ≤ length list
+    some_listed list one_of = by newest.table.plan.lists its_record.of_geometry.lists one_of where
+      by : (lists : Lists) → IsListsOf g lists → IsOneOf lists list → 1 ≤ length list
+      by (One l) are (inl is) = omega (arith, are.some, ap length is)
+      by (One l) are (inr is) = omega (arith, are.some, ap length is)
+      by (Two old new) are (inl is) = omega (arith, are.0.some, ap length is)
+      by (Two old new) are (inr is) = omega (arith, are.1.some, ap length is)
 
     -- the version is one that a boot may find, where it reads more than half of the places of each of these
     module _ (firm : is_firm log ≡ true) (list : List Place) (lists : (x : Version) → MayBeFound log.family x → x.table.plan.lists ≡ One list) (most : MostOn g key answers list) where
@@ -373,26 +399,40 @@ module _ (g : Geometry) (all : List Database) (key : Key) (up : Drives) (survey 
       its_lists : newest.table.plan.lists ≡ One list
       its_lists = ap (λ (u : Table). u.plan.lists) (sym same_table) ∙ lists version.version (version.is.one_of, all_that (λ x. x.is_written ≡ true → IsBelow version.version.mark x.mark → ⊥) log.family not_older)
 
-    is_short_of : (MostOnEach g key answers newest.table.plan.lists → ⊥) → IsShortOf g all key up survey
-    is_short_of few = record {
+    is_short_of : (needed : ℕ) (list : List Place) → IsOneOf newest.table.plan.lists list → (MostOn g key answers list → ⊥) → needed ≡ needed_of list → IsShortOf g all key up survey needed
+    is_short_of needed list list_is few needed_is = record {
       newest = newest;
       newest_is = newest_is;
       version = version.version;
       one_of = subst (λ (l : Log). Contains l.family version.version) (sym (ap log_in current.current)) version.is.one_of;
       same = same_table;
+      list = list;
+      list_is = list_is;
       few = few;
-      away = λ all_answer. few (all_most all_answer);
+      needed_is = needed_is;
+      away = λ all_answer. few (list_most all_answer list (in_list list list_is) (some_listed list list_is));
     }
 
-  not_few : (o : Option Newest) → survey.newest ≡ o → (readable needed : ℕ) → MatchOption o (chosen.NoQuorum readable needed ≡ chosen.Empty) (λ (n : Newest). IsChoiceAmong rs n (chosen.NoQuorum readable needed)) → IsShortOf g all key up survey
-  not_few None is_newest readable needed never = absurd (cc (never))
-  not_few (Some newest) is_newest readable needed few = is_short_of newest is_newest few.replica few.the (λ most. fails_nowhere newest is_newest few.replica few.the most few.list few.fails)
+    failing_short : (readable needed : ℕ) → IsNotEnough rs newest readable needed → IsShortOf g all key up survey needed
+    failing_short readable needed is =
+        let its : identity ≡ is.replica.head.master.identity = ap (λ (r : Replica). r.head.master.identity) (some_is (slice_get rs newest.replica) replica is.replica the.one_of is.the.one_of) in
+        let one = failing_list rs identity newest.table.plan.lists is.list (subst (λ (i : Identity). failing rs i newest.table.plan.lists ≡ Some is.list) (sym its) is.fails) in
+        is_short_of needed is.list one.0 (λ most. false≢true (sym one.1 ∙ read_so is.list (in_list is.list one.0) most)) is.needed_is
 
-  pub short_by : (readable needed : ℕ) → IsShort survey readable needed → IsShortOf g all key up survey
+    room_short : (needed : ℕ) (share : Share) → short_of More seats newest.table.plan.lists ≡ Some share → needed ≡ share.listed / 2 + 1 → IsShortOf g all key up survey needed
+    room_short needed share short needed_is =
+        let one = short_list More seats newest.table.plan.lists share short in
+        let enough : MostOn g key answers one.0 → suffices More (share_in seats one.0) ≡ true = λ most. list_suffices More seats one.0 (list_has_room one.0 (in_list one.0 one.1) most) in
+        is_short_of needed one.0 one.1 (λ most. false≢true (sym one.3 ∙ ap (suffices More) one.2 ∙ enough most)) (needed_is ∙ ap (λ (s : Share). s.listed / 2 + 1) one.2)
+
+  not_few : (o : Option Newest) → survey.newest ≡ o → (readable needed : ℕ) → MatchOption o (chosen.NoQuorum readable needed ≡ chosen.Empty) (λ (n : Newest). IsChoiceAmong rs n (chosen.NoQuorum readable needed)) → IsShortOf g all key up survey needed
+  not_few None is_newest readable needed never = absurd (cc (never))
+  not_few (Some newest) is_newest readable needed few = failing_short newest is_newest few.replica few.the readable needed few
+
+  pub short_by : (readable needed : ℕ) → IsShort survey readable needed → IsShortOf g all key up survey needed
   short_by readable needed (inl choice) = not_few survey.newest refl readable needed choice
   short_by readable needed (inr (was, newest, replica, listed_seats, hand, share, short, readable_is, needed_is)) =
-      is_short_of newest hand.newest_is replica hand.the
-      (λ most. has_room newest hand.newest_is replica hand.the most share (subst (λ (l : List Seat). short_of More l newest.table.plan.lists ≡ Some share) hand.seats_are short))
+      room_short newest hand.newest_is replica hand.the needed share (subst (λ (l : List Seat). short_of More l newest.table.plan.lists ≡ Some share) hand.seats_are short) needed_is
 
   -- nor is it short where more than half of the places answer that each table lists which a boot may find
   module _ (firm : is_firm (log_of all key) ≡ true) (list : List Place) (lists : (x : Version) → MayBeFound (log_of all key).family x → x.table.plan.lists ≡ One list) (most : MostOn g key answers list) where

@@ -6,13 +6,15 @@ use Rattle.mdv_store.specs.Booting.{BootMoment, HasShown, IsBootedTo}
 use Rattle.mdv_store.specs.Commit.{AnyLog, IsNewestWritten}
 use Rattle.mdv_store.specs.declared.booting.BootEnd.{BootEnd}
 use Rattle.mdv_store.specs.declared.booting.BootEnd.TheVariants as end
+use Rattle.mdv_survey.specs.Choice.{needed_of}
 use Rattle.mdv_survey.specs.Survey.{IsSurvey, IsSurveyOf, answers_in}
 use Rattle.mdv_store_law.specs.Log.{Version}
+use Rattle.mdv_table.specs.Plan.{first_of, last_of}
 use Rattle.mdv_survey.specs.declared.replica.Newest.{Newest}
 use Rattle.mdv_survey.specs.declared.replica.Survey.{Survey}
-use Rattle.mdv_databases.specs.Below.{Database, Geometry, Identity, IsSound, Key, Opened, SliceLine, Tale, last, log_of, site_of}
+use Rattle.mdv_databases.specs.Below.{Database, Geometry, Identity, IsSound, Key, Opened, Place, SliceLine, Tale, last, log_of, site_of}
 use Rattle.mdv_databases.specs.Going.{GoOn, IsCurrentOf, IsOpenIn, with_events}
-use Rattle.mdv_databases.specs.Meeting.{MostOnEach, answers_on}
+use Rattle.mdv_databases.specs.Meeting.{MostOn, answers_on}
 use Rattle.mdv_databases.specs.Standing.{Stand}
 
 -- the adopted table is written anew under the number of the boot, and the database is open with it
@@ -24,14 +26,17 @@ pub record IsBootedIn (g : Geometry) (all : List Database) (key : Key) (o : Open
 abbrev pub AllAnswer : Geometry → Key → Drives → Survey → Type 0
 AllAnswer g key up survey = (line : SliceLine) → Contains (site_of g key).lines line → answers_in up survey.failed line.at.drive ≡ true
 
--- The newest table is one of the key's current database; not of each of its lists do more than half of the places lie on slices whose drives answered; so not each drive did.
-pub record IsShortOf (g : Geometry) (all : List Database) (key : Key) (up : Drives) (survey : Survey) : Type 0 where
+-- The newest table is one of the key's current database; of one of its lists no more than half of the places lie on slices whose drives answered, and more than half of it is needed; so not each drive did.
+pub record IsShortOf (g : Geometry) (all : List Database) (key : Key) (up : Drives) (survey : Survey) (needed : ℕ) : Type 0 where
   pub newest : Newest
   pub newest_is : survey.newest ≡ Some newest
   pub version : Version
   pub one_of : Contains (log_of all key).family version
   pub same : version.table ≡ newest.table
-  pub few : MostOnEach g key (answers_on up survey) newest.table.plan.lists → ⊥
+  pub list : List Place
+  pub list_is : (list ≡ first_of newest.table.plan.lists) ⊎ (list ≡ last_of newest.table.plan.lists)
+  pub few : MostOn g key (answers_on up survey) list → ⊥
+  pub needed_is : needed ≡ needed_of list
   pub away : AllAnswer g key up survey → ⊥
 
 pub record BootsGo : Type 0 where
@@ -46,4 +51,4 @@ pub record BootsGo : Type 0 where
   pub one : (g : Geometry) (all : List Database) (key : Key) (a b : Identity) (t : Tale) → Stand g all t → HasShown g (site_of g key) a t → HasShown g (site_of g key) b t → a ≡ b
   -- a place that the newest table lists is found, with room for it, where its drive answers: so a boot is short of places where of one of its lists no more than half lie on such drives
   pub short : (g : Geometry) (all : List Database) (key : Key) (up : Drives) (survey : Survey) (readable needed : ℕ) (t : Tale) → IsSound g → Stand g all t → IsSurvey (site_of g key) up survey
-      → IsSurveyOf g (site_of g key) up (last t) survey → IsShort survey readable needed → IsShortOf g all key up survey
+      → IsSurveyOf g (site_of g key) up (last t) survey → IsShort survey readable needed → IsShortOf g all key up survey needed

@@ -7,7 +7,7 @@ use Rattle.mdv_base.specs.DriveSet.{Drives}
 use Rattle.mdv_store.specs.Boot.{IsShort}
 use Rattle.mdv_survey.specs.Survey.{IsSurvey, IsSurveyOf, answers_in}
 use Rattle.mdv_survey.specs.declared.replica.Survey.{Survey}
-use Rattle.mdv_databases.specs.Below.{Database, Geometry, IsSound, Key, Lists, One, Two, Place, Replica, SliceAt, Tale, last, log_of, site_of, slice_at}
+use Rattle.mdv_databases.specs.Below.{Database, Geometry, IsSound, Key, One, Place, Replica, SliceAt, Tale, last, log_of, site_of, slice_at}
 use Rattle.mdv_databases.specs.Standing.{Stand}
 
 -- a boot may find this version: none whose write was answered is above it
@@ -22,11 +22,6 @@ is_on up (Some at) = up at.drive.0
 -- more than half of these places lie on slices on which the key's boots look, on drives that pass the test
 abbrev pub MostOn : Geometry → Key → (ℕ → Bool) → List Place → Type 0
 MostOn g key up places = length places < 2 * count_by (λ (place : Place). is_on up (slice_at (site_of g key).lines place.slice)) places
-
--- and so of each list of a table
-abbrev pub MostOnEach : Geometry → Key → (ℕ → Bool) → Lists → Type 0
-MostOnEach g key up (One places) = MostOn g key up places
-MostOnEach g key up (Two old new) = MostOn g key up old × MostOn g key up new
 
 -- no call failed on the drive, which is up
 abbrev pub answers_on : Drives → Survey → ℕ → Bool

@@ -33,3 +33,11 @@ pub(crate) fn place(text: &[u8], start: u32, blocks: u32) -> Result<Places, Fail
     places.push(lies(text, start, blocks)?);
     Ok(places)
 }
+
+/// Two places, in order.
+pub(crate) fn both(first: Place, second: Place) -> Places {
+    let mut places = Places::new();
+    places.push(first);
+    places.push(second);
+    places
+}

@@ -1,4 +1,4 @@
-use crate::drives::{lies, place, sound};
+use crate::drives::{both, lies, place, sound};
 use crate::table_tests::told;
 use mdv_base::Places;
 use mdv_record::*;
@@ -92,10 +92,9 @@ fn places(alloc: Global) -> Result<Table, Fail> {
 }
 
 fn changing(alloc: Global) -> Result<Table, Fail> {
-    let mut old = place(b"c0t0d0s7", 16, 16)?;
-    old.push(lies(b"c0t0d0s5", 528, 512)?);
-    let mut new = place(b"c0t0d0s7", 16, 16)?;
-    new.push(lies(b"c0t0d0s7", 32, 16)?);
+    let stays = lies(b"c0t0d0s7", 16, 16)?;
+    let old = both(stays, lies(b"c0t0d0s5", 528, 512)?);
+    let new = both(stays, lies(b"c0t0d0s7", 32, 16)?);
     let mut table = Table::empty(alloc, Places::new());
     table.plan.lists = Lists::Two(old, new);
     Ok(table)

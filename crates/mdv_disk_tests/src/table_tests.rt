@@ -1,6 +1,6 @@
 ghost use Rattle.std.specs.Prelude.{◌<◌};
 
-use crate::drives::{lies, place, slice, sound};
+use crate::drives::{both, lies, place, slice, sound};
 use mdv_base::{Places, Refusal, VolId};
 use mdv_table::*;
 use std::alloc::Global;
@@ -144,12 +144,8 @@ fn tells_each_place_of_two_lists_once(rt: HostRuntime) -> Result<(), Fail> {
     let stays = lies(b"c0t0d0s7", 16, 16)?;
     let goes = lies(b"c0t1d0s7", 16, 16)?;
     let comes = lies(b"c0t0d0s7", 32, 16)?;
-    let mut old = place(b"c0t0d0s7", 16, 16)?;
-    old.push(goes);
-    let mut new = place(b"c0t0d0s7", 16, 16)?;
-    new.push(comes);
     let mut table = Table::empty(rt.alloc(), Places::new());
-    table.plan.lists = Lists::Two(old, new);
+    table.plan.lists = Lists::Two(both(stays, goes), both(stays, comes));
     assert!(rt; is_of_drives(rt.alloc(), &table)?);
     assert!(rt; table.plan.lists.first() == [stays, goes].as_slice());
     assert!(rt; table.plan.lists.last() == [stays, comes].as_slice());

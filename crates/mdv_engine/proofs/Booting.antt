@@ -1,12 +1,13 @@
 -- What a boot of the host's database comes to and leaves, told of the host.
-use Rattle.std.proofs.Common.{◌≡◌, ◌≢◌, ◌⊎◌, inl, inr, ◌+◌, ◌*◌, ◌/◌, ◌<◌, ◌≤◌, ◌&&◌, not, ℕ, Bool, true, false, List, [], ◌∷◌, cond, length, Option, None, Some, IsTrue, Contains, refl, sym, ◌∙◌, ap, subst, arith}
-use Rattle.std.specs.List.{find, list_any}
+use Rattle.std.proofs.Common.{◌≡◌, ◌≢◌, ◌⊎◌, inl, inr, ◌+◌, ◌*◌, ◌/◌, ◌<◌, ◌≤◌, ◌&&◌, not, ℕ, Bool, true, false, List, [], ◌∷◌, cond, length, Option, None, Some, Contains, refl, sym, ◌∙◌, ap, subst, arith}
+use Rattle.std.specs.List.{find}
 use Rattle.std.specs.Bool.{MatchBool}
 use Rattle.std.specs.Prelude.{MatchOption, if◌then◌else◌}
 use Rattle.mdv_base.specs.DriveSet.{no_drives}
 use Rattle.std.proofs.lemmas.Bool.{ltb-false}
 use Rattle.mdv_base.specs.declared.place.Place.{Place}
 use Rattle.mdv_databases.proofs.Booting as databases
+use Rattle.mdv_databases.proofs.Finding.{failing_list}
 use Rattle.mdv_shelf.specs.Drives.{KeptAmong}
 use Rattle.mdv_shelf.specs.Made.{made_of}
 use Rattle.mdv_shelf.specs.Shelves.{AtEachTale, AtEnd, DriveFailures}
@@ -23,9 +24,8 @@ use Rattle.mdv_replica.specs.Form.{shows}
 use Rattle.mdv_store.specs.Records.{Spells}
 use Rattle.mdv_store.specs.Seats.{drive_of}
 use Rattle.mdv_store.specs.Text.{blocks_for}
-use Rattle.mdv_table.specs.Plan.{places_of, beside}
-use Rattle.mdv_table.specs.Table.{IsListsOf}
-use Rattle.std.proofs.lemmas.List.{length-map, length-append}
+use Rattle.mdv_table.specs.Plan.{places_of}
+use Rattle.std.proofs.lemmas.List.{length-map}
 use Rattle.mdv_store.specs.Taking.{Rewrites}
 use Rattle.mdv_store.specs.declared.booting.BootEnd.TheVariants as end
 use Rattle.mdv_store.specs.declared.booting.Booted.{Booted}
@@ -52,7 +52,7 @@ use Rattle.mdv_engine_law.proofs.Booting.{BootsOn, boot_moment, booted_adopted, 
 use Rattle.mdv_engine_law.proofs.Keeping.{same_beside}
 use Rattle.mdv_engine_law.proofs.Rebooting as rebooting
 use Rattle.mdv_engine_law.proofs.Rebooting.{up_by}
-use Rattle.mdv_engine.specs.Below.{Answer, AreLaid, BootEnd, BootMoment, BootedTo, DriveNo, Drives, Ended, Geometry, Host, Identity, IsOfGeometry, IsReady, IsUpBy, Key, KeptOutside, MayLeave, Memory, Opened, Outcomes, Replica, Seat, Site, SliceLine, Tale, answered_by, active_of, booted_with, has_drive, key_of, last, nowhere, opened_by, record_text, replicas_of, site_area, site_of, unbooted, shortage}
+use Rattle.mdv_engine.specs.Below.{Answer, AreLaid, BootEnd, BootMoment, BootedTo, DriveNo, Drives, Ended, Host, Identity, IsOfGeometry, IsReady, IsUpBy, Key, KeptOutside, MayLeave, Memory, Opened, Outcomes, Replica, Seat, Site, SliceLine, Tale, answered_by, booted_with, has_drive, key_of, last, nowhere, opened_by, record_text, replicas_of, site_area, site_of, unbooted, shortage}
 use Rattle.mdv_engine.specs.Counts.{IsBootedCounted, IsOpenedCounted}
 use Rattle.mdv_engine.specs.Ends.{IsBootEnd}
 use Rattle.mdv_engine.specs.Engine.{FailedOnSite, IsAnsweredBy, IsEndedBy, IsFitting, IsHeldBy, IsOpenBy, IsWell, LiesOn}
@@ -60,8 +60,7 @@ use Rattle.mdv_store.specs.Shares.{short_of}
 use Rattle.mdv_store.specs.declared.seats.Need.TheVariants.{Half, More}
 use Rattle.mdv_store.specs.declared.seats.Share.{Share}
 use Rattle.mdv_store.proofs.Shares.{half_less as half_less_of, more_less, more_suffices, short_fewer}
-use Rattle.mdv_store.proofs.Rows.{part_filter, part_length}
-use Rattle.mdv_table.specs.Tests.{same_place}
+use Rattle.mdv_table.proofs.Listed.{listed_few, listed_some}
 
 -- at each moment, and in the end
 module _ (host : Host) (sizes : List ℕ) (ready : IsReady host sizes) where
@@ -120,21 +119,7 @@ module _ (survey : Survey) where
     by (Some newest) among = (newest, among)
 
   failing_short : (replicas : List Replica) (identity : Identity) (lists : Lists) (list : List Place) → failing replicas identity lists ≡ Some list → 2 * readable_of replicas identity list ≤ length list
-  failing_short replicas identity lists list is = by lists is where
-    few : (all : List Place) → is_read replicas identity all ≡ false → Some all ≡ Some list → 2 * readable_of replicas identity list ≤ length list
-    few all so some = (let same : all ≡ list = cc (some) in subst (λ (l : List Place). 2 * readable_of replicas identity l ≤ length l) same (ltb-false (length all) (2 * readable_of replicas identity all) so))
-
-    last : (all : List Place) (b : Bool) → is_read replicas identity all ≡ b → (if b then None else Some all) ≡ Some list → 2 * readable_of replicas identity list ≤ length list
-    last all true so none = absurd (cc (none))
-    last all false so some = few all so some
-
-    first : (old new : List Place) (b : Bool) → is_read replicas identity old ≡ b → (if b then (if is_read replicas identity new then None else Some new) else Some old) ≡ Some list → 2 * readable_of replicas identity list ≤ length list
-    first old new true so rest = last new (is_read replicas identity new) refl rest
-    first old new false so some = few old so some
-
-    by : (of : Lists) → failing replicas identity of ≡ Some list → 2 * readable_of replicas identity list ≤ length list
-    by (One all) is = last all (is_read replicas identity all) refl is
-    by (Two old new) is = first old new (is_read replicas identity old) refl is
+  failing_short replicas identity lists list is = ltb-false (length list) (2 * readable_of replicas identity list) (failing_list replicas identity lists list is).1
 
   short_less : (readable needed : ℕ) → IsShort survey readable needed → readable < needed
   short_less readable needed (inl is) =
@@ -180,15 +165,6 @@ remembered (end.NoQuorum readable needed) ok = refl
 remembered (end.Lost active listed) ok = refl
 remembered end.Spent ok = refl
 remembered end.Memory ok = absurd (cc (ok))
-
--- the lists of a table of the table of drives
-lists_some : (g : Geometry) (lists : Lists) → IsListsOf g lists → 1 ≤ length (places_of lists)
-lists_some g (One places) are = are.some
-lists_some g (Two old new) are = omega (arith, are.0.some, length-append old (beside old new))
-
-lists_few : (g : Geometry) (lists : Lists) → IsListsOf g lists → length (places_of lists) ≤ 100
-lists_few g (One places) are = omega (arith, are.few)
-lists_few g (Two old new) are = omega (arith, are.0.few, are.1.few, length-append old (beside old new), part_length (beside old new) new (part_filter (λ (p : Place). not (list_any (same_place p) old)) new))
 
 -- Whatever the shelf tells: by which calls a boot came to its end, and what it opened.
 module _ {S : Type 0} (shelf : Ghosts S) (old new : S) (host : Host) (ready : IsReady host (shelf.sizes old)) (answer : Booted) (is : IsBooted shelf old new host.drives host.site answer) (kept : KeptAmong shelf old new host.site.drives) (begun : ℕ) where
@@ -266,8 +242,8 @@ module _ {S : Type 0} (shelf : Ghosts S) (old new : S) (host : Host) (ready : Is
     pub held_by : IsOfGeometry host.drives o.table → IsHeldBy host o
     held_by listed = record {
       its = its_key;
-      some = (let counted = seats_counted in let least = lists_some host.drives o.table.plan.lists listed.lists in omega (arith, counted, least));
-      few = (let counted = seats_counted in let most = lists_few host.drives o.table.plan.lists listed.lists in omega (arith, counted, most));
+      some = (let counted = seats_counted in let least = listed_some host.drives o.table.plan.lists listed.lists in omega (arith, counted, least));
+      few = (let counted = seats_counted in let most = listed_few host.drives o.table.plan.lists listed.lists in omega (arith, counted, most));
       half = half_by;
       of_geometry = listed;
       laid = subst (λ (s : List ℕ). AreLaid s o.seats) (sym ready.on_shelf.sizes_are) (subst (λ (e : BootEnd). IfAdopted e (λ x. AreLaid (shelf.sizes old) x.seats)) so is.laid);

@@ -1,8 +1,6 @@
 -- A commit that the engine makes of its store, put together: its moments, its end, its answer and its calls.
-use Rattle.std.proofs.Common.{◌≡◌, ◌⊎◌, inl, inr, ◌≤◌, ◌<◌, ◌+◌, ◌*◌, ℕ, Bool, List, [], ◌∷◌, length, Contains, Option, Some, Ok, Err, refl, sym, subst, ap, ◌∙◌, arith, None, MatchOption}
+use Rattle.std.proofs.Common.{◌≡◌, ◌⊎◌, inl, inr, ◌≤◌, ◌<◌, ◌+◌, ◌*◌, ℕ, List, [], ◌∷◌, length, Contains, Option, Some, Ok, Err, refl, sym, subst, ap, ◌∙◌, arith, None, MatchOption}
 use Rattle.std.proofs.Math.Nat.{mul-le-mul_right}
-use Rattle.std.proofs.lemmas.Bool.{leb-true}
-use Rattle.std.specs.Prelude.{IsTrue, MatchBool}
 use Rattle.mdv_record.proofs.Rooms.{room_most}
 use Rattle.mdv_table.specs.Change.{table_after}
 use Rattle.mdv_table.specs.Plan.{places_of, first_of}
@@ -34,7 +32,7 @@ use Rattle.mdv_engine_law.specs.declared.answer.Ended.TheVariants as ended
 use Rattle.mdv_engine_law.specs.declared.answer.Outcome.TheVariants as outcome
 use Rattle.mdv_engine_law.proofs.Plain.{numbers_plain}
 use Rattle.mdv_engine_law.proofs.Refusing.{opened_has, spent_still}
-use Rattle.mdv_engine.specs.Below.{Answer, AreLaid, CameTo, CarriedTo, CarryMoment, Change, Changed, CommitFault, Created, Geometry, IsOfGeometry, IsOpenedAt, IsPlainAnswer, IsReady, Knows, MakeStripe, Memory, Opened, Outcomes, ReplicaFull, Seat, SliceName, Table, Tale, TooLong, VolId, active_of, drives_of, kept_at, key_of, record_room, record_text, shortage}
+use Rattle.mdv_engine.specs.Below.{Answer, AreLaid, CameTo, CarriedTo, CarryMoment, Change, Changed, CommitFault, Created, Geometry, IsOfGeometry, IsOpenedAt, IsPlainAnswer, IsReady, Knows, MakeStripe, Memory, Opened, Outcomes, ReplicaFull, SliceName, Table, Tale, TooLong, VolId, active_of, drives_of, kept_at, key_of, record_room, record_text, shortage}
 use Rattle.mdv_engine.specs.Counts.{IsCommandCounted, WereTried}
 use Rattle.mdv_engine.specs.Ends.{ChangeMoments, HasAnswered, StripeEnds}
 use Rattle.mdv_engine.specs.Engine.{IsHeldBy, IsLostOnSite, IsNextTable, IsWell, commit_answer}

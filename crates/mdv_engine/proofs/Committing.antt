@@ -1,5 +1,5 @@
 -- What a commit of the host's next table leaves, told of the host.
-use Rattle.std.proofs.Common.{◌≡◌, inl, inr, ◌≤◌, ◌<◌, ◌+◌, ◌-◌, ◌*◌, ◌++◌, ℕ, Bool, true, false, List, [], ◌∷◌, length, Option, Some, None, IfSome, IsTrue, Contains, refl, sym, subst, ap, ◌∙◌, arith}
+use Rattle.std.proofs.Common.{◌≡◌, inl, inr, ◌≤◌, ◌<◌, ◌+◌, ◌-◌, ◌*◌, ◌++◌, ℕ, Bool, true, false, List, [], ◌∷◌, length, Option, Some, None, IfSome, Contains, refl, sym, subst, ap, ◌∙◌, arith}
 use Rattle.std.proofs.lemmas.Bool.Decides.{nat_tests}
 use Rattle.std.proofs.lemmas.List.{append-nil}
 use Rattle.std.specs.Option.{option_or}
@@ -31,7 +31,7 @@ use Rattle.mdv_engine_law.proofs.Refusing.{opened_has}
 use Rattle.mdv_engine_law.proofs.Allowed.{either_left}
 use Rattle.mdv_engine_law.proofs.Within.{none_in, outside_places}
 use Rattle.mdv_shelf.specs.Area.{range}
-use Rattle.mdv_engine.specs.Below.{Answer, AreCalm, AreLaid, CameTo, CarriedTo, CarryMoment, Change, Changed, Host, IsOfGeometry, IsOpenedAt, IsPlain, IsReady, Knows, MakeStripe, Memory, Opened, OutOfMemory, Outcomes, Refusal, Replica, ReplicaFull, SliceLine, SliceName, Table, Tale, TooLong, VolId, active_of, drives_of, kept_at, key_of, record_room, record_text, replicas_of, seats_area, site_area, shortage}
+use Rattle.mdv_engine.specs.Below.{Answer, AreCalm, AreLaid, CameTo, CarriedTo, CarryMoment, Change, Changed, Host, IsOfGeometry, IsOpenedAt, IsPlain, IsReady, Knows, MakeStripe, Memory, Opened, OutOfMemory, Outcomes, Refusal, Replica, ReplicaFull, SliceLine, SliceName, Table, Tale, TooLong, VolId, drives_of, kept_at, key_of, record_room, record_text, replicas_of, seats_area, site_area, shortage}
 use Rattle.mdv_engine.specs.Engine.{HasChangeCause, IsCommittable, IsHeldBy, IsNextTable, IsWell, LiesOn}
 
 -- the lists of a table stay where a change makes another of it

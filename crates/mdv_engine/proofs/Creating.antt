@@ -1,7 +1,5 @@
 -- What a creation of the host's database leaves, told of the host.
 use Rattle.std.proofs.Common.{◌≡◌, ◌⊎◌, inl, inr, ◌≤◌, ◌<◌, ◌+◌, ◌*◌, ◌^◌, ℕ, Bool, true, List, [], length, Option, Some, None, Ok, Err, Contains, refl, sym, subst, ap, ◌∙◌, arith, map}
-use Rattle.std.specs.Prelude.{nat_le}
-use Rattle.std.proofs.lemmas.Bool.{le-leb}
 use Rattle.std.proofs.lemmas.List.Elements.{All-contains}
 use Rattle.mdv_base.specs.Name.{IsName}
 use Rattle.mdv_databases.proofs.Creating as databases
@@ -31,7 +29,7 @@ use Rattle.mdv_store.proofs.Spotting.{asked_active, asked_length}
 use Rattle.mdv_store.specs.Create as create
 use Rattle.mdv_store.specs.Create.{AreAsked, CreateEnds, CreateMoment, MayForm, StayFormed, WereFormed, drives_asked, replica_on, seats_asked, table_of}
 use Rattle.mdv_store.specs.Blank.{IsBlank}
-use Rattle.mdv_store.specs.Seats.{AreLeft, AreTheirs, TakesSlot, active_of}
+use Rattle.mdv_store.specs.Seats.{AreLeft, AreTheirs, TakesSlot}
 use Rattle.mdv_store.specs.declared.creating.CreateFault.TheVariants as unmade
 use Rattle.mdv_survey.specs.Choice.{same_identity}
 use Rattle.mdv_words.specs.Line.{IsCount, IsLength}

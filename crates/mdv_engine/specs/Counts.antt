@@ -76,7 +76,7 @@ pub record WereTried {S : Type 0} (shelf : Ghosts S) (old new : S) (Steps : List
 abbrev pub HasTriedAll : {S : Type 0} → Ghosts S → S → S → Host → Command → Option Opened → ℕ → ℕ → Type 0
 HasTriedAll shelf old new host (Create slices force count blocks) before active listed =
     (identity : Identity) × WereTried shelf old new (WereMadeInTurn shelf old new (key_of host) identity (lines_asked host slices) count blocks) (seats_asked (key_of host) identity (lines_asked host slices) count blocks)
-        (table_of (seats_asked (key_of host) identity (lines_asked host slices) count blocks)).plan.lists active listed
+    (table_of (seats_asked (key_of host) identity (lines_asked host slices) count blocks)).plan.lists active listed
 HasTriedAll shelf old new host (command.MakeStripe volume slice) (Some o) active listed =
     WereTried shelf old new (AreWrittenBy shelf (next_mark o.mark) (table_after host.drives (MakeStripe volume slice) o.table) old new o.seats) o.seats o.table.plan.lists active listed
 HasTriedAll shelf old new host other before active listed = Unit {0}

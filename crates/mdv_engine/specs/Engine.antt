@@ -1,5 +1,5 @@
 -- What an engine keeps, what its boots answer, and why blocks and changes are refused.
-use Rattle.std.specs.Prelude.{◌≡◌, ◌⊎◌, ◌+◌, ◌*◌, ◌<◌, ◌≤◌, ℕ, Bool, true, List, [], length, Contains, Option, Some, None, IfSome, IsTrue, Result, Ok, Err}
+use Rattle.std.specs.Prelude.{◌≡◌, ◌⊎◌, ◌+◌, ◌*◌, ◌<◌, ◌≤◌, ℕ, Bool, true, List, [], length, Contains, Option, Some, None, IfSome, Result, Ok, Err}
 use Rattle.mdv_engine.specs.Below.{Answer, AreCalm, AreLaid, BootEnd, Change, CommitFault, CreateFault, DriveNo, Drives, Geometry, Host, IoFault, IsOfGeometry, IsUpBy, Memory, Opened, OutOfMemory, Outcomes, Refusal, Replica, ReplicaFull, Site, SliceLine, Table, VolId, answered_by, drives_of, has_drive, key_of, opened_by, replicas_of, shortage}
 pub use Rattle.mdv_engine_law.specs.Commands.{FailedBlocks}
 use Rattle.mdv_table.specs.Change.{table_after}

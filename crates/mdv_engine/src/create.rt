@@ -1,6 +1,7 @@
 ghost use Rattle.std.specs.Prelude.{◌≡◌, ◌<◌, ◌≤◌, ◌+◌, ◌*◌, ◌^◌, ◌&&◌, ◌||◌, not, Bool, nat_lt, is_some, length, IfOk};
 ghost use Rattle.std.specs.List.{list_any};
 ghost use Rattle.mdv_name.specs.SliceIndex.{same_slice as spec_same_slice, slice_at as spec_slice_at};
+ghost use Rattle.mdv_plan.specs.Slices.{meets_db as spec_meets_db};
 ghost use Rattle.mdv_words.specs.declared.command.Command.TheVariants.{Create};
 ghost use Rattle.mdv_words.specs.Line.{IsCount, IsInForm, IsLength};
 ghost use Rattle.mdv_shelf.specs.Drives.{KeptAmong};
@@ -9,7 +10,7 @@ ghost use Rattle.mdv_store.specs.Create.{drives_asked};
 ghost use Rattle.mdv_table.specs.Slices.{IsSound};
 ghost use Rattle.mdv_engine_law.specs.Commands.{IsAllowed};
 ghost use Rattle.mdv_engine_law.specs.Hosts.{IsReady, lines_asked as spec_lines_asked};
-ghost use Rattle.mdv_engine_law.specs.Refusals.{has_replica as spec_has_replica, is_doubled as spec_is_doubled, is_missing as spec_is_missing, is_plain as spec_is_plain};
+ghost use Rattle.mdv_engine_law.specs.Refusals.{is_doubled as spec_is_doubled, is_missing as spec_is_missing, is_plain as spec_is_plain};
 ghost use Rattle.mdv_engine_law.specs.Refusals.{is_short as spec_is_short, is_taken as spec_is_taken, places_open as spec_places_open, refusal_of};
 ghost use Rattle.mdv_engine.specs.Counts.{IsCommandCounted};
 ghost use Rattle.mdv_engine.specs.Ends.{CreationEnds, CreationMoments, FreeEnds, HasAnswered};
@@ -139,7 +140,21 @@ impl Engine {
         requires sound { IsSound self.now.host.drives }
         ensures { result ≡ list_any (spec_is_taken (case_at self.now)) slices.now }
     {
-        slices.iter().any(|slice| self.is_taken(*slice))
+        match &self.state.database {
+            Some(store) => {
+                let places = store.table().plan.lists.each();
+                self.meet_one(places.as_slice(), slices)
+            }
+            None => self.meet_one(&[], slices),
+        }
+    }
+
+    // Whether another slice that is set aside for replicas has a block of one of these, or a place lies on one.
+    fn meet_one(&self, places: &[Place], slices: &[SliceName]) -> bool
+        requires sound { IsSound self.now.host.drives }
+        ensures { result ≡ list_any (λ slice. spec_meets_db self.now.host.drives slice || list_any (λ p. spec_same_slice p.slice slice) places.now) slices.now }
+    {
+        slices.iter().any(|slice| meets_db(&self.host.drives, *slice) || are_on(places, *slice))
     }
 
     // Whether one has too few blocks.
@@ -188,26 +203,6 @@ impl Engine {
                 places.as_slice().len()
             }
             None => 0,
-        }
-    }
-
-    // Another slice that is set aside for replicas has a block of it, or it has a replica of the open database.
-    fn is_taken(&self, slice: SliceName) -> bool
-        requires sound { IsSound self.now.host.drives }
-        ensures { result ≡ spec_is_taken (case_at self.now) slice }
-    {
-        meets_db(&self.host.drives, slice) || self.has_replica(slice)
-    }
-
-    fn has_replica(&self, slice: SliceName) -> bool
-        ensures { result ≡ spec_has_replica self.now.state.opened slice }
-    {
-        match &self.state.database {
-            Some(store) => {
-                let places = store.table().plan.lists.each();
-                are_on(places.as_slice(), slice)
-            }
-            None => false,
         }
     }
 
@@ -306,7 +301,6 @@ fn are_on(places: &[Place], slice: SliceName) -> bool
 {
     places.iter().any(|place| same_slice(place.slice, slice))
 }
-
 
 fn is_among(slice: SliceName, slices: &[SliceName]) -> bool
     ensures { result ≡ list_any (spec_same_slice slice) slices.now }

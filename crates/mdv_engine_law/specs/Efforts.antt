@@ -114,7 +114,7 @@ pub record EndsByCalls (calls : Outcomes) (made : Made) (host : Host) (content :
   pub still : has_written end ≡ false → made.within 0 (looks_of host up read.calm) 0
 
 -- A boot reads a block of each of the host's drives and syncs it, and each head and each body of an open slot once, where no call failed; and then writes to each active place. Whatever failed, its looks make no more calls than so many looks could take as there are drives of which a read failed, and one; where it
--- adopts or is lost it began to write, by no more calls, and no more blocks, than the places take that it found of the newest table's list; and else it writes nothing.
+-- adopts or is lost it began to write, by no more calls, and no more blocks, than the places take that it found of the newest table's lists; and else it writes nothing.
 pub record BootCalls (calls : Outcomes) (made : Made) (host : Host) (answer : Answer) (memory : Memory) (content : Image) : Type 0 where
   pub most : made.within 0 (2 * length host.site.drives + most_reads host.site + 8 * 100) most_blocks
   pub end : BootEnd

@@ -1,8 +1,8 @@
 //! The table in the form of tables of all kinds of volumes.
-ghost use Rattle.std.specs.Prelude.{◌≡◌, map, IfOk};
+ghost use Rattle.std.specs.Prelude.{◌≡◌, ◌≤◌, length, map, IfOk};
 ghost use Rattle.mdv_listing.specs.Whole.{whole_base, whole_component, whole_kind, whole_lists, whole_of, whole_row, whole_volume};
 
-use mdv_base::Places;
+use mdv_base::{Place, Places};
 use mdv_plan::{
     Base as WholeBase, Component as WholeComponent, Listed, Lists as WholeLists, Row, Sorted,
     Stripe as WholeStripe, Table as WholeTable, Volume as WholeVolume, VolumeKind as WholeKind,
@@ -24,17 +24,17 @@ fn whole_lists(lists: &Lists) -> WholeLists
     ensures { result ≡ whole_lists lists.now }
 {
     match lists {
-        Lists::One(places) => WholeLists::One(copy_of(places)),
-        Lists::Two(old, new) => WholeLists::Two(copy_of(old), copy_of(new)),
+        Lists::One(_) => WholeLists::One(copy_of(lists.first())),
+        Lists::Two(_, _) => WholeLists::Two(copy_of(lists.first()), copy_of(lists.last())),
     }
 }
 
-fn copy_of(places: &Places) -> Places
+fn copy_of(places: &[Place]) -> Places
+    requires { length places.now ≤ 50 }
     ensures { result ≡ places.now }
 {
-    let _few = places.is_full();
     let mut copy = Places::new();
-    for place in places.as_slice() {
+    for place in places {
         copy.push(*place);
     }
     copy

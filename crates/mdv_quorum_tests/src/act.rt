@@ -18,6 +18,11 @@ pub(crate) fn bit(index: u32) -> Spots {
     1u32.checked_shl(index).unwrap_or(0)
 }
 
+// The places and seats of a drive.
+pub(crate) fn of_drive(drive: u32) -> Spots {
+    0xfu32.checked_shl(drive.saturating_mul(4)).unwrap_or(0)
+}
+
 pub(crate) fn spot_at(index: u32) -> Spot {
     Spot {
         drive: DriveNo(index / 4),

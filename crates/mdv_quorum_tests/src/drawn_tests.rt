@@ -1,5 +1,5 @@
 use crate::Draws;
-use crate::act::{Act, Lists, PLACES, Spots, bit, has, spot_at};
+use crate::act::{Act, Lists, PLACES, Spots, bit, has, of_drive, spot_at};
 use crate::world::World;
 use mdv_quorum::{Core, Event, SlotEnd};
 use std::alloc::{AllocError, Global};
@@ -18,10 +18,8 @@ fn drawn_places(draws: &mut Draws, all: Spots) -> Spots {
     }
 }
 
-// As before, or the places change, or a mediator comes or goes.
-fn drawn_lists(draws: &mut Draws, all: Spots, last: Option<Lists>) -> Lists {
-    let places = drawn_places(draws, all);
-    let seat = bit(16 + 4 * draws.below(3)) & all;
+// On the way to these places, or no longer on the way to others.
+fn moved(last: Option<Lists>, places: Spots) -> Lists {
     let Some(last) = last else {
         return Lists {
             first: places,
@@ -29,16 +27,34 @@ fn drawn_lists(draws: &mut Draws, all: Spots, last: Option<Lists>) -> Lists {
             mediators: 0,
         };
     };
-    match draws.below(5) {
-        0 | 1 => Lists {
-            first: last.second.unwrap_or(last.first),
-            second: if last.second.is_none() {
-                Some(places)
-            } else {
-                None
-            },
-            mediators: last.mediators,
+    Lists {
+        first: last.second.unwrap_or(last.first),
+        second: if last.second.is_none() {
+            Some(places)
+        } else {
+            None
         },
+        mediators: last.mediators,
+    }
+}
+
+// No longer on the way from other places.
+fn settled(last: Option<Lists>, all: Spots) -> Lists {
+    match last {
+        Some(last) if last.second.is_none() => last,
+        _ => moved(last, all),
+    }
+}
+
+// As before, or the places change, or a mediator comes or goes.
+fn drawn_lists(draws: &mut Draws, all: Spots, last: Option<Lists>) -> Lists {
+    let places = drawn_places(draws, all);
+    let seat = bit(16 + 4 * draws.below(3)) & all;
+    let Some(last) = last else {
+        return moved(None, places);
+    };
+    match draws.below(5) {
+        0 | 1 => moved(Some(last), places),
         2 => Lists {
             mediators: last.mediators ^ seat,
             ..last
@@ -99,12 +115,14 @@ fn agree(alloc: Global, core: &Core, world: &World) -> bool {
         && first_apart(alloc, core, world).is_none()
 }
 
-// The core beside the plain world, how many events happened to both, and whether they agreed behind each of them.
+// The core beside the plain world, how many events happened to both, behind how many of them a boot
+// had met a stale vote, and whether they agreed behind each of them.
 #[derive(Drop)]
 struct Pair {
     core: Core,
     world: World,
     events: u32,
+    stale: u32,
     agrees: bool,
 }
 
@@ -113,6 +131,7 @@ fn new_pair(alloc: Global, set: bool) -> Result<Pair, AllocError> {
         core: Core::new(alloc, set),
         world: World::new(alloc, set)?,
         events: 0,
+        stale: 0,
         agrees: true,
     })
 }
@@ -130,6 +149,9 @@ fn step_both(
     pair.core.step(alloc, event)?;
     pair.world.step(alloc, act, index)?;
     pair.events = pair.events.saturating_add(1);
+    if pair.world.is_reading() && pair.world.meets_stale_vote() {
+        pair.stale = pair.stale.saturating_add(1);
+    }
     pair.agrees = pair.agrees && agree(alloc, &pair.core, &pair.world);
     Ok(())
 }
@@ -165,18 +187,36 @@ fn play_next(
     Ok(())
 }
 
-// What was seen of worlds: so many events and boots, behind each of which both agreed or not.
+// What was seen of worlds: so many events, boots and stale votes, behind each of which both agreed or not.
 #[derive(Clone, Copy, Debug)]
 struct Seen {
     events: u32,
     boots: u32,
+    stale: u32,
     agrees: bool,
+}
+
+const NOTHING: Seen = Seen {
+    events: 0,
+    boots: 0,
+    stale: 0,
+    agrees: true,
+};
+
+fn both(one: Seen, other: Seen) -> Seen {
+    Seen {
+        events: one.events.saturating_add(other.events),
+        boots: one.boots.saturating_add(other.boots),
+        stale: one.stale.saturating_add(other.stale),
+        agrees: one.agrees && other.agrees,
+    }
 }
 
 fn outcome(pair: &Pair) -> Seen {
     Seen {
         events: pair.events,
         boots: pair.world.boots(),
+        stale: pair.stale,
         agrees: pair.agrees,
     }
 }
@@ -206,18 +246,129 @@ fn play_seed(alloc: Global, seed: u64, all: Spots) -> Result<Seen, AllocError> {
 }
 
 fn play_worlds(alloc: Global, all: Spots) -> Result<Seen, AllocError> {
-    let mut seen = Seen {
-        events: 0,
-        boots: 0,
-        agrees: true,
-    };
+    let mut seen = NOTHING;
     for seed in 1..5 {
-        let world = play_seed(alloc, seed, all)?;
-        seen = Seen {
-            events: seen.events.saturating_add(world.events),
-            boots: seen.boots.saturating_add(world.boots),
-            agrees: seen.agrees && world.agrees,
-        };
+        seen = both(seen, play_seed(alloc, seed, all)?);
+    }
+    Ok(seen)
+}
+
+fn play_acts(alloc: Global, pair: &mut Pair, acts: &[Act]) -> Result<(), AllocError> {
+    for act in acts {
+        play_both(alloc, pair, *act)?;
+    }
+    Ok(())
+}
+
+// A table of these lists is written at the places that are here.
+fn play_lists(alloc: Global, pair: &mut Pair, lists: Lists, here: Spots) -> Result<(), AllocError> {
+    play_acts(
+        alloc,
+        pair,
+        &[
+            Act::List(lists),
+            Act::Format(here),
+            Act::Write(here),
+            Act::Tell,
+        ],
+    )
+}
+
+// Places are dropped while one drive is away.
+fn play_drop(
+    alloc: Global,
+    draws: &mut Draws,
+    all: Spots,
+    here: Spots,
+    pair: &mut Pair,
+) -> Result<(), AllocError> {
+    let lists = moved(pair.world.lists(), drawn_places(draws, all));
+    play_lists(alloc, pair, lists, here)?;
+    let lists = settled(pair.world.lists(), all);
+    play_lists(alloc, pair, lists, here)
+}
+
+// They are used again, and some have a table by the time the run stops.
+fn play_use(
+    alloc: Global,
+    draws: &mut Draws,
+    all: Spots,
+    here: Spots,
+    pair: &mut Pair,
+) -> Result<(), AllocError> {
+    let lists = moved(pair.world.lists(), all);
+    let took = drawn_places(draws, all) & draws.below(1 << 28) & here;
+    play_acts(
+        alloc,
+        pair,
+        &[
+            Act::List(lists),
+            Act::Format(here),
+            Act::Write(took),
+            Act::Crash,
+        ],
+    )
+}
+
+// That drive is back and another is away: a boot reads some of the rest, and one behind it reads all.
+fn play_boots(
+    alloc: Global,
+    draws: &mut Draws,
+    all: Spots,
+    away: u32,
+    pair: &mut Pair,
+) -> Result<(), AllocError> {
+    let other = draws.below(4);
+    let some = drawn_set(draws, all);
+    play_acts(
+        alloc,
+        pair,
+        &[
+            Act::Back(away),
+            Act::Lose(other),
+            Act::Read(some),
+            Act::Claim(some),
+            Act::Crash,
+            Act::Back(other),
+            Act::Read(all),
+            Act::Claim(all),
+            Act::Write(all),
+            Act::Tell,
+        ],
+    )
+}
+
+fn play_round(
+    alloc: Global,
+    draws: &mut Draws,
+    all: Spots,
+    pair: &mut Pair,
+) -> Result<(), AllocError> {
+    let away = draws.below(4);
+    let here = all & !of_drive(away);
+    play_both(alloc, pair, Act::Lose(away))?;
+    play_drop(alloc, draws, all, here, pair)?;
+    play_use(alloc, draws, all, here, pair)?;
+    play_boots(alloc, draws, all, away, pair)?;
+    let lists = settled(pair.world.lists(), all);
+    play_lists(alloc, pair, lists, all)
+}
+
+// A world of these places, in which they are dropped and used again.
+fn play_rounds(alloc: Global, seed: u64, all: Spots) -> Result<Seen, AllocError> {
+    let mut draws = Draws::new(seed);
+    let mut pair = new_pair(alloc, draws.below(2) == 1)?;
+    play_lists(alloc, &mut pair, moved(None, all), all)?;
+    for _ in 0..30 {
+        play_round(alloc, &mut draws, all, &mut pair)?;
+    }
+    Ok(outcome(&pair))
+}
+
+fn play_reuse(alloc: Global, all: Spots) -> Result<Seen, AllocError> {
+    let mut seen = NOTHING;
+    for seed in 1..5 {
+        seen = both(seen, play_rounds(alloc, seed, all)?);
     }
     Ok(seen)
 }
@@ -232,6 +383,19 @@ fn boots_agree_with_a_plain_world(rt: HostRuntime) -> Result<(), Fail> {
     for all in DRAWN {
         let seen = play_worlds(rt.alloc(), *all)?;
         let is_well = seen.agrees && seen.events > 300 && seen.boots > 4;
+        assert!(rt; is_well, "{all:x}: {seen:?}");
+    }
+    Ok(())
+}
+
+// Three to five places, on three or four drives.
+const REUSED: &[Spots] = &[0x111, 0x1111, 0x1113];
+
+#[test]
+fn boots_agree_where_dropped_places_are_used_again(rt: HostRuntime) -> Result<(), Fail> {
+    for all in REUSED {
+        let seen = play_reuse(rt.alloc(), *all)?;
+        let is_well = seen.agrees && seen.boots > 4 && seen.stale > 4;
         assert!(rt; is_well, "{all:x}: {seen:?}");
     }
     Ok(())

@@ -340,7 +340,8 @@ const CASES: &[(bool, &[&str])] = &[
         adopts 1 3",
         ],
     ),
-    // A dropped place may be formatted again while another replica is away that missed the drop, and is back for the next boot.
+    // A dropped place may be formatted again while another replica is away that missed the drop, and
+    // is back for the next boot.
     (
         false,
         &[

@@ -196,15 +196,27 @@ impl World {
         suffices(self.read, table.lists, half)
     }
 
-    // Whether one of these places shows nothing, and a table behind this one had dropped it when it
-    // was formatted again.
-    fn has_stale_vote(&self, number: usize, votes: Spots) -> bool {
+    // Whether one of the places that were read and that this table names shows nothing, and a table
+    // behind this one had dropped it when it was formatted again.
+    fn has_stale_vote(&self, number: usize, table: &Version) -> bool {
+        let votes = self.read & PLACES & named(table.lists);
         for (disk, index) in self.disks.iter().zip(0..32) {
             if has(votes, index) && disk.shows.is_none() && number < disk.anew {
                 return true;
             }
         }
         false
+    }
+
+    // Whether a boot read enough places for its newest table, but a stale vote is among them.
+    pub(crate) fn meets_stale_vote(&self) -> bool {
+        let Some(number) = self.newest() else {
+            return false;
+        };
+        match self.tables.get(number) {
+            Some(table) => self.is_read(table) && self.has_stale_vote(number, table),
+            None => false,
+        }
     }
 
     // Whether the boot finds a replica there; a mediator it asks.
@@ -224,7 +236,7 @@ impl World {
         match self.tables.get(number) {
             Some(table) => {
                 self.is_read(table)
-                    && !self.has_stale_vote(number, self.read & PLACES & named(table.lists))
+                    && !self.has_stale_vote(number, table)
                     && has(self.formatted & named(table.lists), index)
             }
             None => false,

@@ -5,7 +5,7 @@ ghost use Rattle.mdv_record.specs.Text.{record_text, lists_text, places_text, vo
 
 use crate::record::TooLong;
 use crate::spelling::{EMPTY_PARTS, HEAD, lay, lay_lists, lay_number32, lay_volumes};
-use mdv_base::Places;
+use mdv_base::Place;
 use mdv_table::{Lists, Table, Volume, VolumeKind};
 
 /// Writes the table's text to the front of `out`, and tells how many bytes it has. It takes no memory.
@@ -52,18 +52,18 @@ fn lists_bytes(lists: &Lists) -> u64
     ensures short { result ≤ 1203 }
 {
     match lists {
-        Lists::One(places) => 1 + places_bytes(places),
-        Lists::Two(old, new) => 1 + places_bytes(old) + places_bytes(new),
+        Lists::One(_) => 1 + places_bytes(lists.first()),
+        Lists::Two(_, _) => 1 + places_bytes(lists.first()) + places_bytes(lists.last()),
     }
 }
 
 #[tactic(auto, using(crate::proofs::Lengths::lengths))]
-fn places_bytes(places: &Places) -> u64
+fn places_bytes(places: &[Place]) -> u64
+    requires { length places.now ≤ 50 }
     ensures value { result ≡ length (places_text places.now) }
     ensures short { result ≤ 601 }
 {
-    let _few = places.is_full();
-    1 + 12 * places.as_slice().len() as u64
+    1 + 12 * places.len() as u64
 }
 
 #[tactic(auto, using(crate::proofs::Lengths::lengths))]

@@ -28,8 +28,8 @@ pub fn texts_are_read()
         IsTextOf g text t ↔ IsRecordOf g text t }
 {}
 
-/// Where the text of a table that changes its places fits all of them, the text of the table once that change is over
-/// fits those that it then lists.
+/// Where a table that changes its places has a record, it has one once that change is over: its text fits the places that
+/// it then lists.
 pub fn settled_fits()
     ensures { (g : Geometry) (bytes : List ℕ) (t : Table) → IsRecordOf g bytes t →
         IsRecordOf g (record_text (settled t)) (settled t) }

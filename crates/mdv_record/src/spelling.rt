@@ -6,7 +6,7 @@ ghost use Rattle.mdv_record.specs.Text.{slice_text, place_text, places_text, lis
 ghost use Rattle.mdv_record.specs.Text.{stripe_text, kind_text, volume_text, volumes_text};
 
 use byteorder::{BigEndian, ByteOrder};
-use mdv_base::{Place, Places, SliceName};
+use mdv_base::{Place, SliceName};
 use mdv_table::{Base, Component, Lists, Stripe, Volume, VolumeKind};
 
 /// What a record begins with.
@@ -81,16 +81,7 @@ fn lay_place(out: &mut [u8], used: usize, place: &Place) -> usize
 }
 
 #[tactic(auto, using(crate::proofs::Lengths::lengths))]
-fn lay_places(out: &mut [u8], used: usize, places: &Places) -> usize
-    requires { used + length (places_text places.now) ≤ length out.old }
-    ensures { IsLaid used out.old out.new (places_text places.now) result }
-{
-    let _few = places.is_full();
-    lay_each(out, used, places.as_slice())
-}
-
-#[tactic(auto, using(crate::proofs::Lengths::lengths))]
-fn lay_each(out: &mut [u8], used: usize, places: &[Place]) -> usize
+fn lay_places(out: &mut [u8], used: usize, places: &[Place]) -> usize
     requires few { length places.now ≤ 50 }
     requires room { used + length (places_text places.now) ≤ length out.old }
     ensures { IsLaid used out.old out.new (places_text places.now) result }
@@ -108,14 +99,14 @@ pub(crate) fn lay_lists(out: &mut [u8], used: usize, lists: &Lists) -> usize
     ensures { IsLaid used out.old out.new (lists_text lists.now) result }
 {
     match lists {
-        Lists::One(places) => {
+        Lists::One(_) => {
             let used = lay(out, used, &[1]);
-            lay_places(out, used, places)
+            lay_places(out, used, lists.first())
         }
-        Lists::Two(old, new) => {
+        Lists::Two(_, _) => {
             let used = lay(out, used, &[2]);
-            let used = lay_places(out, used, old);
-            lay_places(out, used, new)
+            let used = lay_places(out, used, lists.first());
+            lay_places(out, used, lists.last())
         }
     }
 }

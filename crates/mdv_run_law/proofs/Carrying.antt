@@ -1,8 +1,6 @@
 -- Where nothing failed and memory wasn't wanting, a line comes to one answer.
-use Rattle.std.proofs.Common.{◌≡◌, inl, inr, ℕ, zero, suc, ◌+◌, ◌*◌, ◌≤◌, ◌<◌, true, false, nat_le, List, [], ◌∷◌, length, map, Option, Some, Contains, refl, sym, ◌∙◌, ap, subst, arith, None}
+use Rattle.std.proofs.Common.{◌≡◌, inl, inr, ℕ, zero, suc, ◌+◌, ◌≤◌, ◌<◌, false, List, [], ◌∷◌, length, map, Option, Some, Contains, refl, sym, ◌∙◌, ap, subst, arith}
 use Rattle.std.specs.List.{range_with_len}
-use Rattle.std.specs.Prelude.{IsTrue}
-use Rattle.std.proofs.lemmas.Bool.Decides.{nat_tests}
 use Rattle.mdv_base.specs.DriveSet.{Drives}
 use Rattle.mdv_map.specs.Maps.{DriveBlock}
 use Rattle.mdv_run_law.specs.Below.{AreBlocksAt, ArePut, Answer, BadLine, CameTo, Command, ComesTo, Create, Entry, Host, Image, IsCommitted, IsCreated, IsSame, IsSameBeside, IsTab, IsTurnedDown, Kept, Line, Memory, Opened, Print, Read, Refusal, SliceLine, Spells, Table, TooMany, VolId, Write, blocks_of, entries_reply, identity_of, key_of, listing_of, printed_reply, record_text, site_area, site_of, values_reply}
@@ -32,7 +30,7 @@ use Rattle.mdv_store.specs.Commit.{next_mark}
 use Rattle.mdv_store.specs.Commit as commit
 use Rattle.mdv_store.specs.Create as create
 use Rattle.mdv_store.specs.Create.{seats_asked, table_of}
-use Rattle.mdv_store.specs.Seats.{AreLeft, TakesSlot, active_of, replicas_of, seats_area}
+use Rattle.mdv_store.specs.Seats.{TakesSlot, active_of, replicas_of, seats_area}
 use Rattle.mdv_store.specs.declared.seats.Seat.{Seat}
 use Rattle.mdv_survey.specs.declared.replica.Replica.{Replica}
 use Rattle.mdv_table.specs.Change.{table_after}

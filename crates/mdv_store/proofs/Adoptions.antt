@@ -31,7 +31,7 @@ use Rattle.mdv_store.specs.BootCounts.{most_blocks}
 use Rattle.mdv_store.specs.Booting.{BootGoes, BootMoment, HasShown, Writes, WritesFor, boot_area, has_written}
 use Rattle.mdv_store.specs.Commit.{AnyLog, AnyWorld, IsNewestWritten}
 use Rattle.mdv_store.specs.Opened.{Opened}
-use Rattle.mdv_store.specs.Seats.{AreLaid, IsLaid, active_of, drives_of, replica_area, replicas_of, seats_area, spots_of}
+use Rattle.mdv_store.specs.Seats.{AreLaid, IsLaid, drives_of, replica_area, replicas_of, seats_area, spots_of}
 use Rattle.mdv_store.specs.Taking.{IsCalmOver, IsHandOf, IsRewriteAnswer, IsRewriteEnd, IsTakingCounted, IsToAdopt, RewriteEnds, RewriteMoment, Rewrites, StaySynced, drives_read}
 use Rattle.mdv_store.specs.Text.{blocks_for}
 use Rattle.mdv_store.specs.declared.booting.BootEnd.{BootEnd}

@@ -1,6 +1,5 @@
 -- What a commit leads to.
 use Rattle.std.proofs.Common.{◌≡◌, inl, inr, ◌<◌, ◌≤◌, ◌+◌, ◌*◌, ◌^◌, ℕ, true, false, List, [], ◌∷◌, ◌++◌, Option, Some, Contains, length, take, refl, sym, ◌∙◌, subst, append-nil, arith, None, ap}
-use Rattle.std.proofs.lemmas.Bool.{false≢true, leb-true}
 use Rattle.std.specs.List.{concat}
 use Rattle.mdv_quorum.specs.declared.event.Event.TheVariants.{Told}
 use Rattle.mdv_record.specs.Room.{least_slot_bytes}

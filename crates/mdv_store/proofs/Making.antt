@@ -1,5 +1,5 @@
 -- What a creation says, clause by clause, of the calls that it made.
-use Rattle.std.proofs.Common.{◌≡◌, inl, inr, ℕ, ◌+◌, ◌*◌, ◌≤◌, true, false, List, [], ◌∷◌, ◌++◌, length, map, Contains, Result, Ok, Err, refl, sym, ◌∙◌, ap, subst, arith, None, Some}
+use Rattle.std.proofs.Common.{◌≡◌, inl, inr, ℕ, ◌+◌, ◌*◌, ◌≤◌, List, [], ◌∷◌, ◌++◌, length, map, Contains, Result, Ok, Err, refl, sym, ◌∙◌, ap, subst, arith, None, Some}
 use Rattle.std.proofs.Math.Nat.{mul-le-mul_left}
 use Rattle.mdv_base.specs.Causes.{failures_of}
 use Rattle.mdv_base.specs.Mark.{IsBelow}

@@ -1,5 +1,5 @@
 -- Enough of a table's seats are enough of each of its lists, as the votes count them.
-use Rattle.std.proofs.Common.{◌≡◌, ◌&&◌, Bool, true, false, List, [], Contains, None, map, refl, sym, ◌∙◌, subst, ap}
+use Rattle.std.proofs.Common.{◌≡◌, ◌&&◌, Bool, true, false, List, [], Contains, None, map, refl, sym, subst}
 use Rattle.std.proofs.lemmas.Bool.{and_from, or_left, or_right}
 use Rattle.mdv_base.specs.declared.name.Key.TheVariants.{Local, Set}
 use Rattle.mdv_shown.specs.Sites.{lines_of}

@@ -2,9 +2,9 @@
 use Rattle.std.proofs.Common.{◌≡◌, inl, inr, ◌<◌, ◌≤◌, ◌+◌, ◌*◌, ◌^◌, max, ℕ, Bool, true, false, ◌&&◌, cond, List, [], ◌∷◌, ◌++◌, None, Some, Contains, length, map, slice_get, slice_index_or, refl, sym, ◌∙◌, subst, ap, arith}
 use Rattle.std.specs.Prelude.{nat_le, not}
 use Rattle.std.specs.List.{AllPairs, list_any}
-use Rattle.std.proofs.lemmas.Bool.{false≢true, leb-true, or_left, or_right}
+use Rattle.std.proofs.lemmas.Bool.{leb-true, or_left, or_right}
 use Rattle.std.proofs.lemmas.Bool.Decides.{nat_tests}
-use Rattle.std.proofs.lemmas.List.Elements.{All-append, Contains-append_cases, Contains-get_or}
+use Rattle.std.proofs.lemmas.List.Elements.{Contains-append_cases}
 use Rattle.mdv_shelf.proofs.Everywhere.{image_synced}
 use Rattle.mdv_shelf.specs.Everywhere.{Everywhere}
 use Rattle.mdv_shown.proofs.Elsewhere.{one_master, range_has}
@@ -15,17 +15,13 @@ use Rattle.mdv_shown.specs.Shown.{SlotShows}
 use Rattle.mdv_shown.specs.Site.{line_area, place_on, size_on}
 use Rattle.mdv_shown.specs.Sites.{lines_of}
 use Rattle.mdv_standing.specs.Adopting.{AreOwn}
-use Rattle.mdv_store_law.specs.Part.{IsPart}
 use Rattle.mdv_survey.specs.Choice.{is_of, place_of, same_identity}
 use Rattle.mdv_survey.specs.Newest.{IsGreatest}
 use Rattle.mdv_replica.specs.Seen.{IsMasterAt}
 use Rattle.mdv_survey.specs.Replica.{IsFoundIn, IsOnShelf, IsSeated}
 use Rattle.mdv_survey.specs.declared.replica.Newest.{Newest}
-use Rattle.mdv_table.proofs.Beside.{among-true}
-use Rattle.mdv_table.proofs.Pairs.{AllPairs-cons, AllPairs-first, AllPairs-rest}
 use Rattle.mdv_table.proofs.Testing.{same_place-true}
 use Rattle.mdv_table.specs.Plan.{beside}
-use Rattle.mdv_table.specs.Table.{IsListsOf}
 use Rattle.mdv_table.specs.Tests.{same_place}
 use Rattle.mdv_table.specs.declared.plan.Lists.{Lists}
 use Rattle.mdv_table.specs.declared.plan.Lists.TheVariants.{One, Two}
@@ -48,10 +44,11 @@ use Rattle.mdv_look.proofs.Looks.{and_first, and_second}
 use Rattle.mdv_store.proofs.Passes.{mapped}
 use Rattle.mdv_store.proofs.Quorums.{enough_read}
 use Rattle.mdv_store.proofs.Records.{spelled_of}
-use Rattle.mdv_store.proofs.Rows.{part_filter, part_has, part_pairs}
+use Rattle.mdv_store.proofs.Rows.{part_filter, part_has}
 use Rattle.mdv_store.proofs.Seating.{greatest_most, seat_of_replica, seated_at, seats_once, seats_places}
 use Rattle.mdv_store.proofs.Shares.{some_more}
 use Rattle.mdv_store.proofs.Sitting.{active_most, contains_behind, contains_first, first_or_behind, seat_of}
+use Rattle.mdv_table.proofs.Listed.{listed_once}
 
 abbrev pub seen_of : Replica → Seen
 seen_of r = record { line = r.line; number = r.number; first = r.first; head = r.head }
@@ -162,31 +159,6 @@ seated_laid sizes site r on at = record {
   short = omega (arith, at.formed.of_place.most, at.length);
 }
 
--- What two lists have stands once in both together: a place of the first list isn't among those that the second has beside it.
-pairs_append : {X : Type 0} (R : X → X → Type 0) (xs ys : List X) → AllPairs R xs → AllPairs R ys → ((x y : X) → Contains xs x → Contains ys y → R x y) → AllPairs R (xs ++ ys)
-pairs_append R [] ys first last both = last
-pairs_append R (x ∷ xs) ys first last both =
-    AllPairs-cons R x (xs ++ ys) (All-append (R x) xs ys (AllPairs-first R x xs first) (λ k d within. both x (slice_index_or ys k d) (contains_first x xs) (Contains-get_or ys k d within)))
-    (pairs_append R xs ys (AllPairs-rest R x xs first) last (λ a b has. both a b (contains_behind x a xs has)))
-
-part_beside : (old new : List Place) → IsPart (beside old new) new
-part_beside old new = part_filter (λ (p : Place). not (list_any (same_place p) old)) new
-
-beside_apart : (old new : List Place) (p : Place) → Contains old p → Contains (beside old new) p → ⊥
-beside_apart old [] p has there = absurd (omega (arith, there.1))
-beside_apart old (x ∷ new) p has there = by (list_any (same_place x) old) refl there (beside_apart old new p has) where
-  by : (b : Bool) → list_any (same_place x) old ≡ b → Contains (cond (not b) (x ∷ beside old new) (beside old new)) p → (Contains (beside old new) p → ⊥) → ⊥
-  by true is there rest = rest there
-  by false is there rest = elim (first_or_behind x p (beside old new) there) [
-    | inl here ↦ false≢true (sym is ∙ (among-true old x).1 (subst (Contains old) (sym here) has))
-    | inr behind ↦ rest behind
-  ]
-
-listed_apart : (old new : List Place) → AllPairs (λ (p q : Place). p ≡ q → ⊥) old → AllPairs (λ (p q : Place). p ≡ q → ⊥) new → AllPairs (λ (p q : Place). p ≡ q → ⊥) (old ++ beside old new)
-listed_apart old new first last =
-    pairs_append (λ (p q : Place). p ≡ q → ⊥) old (beside old new) first (part_pairs (λ (p q : Place). p ≡ q → ⊥) (beside old new) new (part_beside old new) last)
-    (λ p q has there same. beside_apart old new p has (subst (Contains (beside old new)) (sym same) there))
-
 -- and of what was read
 module _ (g : Geometry) (key : Key) (replicas : List Replica) (newest : Newest) (hand : Hand) (is : IsHandOf replicas newest hand) (seated : (r : Replica) → Contains replicas r → IsSeated (site_of g key) r)
     (enough : short_of More hand.seats newest.table.plan.lists ≡ None) (marks : IsGreatest replicas newest) (t : Tale) (was : WasReadOf g (site_of g key) replicas newest t) where
@@ -245,15 +217,11 @@ module _ (g : Geometry) (key : Key) (replicas : List Replica) (newest : Newest) 
   its_record : IsOfGeometry g newest.table
   its_record = (spelled_of g _ newest.table was.sound was.table.shows.text).of_geometry
 
-  listed_once : (lists : Lists) → IsListsOf g lists → AllPairs (λ (p q : Place). p ≡ q → ⊥) (places_of lists)
-  listed_once (One listed) are = are.differ
-  listed_once (Two old new) are = listed_apart old new are.0.differ are.1.differ
-
   held : AreHeld g key hand.identity hand.seats t
   held = record {
     each = λ r has. (let one = in_hand_is at replicas newest hand is seated enough r has in own_at r one.1 (seated_own hand.identity one.0 _ r one.2));
     once = subst (λ (ss : List Seat). AllPairs (λ (p q : Spot). same_spot p q ≡ false) (spots_of ss)) (sym is.seats_are)
-        (seats_once replicas hand.identity (blocks_for (length (record_text newest.table))) apart_spots (places_of newest.table.plan.lists) (listed_once newest.table.plan.lists its_record.lists));
+        (seats_once replicas hand.identity (blocks_for (length (record_text newest.table))) apart_spots (places_of newest.table.plan.lists) (listed_once g newest.table.plan.lists its_record.lists));
   }
 
   abbrev are : AreSeatsOf newest.table hand.seats
@@ -284,7 +252,7 @@ module _ (g : Geometry) (key : Key) (replicas : List Replica) (newest : Newest) 
     by (One ps) same = or_left (is_in (map (spot_at g key was.sound) ps) (spot_of r)) false (in_list ps (listed ps same))
     by (Two old new) same = elim (Contains-append_cases old (beside old new) seat.0.place (listed (old ++ beside old new) same)) [
       | inl first ↦ or_left (is_in (map (spot_at g key was.sound) old) (spot_of r)) (is_in (map (spot_at g key was.sound) new) (spot_of r)) (in_list old first)
-      | inr last ↦ or_right (is_in (map (spot_at g key was.sound) old) (spot_of r)) (is_in (map (spot_at g key was.sound) new) (spot_of r)) (in_list new (part_has (beside old new) new seat.0.place (part_beside old new) last))
+      | inr last ↦ or_right (is_in (map (spot_at g key was.sound) old) (spot_of r)) (is_in (map (spot_at g key was.sound) new) (spot_of r)) (in_list new (part_has (beside old new) new seat.0.place (part_filter (λ (p : Place). not (list_any (same_place p) old)) new) last))
     ]
 
   -- the replica that shows it

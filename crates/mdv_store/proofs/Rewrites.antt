@@ -1,7 +1,6 @@
 -- The two passes of a boot: what they come to, and what they cost.
 use Rattle.std.proofs.Common.{◌≡◌, ◌⊎◌, inl, inr, ◌<◌, ◌≤◌, ◌+◌, ◌*◌, ◌^◌, max, ℕ, Bool, true, false, List, Contains, length, nat_eq, refl, sym, ◌∙◌, subst, ap, arith, Option, None, Some, MatchOption}
 use Rattle.std.proofs.Math.Nat.{mul-le-mul_left}
-use Rattle.std.specs.Bool.{MatchBool}
 use Rattle.std.proofs.lemmas.Bool.{eqb-false, eqb-true}
 use Rattle.mdv_base.specs.Causes.{RoseOnce}
 use Rattle.mdv_record.proofs.Rooms.{room_most}
@@ -38,17 +37,17 @@ use Rattle.mdv_store.proofs.Passes.{all_left, later, left_area, left_as, left_bo
 use Rattle.mdv_look.proofs.Quiet.{quiet_more, quiet_wider}
 use Rattle.mdv_store.proofs.Shares.{more_suffices, short_fewer, some_more}
 use Rattle.mdv_store.proofs.Rewriting.{blank_goes, both_none_above, claims_go, ends_go, opened, rest_goes, slots_go}
-use Rattle.mdv_store.proofs.Sitting.{active_most, left_count, left_replica, left_seats, some_active}
+use Rattle.mdv_store.proofs.Sitting.{active_most, left_replica, left_seats, some_active}
 use Rattle.mdv_store.proofs.Texts.{spelled_long}
 use Rattle.mdv_store.specs.Shares.{short_of}
 use Rattle.mdv_store.specs.declared.seats.Need.TheVariants.{More}
 use Rattle.mdv_store.specs.declared.seats.Share.{Share}
 
--- at most fifty are active
 -- what came of the seats, by the key's need
 pub as_needed : (key : Key) (need : Need) (seats told : List Seat) (lists : Lists) (came : Option Share) → need ≡ need_of key → told ≡ seats → came ≡ short_of need told lists → short_of (need_of key) seats lists ≡ came
 as_needed key need seats told lists came of same is = ap (λ (n : Need). short_of n seats lists) (sym of) ∙ ap (λ (l : List Seat). short_of need l lists) (sym same) ∙ sym is
 
+-- at most a hundred are active
 few_active : (seats : List Seat) → length seats ≤ 100 → active_of seats ≤ 100
 few_active seats few = omega (arith, few, active_most seats)
 

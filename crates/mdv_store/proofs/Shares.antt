@@ -1,9 +1,9 @@
 -- Which lists of a table have enough active places.
-use Rattle.std.proofs.Common.{◌≡◌, ◌⊎◌, inl, inr, ◌<◌, ◌≤◌, ◌+◌, ◌*◌, ◌&&◌, ◌||◌, ℕ, Bool, true, false, cond, is_some, List, [], ◌∷◌, Option, None, Some, MatchOption, Contains, length, map, refl, sym, ◌∙◌, ap, subst, arith}
-use Rattle.std.specs.Prelude.{count_by, filter, nat_le, nat_lt, not}
+use Rattle.std.proofs.Common.{◌≡◌, ◌⊎◌, inl, inr, ◌<◌, ◌≤◌, ◌*◌, ◌&&◌, ℕ, Bool, true, false, cond, is_some, List, [], ◌∷◌, Option, None, Some, MatchOption, Contains, length, map, refl, ◌∙◌, ap, subst, arith, sym, ◌||◌, ◌+◌}
+use Rattle.std.specs.Prelude.{count_by, AllPairs}
 use Rattle.std.specs.List.{cons_option, list_any}
 use Rattle.std.specs.Option.{option_or}
-use Rattle.std.proofs.lemmas.Bool.{and_from, and_parts, cases_lt, false≢true, le-leb, leb-false, leb-true, lt-ltb, ltb-false, ltb-true, or_cases, or_left, or_right}
+use Rattle.std.proofs.lemmas.Bool.{and_from, and_parts, cases_lt, false≢true, le-leb, leb-false, leb-true, lt-ltb, ltb-false, ltb-true, or_cases, or_left, or_right, false_from_ne_true}
 use Rattle.std.proofs.lemmas.List.{length-map}
 use Rattle.std.proofs.lemmas.List.Folds.{list_any_at}
 use Rattle.std.proofs.lemmas.List.Elements.{All-contains, All-contains_itself, Contains-append_left}
@@ -25,8 +25,9 @@ use Rattle.mdv_store.specs.declared.seats.Need.{Need}
 use Rattle.mdv_store.specs.declared.seats.Need.TheVariants.{Half, More}
 use Rattle.mdv_store.specs.declared.seats.Seat.{Seat}
 use Rattle.mdv_store.specs.declared.seats.Share.{Share}
-use Rattle.mdv_store.proofs.Passes.{left_most}
+use Rattle.mdv_store.proofs.Passes.{left_most, mapped}
 use Rattle.mdv_store.proofs.Sitting.{contains_behind, contains_first, replica_of}
+use Rattle.mdv_table.proofs.Pairs.{AllPairs-first, AllPairs-rest}
 
 -- one of a list passes
 any_one : {X : Type 0} (p : X → Bool) (xs : List X) → list_any p xs ≡ true → (x : X) × Contains xs x × (p x ≡ true)
@@ -94,6 +95,47 @@ own_among all (s ∷ seats) among = by s.replica refl (own_among all seats (λ t
 
 pub own_active : (seats : List Seat) → active_of seats ≤ count_by (has_active seats) (map (λ (s : Seat). s.place) seats)
 own_active seats = own_among seats seats (λ s has. has)
+
+-- and just as many, where these places differ
+count_same : {X : Type 0} (p q : X → Bool) (xs : List X) → ((x : X) → Contains xs x → p x ≡ q x) → count_by p xs ≡ count_by q xs
+count_same p q xs same =
+    let one = count_within p q xs (λ x has is. sym (same x has) ∙ is) in
+    let other = count_within q p xs (λ x has is. same x has ∙ is) in
+    omega (arith, one, other)
+
+beside_first : (s : Seat) (seats : List Seat) (p : Place) → (s.place ≡ p → ⊥) → has_active (s ∷ seats) p ≡ has_active seats p
+beside_first s seats p never =
+    let other = false_from_ne_true (same_place s.place p) (λ so. never ((same_place-true s.place p).0 so)) in
+    ap (λ (b : Bool). (b && is_active s) || has_active seats p) other
+
+first_alone : (s : Seat) (seats : List Seat) → ((t : Seat) → Contains seats t → s.place ≡ t.place → ⊥) → has_active (s ∷ seats) s.place ≡ is_active s
+first_alone s seats never =
+    let none = false_from_ne_true (has_active seats s.place) (λ so. let at = seat_at seats s.place so in never at.0 at.2 (sym at.4)) in
+    ap (λ (b : Bool). (b && is_active s) || has_active seats s.place) ((same_place-true s.place s.place).1 refl) ∙ ap (λ (b : Bool). is_active s || b) none ∙ by (is_active s)
+  where
+    by : (b : Bool) → (b || false) ≡ b
+    by true = refl
+    by false = refl
+
+own_just : (seats : List Seat) → AllPairs (λ (p q : Place). p ≡ q → ⊥) (map (λ (s : Seat). s.place) seats) → count_by (has_active seats) (map (λ (s : Seat). s.place) seats) ≡ active_of seats
+own_just [] differ = refl
+own_just (s ∷ seats) differ =
+    let places : List Place = map (λ (t : Seat). t.place) seats in
+    let first = AllPairs-first (λ (p q : Place). p ≡ q → ⊥) s.place places differ in
+    let rest = own_just seats (AllPairs-rest (λ (p q : Place). p ≡ q → ⊥) s.place places differ) in
+    let same = count_same (has_active (s ∷ seats)) (has_active seats) places (λ p has. beside_first s seats p (All-contains (λ (q : Place). s.place ≡ q → ⊥) places p first has)) in
+    let alone = first_alone s seats (λ t has. All-contains (λ (q : Place). s.place ≡ q → ⊥) places t.place first (mapped (λ (x : Seat). x.place) seats t has)) in
+    let count = count_cons (has_active (s ∷ seats)) s.place places in
+    by s.replica (ap (λ (b : Bool). cond {A = ℕ} b 1 0) alone) (omega (arith, count, same, rest))
+  where
+    by : (o : Option Replica) → cond {A = ℕ} (has_active (s ∷ seats) s.place) 1 0 ≡ cond {A = ℕ} (is_some o) 1 0
+        → count_by (has_active (s ∷ seats)) (s.place ∷ map (λ (t : Seat). t.place) seats) ≡ cond {A = ℕ} (has_active (s ∷ seats) s.place) 1 0 + active_of seats
+        → count_by (has_active (s ∷ seats)) (s.place ∷ map (λ (t : Seat). t.place) seats) ≡ length (cons_option o (replicas_of seats))
+    by None one all = omega (arith, one, all)
+    by (Some r) one all = omega (arith, one, all)
+
+pub share_just : (seats : List Seat) → AllPairs (λ (p q : Place). p ≡ q → ⊥) (map (λ (s : Seat). s.place) seats) → share_in seats (map (λ (s : Seat). s.place) seats) ≡ record { active = active_of seats; listed = length seats }
+share_just seats differ = λ i. record { active = own_just seats differ i; listed = length-map seats (λ (s : Seat). s.place) i }
 
 module _ (need : Need) (seats : List Seat) where
   -- a list that isn't short suffices

@@ -1,5 +1,5 @@
 -- What a boot says: of its answer, of each moment, and of the end.
-use Rattle.std.specs.Prelude.{◌≡◌, ◌⊎◌, ◌<◌, ◌≤◌, ◌+◌, ◌*◌, ◌/◌, ◌^◌, ◌&&◌, if◌then◌else◌, nat_le, ℕ, Bool, true, false, max, List, [], ◌∷◌, length, map, None, Some}
+use Rattle.std.specs.Prelude.{◌≡◌, ◌⊎◌, ◌<◌, ◌≤◌, ◌+◌, ◌/◌, ◌^◌, ◌&&◌, if◌then◌else◌, nat_le, ℕ, Bool, true, false, max, List, [], ◌∷◌, length, map, None, Some}
 use Rattle.std.specs.List.{find}
 use Rattle.mdv_base.specs.declared.name.Key.TheVariants.{Local, Set}
 pub use Rattle.mdv_look.specs.Peeking.{WasChosen}

@@ -1,5 +1,5 @@
 -- What a commit says: of its answer, of each moment, and of the end.
-use Rattle.std.specs.Prelude.{◌≡◌, ◌⊎◌, ◌<◌, ◌≤◌, ◌+◌, ◌^◌, ℕ, true, false, List, [], length, Contains, Option, None, Some, Result, Ok, Err}
+use Rattle.std.specs.Prelude.{◌≡◌, ◌⊎◌, ◌<◌, ◌≤◌, ◌+◌, ◌^◌, ℕ, true, List, [], length, Contains, Option, None, Some, Result, Ok, Err}
 use Rattle.mdv_record.specs.Room.{least_slot_bytes}
 use Rattle.mdv_shelf.specs.Shelves.{AtEnd, DriveFailures}
 use Rattle.mdv_store_law.specs.Log.{IsLog, IsNewestTellable}

@@ -1,5 +1,5 @@
 -- What a creation says: of what it is asked, of its answer, of each moment, and of the end.
-use Rattle.std.specs.Prelude.{◌≡◌, ◌⊎◌, ◌<◌, ◌≤◌, ◌+◌, ◌*◌, ◌^◌, nat_lt, if◌then◌else◌, ℕ, zero, suc, false, List, [], ◌∷◌, length, map, flat_map, slice_index_or, AllPairs, Contains, Some, None, Result, Ok, Err, IfOk, IsTrue}
+use Rattle.std.specs.Prelude.{◌≡◌, ◌⊎◌, ◌<◌, ◌≤◌, ◌+◌, ◌*◌, ◌^◌, nat_lt, if◌then◌else◌, ℕ, zero, suc, List, [], ◌∷◌, length, map, flat_map, slice_index_or, AllPairs, Contains, Some, None, Result, Ok, Err, IfOk}
 use Rattle.mdv_shelf.specs.Drives.{KeptAmong}
 use Rattle.mdv_shelf.specs.Shelves.{AtEachTale, AtEnd, DriveFailures, MadeCalls}
 use Rattle.mdv_standing.specs.Blanking.{MayClear}

@@ -1,5 +1,5 @@
 -- The listed places of an open database: which are active, where their replicas lie, and what a pass over them leaves.
-use Rattle.std.specs.Prelude.{◌≡◌, ◌≤◌, ℕ, Bool, false, List, [], ◌∷◌, length, map, AllPairs, Contains, None, MatchOption, IsTrue}
+use Rattle.std.specs.Prelude.{◌≡◌, ◌≤◌, ℕ, false, List, [], ◌∷◌, length, map, AllPairs, Contains, None, MatchOption, IsTrue}
 use Rattle.std.specs.List.{filter_map, list_any}
 use Rattle.mdv_store.specs.Below.{Area, DriveNo, Everywhere, Failures, Geometry, Head, Identity, IsNewestOf, IsOwn, IsPlaced, IsSpareSlot, Key, Mark, Open, Replica, Second, First, Site, Slot, Spot, Table, Tale, at_of, is_named, lists_of_spots, range, same_spot, site_of, slot_blocks, spot_on, with_slot}
 use Rattle.mdv_store.specs.Records.{Spells}

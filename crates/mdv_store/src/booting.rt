@@ -304,7 +304,7 @@ fn lost(share: Share) -> Taken
     }
 }
 
-// Not more than half of the list was found.
+// Not more than half of a list was found: so much of it.
 fn unread(share: Share) -> BootEnd
     ensures { result ≡ BootEnd.NoQuorum share.active (share.listed / 2 + 1) }
 {

@@ -1,5 +1,5 @@
 -- Reads on one drive, of which none failed, or the last.
-use Rattle.std.proofs.Common.{◌≡◌, ◌⊎◌, inl, inr, ℕ, ◌+◌, refl, ◌∙◌, subst, arith}
+use Rattle.std.proofs.Common.{◌⊎◌, inl, inr, ℕ, ◌+◌, refl, ◌∙◌, arith}
 use Rattle.mdv_shelf.specs.Calls.{Part, OnDrive}
 use Rattle.mdv_shelf.specs.Made.{tally_of}
 use Rattle.mdv_shelf.specs.Shelves.{DriveFailures, KeptOn, MadeCalls}

@@ -2,6 +2,7 @@ pub mod Counting
 pub mod Ending
 pub mod Bodies
 pub mod Tables
+pub mod Reading
 pub mod Newests
 pub mod Listing
 pub mod Told
@@ -18,3 +19,4 @@ pub mod Places
 pub mod Visiting
 pub mod Slicing
 pub mod Alike
+pub mod Exactness

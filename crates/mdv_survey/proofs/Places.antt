@@ -1,11 +1,11 @@
 -- What was read at a place, of the same place by another name.
-use Rattle.std.proofs.Common.{◌≡◌, ℕ, List, Option, subst}
+use Rattle.std.proofs.Common.{◌≡◌, ℕ, List, Option, Some, None, Ok, subst}
 use Rattle.std.specs.Prelude.{slice_index_or}
 use Rattle.mdv_shelf.specs.Calls.{OnDrive}
 use Rattle.mdv_shelf.specs.Shelves.{DriveFailures}
 use Rattle.mdv_replica.specs.declared.looking.Seen.{Seen}
 use Rattle.mdv_survey.specs.Below.{Geometry, Ghosts, Head, PlaceAt, Tale, last}
-use Rattle.mdv_survey.specs.Counts.{ReadOn}
+use Rattle.mdv_survey.specs.Counts.{AreSlotsBy, IsCounted, IsUnfitBy, ReadOn}
 use Rattle.mdv_survey.specs.Slice.{IsSeenThere}
 use Rattle.mdv_survey.specs.Slots.{AreSlots, HasReadCause}
 use Rattle.mdv_survey.specs.declared.body.ReadFault.{ReadFault}
@@ -24,6 +24,11 @@ module _ (at place : PlaceAt) (same : at ≡ place) where
 
   pub slots_here : (g : Geometry) (head : Head) (t : Tale) (found other : Option Slots) → found ≡ other → AreSlots g at head (last t at.drive.0) found → AreSlots g place head (last t place.drive.0) other
   slots_here g head t found other is slots = subst (λ (p : PlaceAt). AreSlots g p head (last t p.drive.0) other) same (subst (AreSlots g at head (last t at.drive.0)) is slots)
+
+  pub unfit_here : {S : Type 0} (E : Type 0) (shelf : Ghosts S) (a b : S) (g : Geometry) (head : Head) (found : Option Slots) → found ≡ None → AreSlotsBy {E = E} shelf g at head a b (Ok found)
+      → IsCounted shelf a b 2 (λ t n. IsUnfitBy g place head (last t place.drive.0) n)
+  unfit_here E shelf a b g head None none counted = subst (λ (p : PlaceAt). IsCounted shelf a b 2 (λ t n. IsUnfitBy g p head (last t p.drive.0) n)) same counted
+  unfit_here E shelf a b g head (Some slots) none counted = absurd (cc (none))
 
   pub seen_here : (sizes : List ℕ) (t : Tale) (seen : Seen) → IsSeenThere at (slice_index_or sizes at.drive.0 0) (last t at.drive.0) seen → IsSeenThere place (slice_index_or sizes place.drive.0 0) (last t place.drive.0) seen
   seen_here sizes t seen there = subst (λ (p : PlaceAt). IsSeenThere p (slice_index_or sizes p.drive.0 0) (last t p.drive.0) seen) same there

@@ -4,7 +4,7 @@ use Rattle.std.specs.Prelude.{Contains, IfSome, slice_index_or}
 use Rattle.mdv_replica.specs.declared.looking.Seen.{Seen}
 use Rattle.mdv_shelf.specs.Shelves.{MadeCalls}
 use Rattle.mdv_survey.specs.Below.{Flags, Geometry, Ghosts, Head, IsHead, PlaceAt, Site, SliceLine, Tale, last, size_on}
-use Rattle.mdv_survey.specs.Counts.{IsBehindBy, IsCounted, IsNumberBy, IsSliceBy, IsVisitBy}
+use Rattle.mdv_survey.specs.Counts.{HasNoPlace, IsBehindBy, IsCounted, IsNumberBy, IsSliceBy, IsUnfitBy, IsVisitBy, open_slots}
 use Rattle.mdv_survey.specs.Replica.{Contents, IsOnShelf, at_of}
 use Rattle.mdv_survey.specs.Others.{IsAhead, first_at, first_of, most_on}
 use Rattle.mdv_survey.specs.Slice.{IsHeadThere, IsSeenThere, ListsNext, ListsRest, LooksAtAll, LooksBehind, Visits}
@@ -68,6 +68,14 @@ module _ (g : Geometry) (site : Site) (line : SliceLine) where
     pub first_head : (c : ℕ → List ℕ) → IsHead (first_at line (most_on line)) (size_on site line) c head → IsHead (at_of first_replica) (size_on site line) c head
     first_head c is = head_at_zero line (size_on site line) c head head.master.blocks head.master.count (most_on line) is (omega arith)
 
+    -- the slice has its place
+    begins_first : (c : ℕ → List ℕ) → IsHead (first_at line (most_on line)) (size_on site line) c head → HasNoPlace line head.master 0 → ⊥
+    begins_first c is (inl short) =
+        let fits = is.lies.in_place in
+        let least = is.lies.least in
+        omega (arith, short, fits, least)
+    begins_first c is (inr (some, past)) = omega (arith, some)
+
     first_ahead : (c : ℕ → List ℕ) → IsHead (first_at line (most_on line)) (size_on site line) c head → IsAhead g site line head.master 0 c
     first_ahead c is = record { located = located_first line (size_on site line) c head (most_on line) is; before = λ j less. absurd (omega (arith, less)); within = (let least = is.lies.least in let most = is.lies.in_place in omega (arith, least, most)) }
 
@@ -85,11 +93,11 @@ module _ (g : Geometry) (site : Site) (line : SliceLine) where
           let looked = visits.looks (first_head (content line.at.drive.0) is) (first_ahead (content line.at.drive.0) is) in
           behind looked.0 answers lines (looked.1 answers lines found)
 
-      first_by : (old new : Finds) (readable : Bool) (n : ℕ) → Visits g site first_replica content old new readable → IsVisitBy head readable n → IsNumberBy g site line head.master (content line.at.drive.0) 0 readable (1 + n)
+      first_by : (old new : Finds) (readable : Bool) (n : ℕ) → Visits g site first_replica content old new readable → IsVisitBy g (at_of first_replica) (content line.at.drive.0) head readable n → IsNumberBy g site line head.master (content line.at.drive.0) 0 readable (1 + n)
       first_by old new readable n visits by =
-          number_by g site line head.master (content line.at.drive.0) 0 n head readable (first_head (content line.at.drive.0) is) refl (visits.chained (first_head (content line.at.drive.0) is)) by
+          number_by g site line head.master (content line.at.drive.0) 0 n head readable (begins_first (content line.at.drive.0) is) (first_head (content line.at.drive.0) is) refl (visits.chained (first_head (content line.at.drive.0) is)) by
 
-      pub unreadable_by : (old new : Finds) (n : ℕ) → Visits g site first_replica content old new false → IsVisitBy head false n → IsSliceBy g site line (content line.at.drive.0) (1 + n)
+      pub unreadable_by : (old new : Finds) (n : ℕ) → Visits g site first_replica content old new false → IsUnfitBy g (at_of first_replica) head (content line.at.drive.0) n → IsSliceBy g site line (content line.at.drive.0) (1 + n)
       unreadable_by old new n visits by = inr (
         head.master,
         record {
@@ -97,21 +105,22 @@ module _ (g : Geometry) (site : Site) (line : SliceLine) where
           number = 0;
           calls = 0;
           more = 1 + n;
+          begins = begins_first (content line.at.drive.0) is;
           readable = refl;
           ends = first_by old new false n visits by;
           all = omega arith;
         },
       )
 
-      pub all_by : (old new : Finds) (n m : ℕ) → Visits g site first_replica content old new true → IsVisitBy head true n → IsBehindBy g site line head.master (content line.at.drive.0) m → IsSliceBy g site line (content line.at.drive.0) (1 + n + m)
+      pub all_by : (old new : Finds) (n m : ℕ) → Visits g site first_replica content old new true → n ≡ open_slots head → IsBehindBy g site line head.master (content line.at.drive.0) m → IsSliceBy g site line (content line.at.drive.0) (1 + n + m)
       all_by old new n m visits by behind =
           let one = first_by old new true n visits by in
-          let slots = one.2 in
-          inr (head.master, behind (first_ahead (content line.at.drive.0) is).located (1 + n) (one.0, 0, one.1, refl, omega (arith, slots)))
+          let slots = one.3 in
+          inr (head.master, behind (first_ahead (content line.at.drive.0) is).located (1 + n) (one.0, 0, one.1, one.2, refl, omega (arith, slots)))
 
 -- so many calls behind the head's read: for the slots of the first replica, and for those behind it
 abbrev AllBy : Geometry → Site → SliceLine → Head → Tale → ℕ → Type 0
-AllBy g site line head t k = (n : ℕ) × (m : ℕ) × (k ≡ n + m) × IsVisitBy head true n × IsBehindBy g site line head.master (last t line.at.drive.0) m
+AllBy g site line head t k = (n : ℕ) × (m : ℕ) × (k ≡ n + m) × (n ≡ open_slots head) × IsBehindBy g site line head.master (last t line.at.drive.0) m
 
 -- how many calls the look at a slice takes, whose first place has a head
 module _ {S : Type 0} (shelf : Ghosts S) (a b c : S) (same : shelf.tale b ≡ shelf.tale a) (made : MadeCalls shelf a b 1 0) where
@@ -122,15 +131,15 @@ module _ {S : Type 0} (shelf : Ghosts S) (a b c : S) (same : shelf.tale b ≡ sh
 
   module _ (g : Geometry) (site : Site) (line : SliceLine) (head : Head) (there : (t : Tale) → shelf.tale a ≡ Some t → IsHead (first_at line (most_on line)) (size_on site line) (last t line.at.drive.0) head) (old mid : Finds) where
     -- the first replica isn't readable
-    pub unreadable_counted : ((t : Tale) → shelf.tale a ≡ Some t → Visits g site (first_replica g site line head) (last t) old mid false) → IsCounted shelf b c 2 (λ t n. IsVisitBy head false n)
+    pub unreadable_counted : ((t : Tale) → shelf.tale a ≡ Some t → Visits g site (first_replica g site line head) (last t) old mid false) → IsCounted shelf b c 2 (λ t n. IsUnfitBy g (at_of (first_replica g site line head)) head (last t line.at.drive.0) n)
         → IsCounted shelf a c 765 (λ t n. (1 ≤ n) × IsSliceBy g site line (last t line.at.drive.0) n)
     unreadable_counted visits counted =
-        counted_more shelf a b c 1 2 765 (λ t n. n ≡ 1) (λ t n. IsVisitBy head false n) (λ t n. (1 ≤ n) × IsSliceBy g site line (last t line.at.drive.0) n) (omega arith) same
+        counted_more shelf a b c 1 2 765 (λ t n. n ≡ 1) (λ t n. IsUnfitBy g (at_of (first_replica g site line head)) head (last t line.at.drive.0) n) (λ t n. (1 ≤ n) × IsSliceBy g site line (last t line.at.drive.0) n) (omega arith) same
         (λ t m n is one by. (omega (arith, one), subst (λ (k : ℕ). IsSliceBy g site line (last t line.at.drive.0) (k + n)) (sym one) (unreadable_by g site line head (last t) (there t is) old mid n (visits t is) by)))
         (counted_one shelf a b 1 (λ t n. n ≡ 1) (omega arith) made (λ t is. refl)) counted
 
     -- it is, and those behind it were looked at
-    pub all_counted : (d : S) → shelf.tale c ≡ shelf.tale b → ((t : Tale) → shelf.tale a ≡ Some t → Visits g site (first_replica g site line head) (last t) old mid true) → IsCounted shelf b c 2 (λ t n. IsVisitBy head true n)
+    pub all_counted : (d : S) → shelf.tale c ≡ shelf.tale b → ((t : Tale) → shelf.tale a ≡ Some t → Visits g site (first_replica g site line head) (last t) old mid true) → IsCounted shelf b c 2 (λ t n. n ≡ open_slots head)
         → IsCounted shelf c d 762 (λ t n. IsBehindBy g site line head.master (last t line.at.drive.0) n) → IsCounted shelf a d 765 (λ t n. (1 ≤ n) × IsSliceBy g site line (last t line.at.drive.0) n)
     all_counted d still visits first behind =
         counted_more shelf a b d 1 764 765 (λ t n. n ≡ 1) (AllBy g site line head) (λ t n. (1 ≤ n) × IsSliceBy g site line (last t line.at.drive.0) n) (omega arith) same
@@ -142,4 +151,4 @@ module _ {S : Type 0} (shelf : Ghosts S) (a b c : S) (same : shelf.tale b ≡ sh
               subst (IsSliceBy g site line (last t line.at.drive.0)) equal (all_by g site line head (last t) (there t is) old mid both.0 both.1 (visits t is) both.3 both.4)),
         ))
         (counted_one shelf a b 1 (λ t n. n ≡ 1) (omega arith) made (λ t is. refl))
-        (counted_more shelf b c d 2 762 764 (λ t n. IsVisitBy head true n) (λ t n. IsBehindBy g site line head.master (last t line.at.drive.0) n) (AllBy g site line head) (omega arith) still (λ t m n is one other. (m, n, refl, one, other)) first behind)
+        (counted_more shelf b c d 2 762 764 (λ t n. n ≡ open_slots head) (λ t n. IsBehindBy g site line head.master (last t line.at.drive.0) n) (AllBy g site line head) (omega arith) still (λ t m n is one other. (m, n, refl, one, other)) first behind)

@@ -7,7 +7,7 @@ use Rattle.mdv_replica.specs.declared.looking.Seen.{Seen}
 use Rattle.mdv_shelf.specs.Shelves.{MadeCalls}
 use Rattle.mdv_survey.specs.Below.{Flags, Geometry, Ghosts, Head, IsHead, IsInChain, IsTextOf, Master, PlaceAt, Site, SliceLine, Tale, last, place_on, size_on}
 use Rattle.mdv_survey.specs.Newest.{HasTable, IsMarked}
-use Rattle.mdv_survey.specs.Counts.{IsCounted, IsNumberBy, IsVisitBy}
+use Rattle.mdv_survey.specs.Counts.{HasNoPlace, IsCounted, IsNumberBy, IsVisitBy}
 use Rattle.mdv_survey.specs.Replica.{Contents, IsFoundIn, IsOnShelf, IsSeated, at_of, other_of}
 use Rattle.mdv_survey.specs.Others.{AreSeen, IsAhead, IsLong, headed_flags, unread_flags}
 use Rattle.mdv_survey.specs.Slice.{IsChained, IsSeenThere, ListsNext, Looks, Visits}
@@ -27,6 +27,11 @@ use Rattle.mdv_survey.proofs.Told.{with_other}
 -- the replica of another number on the same slice
 abbrev pub numbered : Replica → ℕ → Replica
 numbered first number = record { line = first.line; number = number; first = first.first; head = first.head }
+
+-- the slice has the place of that number
+pub placed_of : (r : Replica) → r.number < r.first.count → 16 + r.number * r.first.blocks + r.first.blocks ≤ r.line.at.blocks → HasNoPlace r.line r.first r.number → ⊥
+placed_of r less within (inl beyond) = omega (arith, within, beyond)
+placed_of r less within (inr (some, most)) = omega (arith, less, most)
 
 -- the slice ends before the replica would
 pub beyond_of : (r : Replica) (fits : Bool) → fits ≡ false → IsTrue fits ↔ (16 + r.number * r.first.blocks + r.first.blocks ≤ r.line.at.blocks) → r.line.at.blocks < 16 + r.number * r.first.blocks + r.first.blocks
@@ -142,14 +147,14 @@ chained_of g site r content old new is (Err fault) none = tt
 
 -- the read of its head, and then of its slots
 pub number_counted : {S : Type 0} (shelf : Ghosts S) (g : Geometry) (site : Site) (line : SliceLine) (first : Master) (number : ℕ) (head : Head) (a b c : S) (result : Result Bool ReadFault)
-    → shelf.tale b ≡ shelf.tale a → MadeCalls shelf a b 1 0
+    → shelf.tale b ≡ shelf.tale a → MadeCalls shelf a b 1 0 → (HasNoPlace line first number → ⊥)
     → ((t : Tale) → shelf.tale a ≡ Some t → IsHead (place_on line first.blocks first.count number) (size_on site line) (last t line.at.drive.0) head) → head.master.blocks ≡ first.blocks
-    → ((t : Tale) → shelf.tale a ≡ Some t → IfOk result (IsChained g site line first number (last t line.at.drive.0) head)) → IsCounted shelf b c 2 (λ t n. IfOk result (λ readable. IsVisitBy head readable n))
+    → ((t : Tale) → shelf.tale a ≡ Some t → IfOk result (IsChained g site line first number (last t line.at.drive.0) head)) → IsCounted shelf b c 2 (λ t n. IfOk result (λ readable. IsVisitBy g (place_on line first.blocks first.count number) (last t line.at.drive.0) head readable n))
     → IsCounted shelf a c 3 (λ t n. IfOk result (λ readable. IsNumberBy g site line first (last t line.at.drive.0) number readable n))
-number_counted shelf g site line first number head a b c (Err fault) same made there length chained counted =
+number_counted shelf g site line first number head a b c (Err fault) same made place there length chained counted =
     counted_more shelf a b c 1 2 3 (λ t n. Unit {0}) (λ t n. Unit {0}) (λ t n. Unit {0}) (omega arith) same (λ t m n is one by. tt) (counted_one shelf a b 1 (λ t n. Unit {0}) (omega arith) made (λ t is. tt)) counted
-number_counted shelf g site line first number head a b c (Ok readable) same made there length chained counted =
-    counted_more shelf a b c 1 2 3 (λ t n. n ≡ 1) (λ t n. IsVisitBy head readable n) (λ t n. IsNumberBy g site line first (last t line.at.drive.0) number readable n) (omega arith) same
+number_counted shelf g site line first number head a b c (Ok readable) same made place there length chained counted =
+    counted_more shelf a b c 1 2 3 (λ t n. n ≡ 1) (λ t n. IsVisitBy g (place_on line first.blocks first.count number) (last t line.at.drive.0) head readable n) (λ t n. IsNumberBy g site line first (last t line.at.drive.0) number readable n) (omega arith) same
     (λ t m n is one by. subst (λ (k : ℕ). IsNumberBy g site line first (last t line.at.drive.0) number readable (k + n)) (sym one)
-    (number_by g site line first (last t line.at.drive.0) number n head readable (there t is) length (chained t is) by))
+    (number_by g site line first (last t line.at.drive.0) number n head readable place (there t is) length (chained t is) by))
     (counted_one shelf a b 1 (λ t n. n ≡ 1) (omega arith) made (λ t is. refl)) counted

@@ -56,7 +56,7 @@ module _ {S : Type 0} (shelf : Ghosts S) (g : Geometry) (site : Site) (line : Sl
     pub counted_done : first.count ≤ number → (most : ℕ) → 3 * (number - 1) ≤ most → IsCounted shelf start mid most (λ t n. IsBehindBy g site line first (last t line.at.drive.0) n)
     counted_done last_one most fits = counted_weaker shelf start mid (3 * (number - 1)) most _ _ fits
         (λ t n is before located m readable. subst (IsWalkedBy g site line first (last t line.at.drive.0)) (omega arith)
-        (walked_to g site line first (last t line.at.drive.0) number (m + n) 0 located (before located m readable) (inl (inr (omega arith, last_one), refl))))
+        (walked_to g site line first (last t line.at.drive.0) number (m + n) 0 located readable.2 (before located m readable) (inl (inr (omega arith, last_one), refl))))
         so.counted
 
     pub listed_done : ListsRest site line 1 old finds
@@ -72,7 +72,7 @@ module _ {S : Type 0} (shelf : Ghosts S) (g : Geometry) (site : Site) (line : Sl
       pub counted_ended : (most : ℕ) → 3 * number ≤ most → IsCounted shelf mid now 3 (λ t n. IsNumberBy g site line first (last t line.at.drive.0) number false n) → IsCounted shelf start now most (λ t n. IsBehindBy g site line first (last t line.at.drive.0) n)
       counted_ended most fits counted = counted_more shelf start mid now (3 * (number - 1)) 3 most _ (λ t n. IsNumberBy g site line first (last t line.at.drive.0) number false n) _ (omega (arith, some, fits)) so.reads.same
           (λ t k n is before ends located m readable. subst (IsWalkedBy g site line first (last t line.at.drive.0)) (omega arith)
-          (walked_to g site line first (last t line.at.drive.0) number (m + k) n located (before located m readable) ends))
+          (walked_to g site line first (last t line.at.drive.0) number (m + k) n located readable.2 (before located m readable) ends))
           so.counted counted
 
       counted_next : IsCounted shelf mid now 3 (λ t n. IsNumberBy g site line first (last t line.at.drive.0) number true n) → IsCounted shelf start now (3 * (number + 1 - 1)) (λ t n. ReadBefore g site line first (number + 1) (last t line.at.drive.0) n)

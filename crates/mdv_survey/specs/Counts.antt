@@ -3,9 +3,10 @@ use Rattle.std.specs.Prelude.{◌≡◌, ◌⊎◌, ℕ, zero, suc, ◌+◌, ◌
 use Rattle.std.specs.Bool.{MatchBool}
 use Rattle.mdv_shelf.specs.Calls.{OnDrive}
 use Rattle.mdv_shelf.specs.Shelves.{DriveFailures, KeptOn}
-use Rattle.mdv_survey.specs.Below.{Closed, Drives, Gate, Geometry, Ghosts, Head, IsHead, IsInChain, IsMasterAt, IsTextOf, MadeCalls, Master, Open, Site, SliceLine, Tale, has_drive, place_on, size_on}
+use Rattle.mdv_survey.specs.Below.{Closed, Drives, First, Gate, Geometry, Ghosts, Head, IsHead, IsInChain, IsMasterAt, IsSpareSlot, IsTextOf, MadeCalls, Master, Open, PlaceAt, Second, Site, SliceLine, Slot, Tale, gate_of, has_drive, last, other_slot, place_on, size_on, slot_blocks}
 use Rattle.mdv_survey.specs.Replica.{Contents}
 use Rattle.mdv_survey.specs.Others.{first_at, most_on}
+use Rattle.mdv_survey.specs.Slots.{Fits}
 use Rattle.mdv_survey.specs.declared.slots.Held.{Held}
 use Rattle.mdv_survey.specs.declared.slots.Held.TheVariants.{Nothing, Kept, Other}
 
@@ -17,6 +18,15 @@ blocks_for bytes = max 1 ((bytes + 511) / 512)
 abbrev pub reads_of : Gate → ℕ
 reads_of Closed = 0
 reads_of (Open mark bytes) = 1
+
+-- a text of so many bytes takes one read where a slot of a place of that length has room for it, and else none
+abbrev pub IsTextBy : (blocks bytes n : ℕ) → Type 0
+IsTextBy blocks bytes n = ((blocks_for bytes ≤ slot_blocks blocks) × (n ≡ 1)) ⊎ ((slot_blocks blocks < blocks_for bytes) × (n ≡ 0))
+
+-- so does an open slot
+abbrev pub IsSlotBy : ℕ → Gate → ℕ → Type 0
+IsSlotBy blocks Closed n = n ≡ 0
+IsSlotBy blocks (Open mark bytes) n = IsTextBy blocks bytes n
 
 -- how many slots of a replica are open
 abbrev pub open_slots : Head → ℕ
@@ -40,23 +50,27 @@ pub record FailedAtLast {S : Type 0} (shelf : Ghosts S) (old new : S) (drive : �
   pub made : MadeCalls shelf failing new 1 0
   pub failed : (DriveFailures shelf failing new drive).some
 
--- Reads on one drive, of which none failed, or the last. On no other part was anything done.
+-- No call failed but on this drive, and there none, or the last one of all.
 pub record ReadOn {S : Type 0} (shelf : Ghosts S) (old new : S) (drive : ℕ) : Type 0 where
   pub kept : KeptOn shelf old new (OnDrive drive)
   pub ended : (DriveFailures shelf old new drive).none ⊎ FailedAtLast shelf old new drive
 
--- so many were read where something was found, and else no more
-abbrev pub AreReadFor : {S T E : Type 0} → Ghosts S → S → S → ℕ → Result (Option T) E → Type 0
-AreReadFor shelf old new slots (Ok (Some found)) = MadeReads shelf old new slots
-AreReadFor shelf old new slots (Ok None) = MadeFew shelf old new slots
-AreReadFor shelf old new slots (Err fault) = MadeFew shelf old new slots
+-- so many reads, of which Is holds
+abbrev pub MadeThese : {S : Type 0} → Ghosts S → S → S → (ℕ → Type 0) → Type 0
+MadeThese shelf old new Is = (count : ℕ) × Is count × MadeReads shelf old new count
+
+-- so many were read where something was found, these where nothing was, and no more than so many where a read failed
+abbrev pub AreReadFor : {S T E : Type 0} → Ghosts S → S → S → ℕ → (ℕ → Type 0) → Result (Option T) E → Type 0
+AreReadFor shelf old new slots Is (Ok (Some found)) = MadeReads shelf old new slots
+AreReadFor shelf old new slots Is (Ok None) = MadeThese shelf old new Is
+AreReadFor shelf old new slots Is (Err fault) = MadeFew shelf old new slots
 
 -- an open slot is read once, unless its text has no room there, or the read fails
-abbrev pub IsHeldCounted : {S E : Type 0} → Ghosts S → S → S → Gate → Result Held E → Type 0
-IsHeldCounted shelf old new gate (Ok Nothing) = MadeReads shelf old new (reads_of gate)
-IsHeldCounted shelf old new gate (Ok (Kept mark table)) = MadeReads shelf old new (reads_of gate)
-IsHeldCounted shelf old new gate (Ok Other) = MadeFew shelf old new (reads_of gate)
-IsHeldCounted shelf old new gate (Err fault) = MadeFew shelf old new (reads_of gate)
+abbrev pub IsHeldCounted : {S E : Type 0} → Ghosts S → S → S → ℕ → Gate → Result Held E → Type 0
+IsHeldCounted shelf old new blocks gate (Ok Nothing) = MadeReads shelf old new (reads_of gate)
+IsHeldCounted shelf old new blocks gate (Ok (Kept mark table)) = MadeReads shelf old new (reads_of gate)
+IsHeldCounted shelf old new blocks gate (Ok Other) = MadeThese shelf old new (IsSlotBy blocks gate)
+IsHeldCounted shelf old new blocks gate (Err fault) = MadeFew shelf old new (reads_of gate)
 
 -- It took so many calls, `most` at most, and wrote nothing; Q says how many they are, by what was done before.
 pub record IsCounted {S : Type 0} (shelf : Ghosts S) (old new : S) (most : ℕ) (Q : Tale → ℕ → Type 0) : Type 0 where
@@ -65,39 +79,55 @@ pub record IsCounted {S : Type 0} (shelf : Ghosts S) (old new : S) (most : ℕ) 
   pub made : MadeReads shelf old new calls
   pub by : (t : Tale) → shelf.tale old ≡ Some t → Q t calls
 
--- each open slot of a readable replica is read once; of another one no more
-abbrev pub IsVisitBy : Head → Bool → ℕ → Type 0
-IsVisitBy head true n = n ≡ open_slots head
-IsVisitBy head false n = n ≤ open_slots head
+-- The reads of a replica whose slots don't both fit: the one without the newest table is read first, and where that fits the other one, too.
+pub record IsUnfitBy (g : Geometry) (at : PlaceAt) (head : Head) (content : ℕ → List ℕ) (n : ℕ) : Type 0 where
+  pub slot : Slot
+  pub spare : IsSpareSlot head slot
+  pub tie : slot ≡ Second → IsSpareSlot head First → ⊥
+  pub reads : ((Fits g at slot (gate_of head slot) content → ⊥) × IsSlotBy at.place.blocks (gate_of head slot) n)
+      ⊎ (Fits g at slot (gate_of head slot) content × ((k : ℕ) × IsSlotBy at.place.blocks (gate_of head (other_slot slot)) k × (n ≡ reads_of (gate_of head slot) + k)))
+
+-- each open slot of a readable replica was read once
+abbrev pub AreSlotsBy : {S T E : Type 0} → Ghosts S → Geometry → PlaceAt → Head → S → S → Result (Option T) E → Type 0
+AreSlotsBy shelf g at head old new (Ok (Some found)) = MadeReads shelf old new (open_slots head)
+AreSlotsBy shelf g at head old new (Ok None) = IsCounted shelf old new 2 (λ t n. IsUnfitBy g at head (last t at.drive.0) n)
+AreSlotsBy shelf g at head old new (Err fault) = MadeFew shelf old new (open_slots head)
+
+abbrev pub IsVisitBy : Geometry → PlaceAt → (ℕ → List ℕ) → Head → Bool → ℕ → Type 0
+IsVisitBy g at content head true n = n ≡ open_slots head
+IsVisitBy g at content head false n = IsUnfitBy g at head content n
+
+-- the slice has no place of this number
+abbrev pub HasNoPlace : SliceLine → Master → ℕ → Type 0
+HasNoPlace line first k = (line.at.blocks < 16 + k * first.blocks + first.blocks) ⊎ ((0 < k) × (first.count ≤ k))
 
 module _ (g : Geometry) (site : Site) (line : SliceLine) (first : Master) (content : ℕ → List ℕ) where
-  -- the replicas before this number are readable, and the looks at them take so many calls: one each, and one for each open slot
+  -- The slice has the places before this number, and readable replicas there; the looks at them take so many calls: one each, and one for each open slot.
   abbrev pub ReadableBy : ℕ → ℕ → Type 0
   ReadableBy zero n = n ≡ 0
-  ReadableBy (suc k) n = (h : Head) × (m : ℕ) × IsInChain (IsTextOf g) site line k content first h × ReadableBy k m × (n ≡ m + (1 + open_slots h))
+  ReadableBy (suc k) n = (h : Head) × (m : ℕ) × (HasNoPlace line first k → ⊥) × IsInChain (IsTextOf g) site line k content first h × ReadableBy k m × (n ≡ m + (1 + open_slots h))
 
-  -- The look at a place that has no readable replica takes one call; and where it has a head of the slice's length, no more than one for each of its open slots.
+  -- The look at a place of the slice that has no readable replica takes one call; and where it has a head of the slice's length, those for its slots, too.
   pub record IsUnreadableBy (k n : ℕ) : Type 0 where
+    pub place : HasNoPlace line first k → ⊥
     pub never : (h : Head) → IsInChain (IsTextOf g) site line k content first h → ⊥
     pub headless : ((h : Head) → IsHead (place_on line first.blocks first.count k) (size_on site line) content h → h.master.blocks ≡ first.blocks → ⊥) → n ≡ 1
-    pub headed : (h : Head) → IsHead (place_on line first.blocks first.count k) (size_on site line) content h → (1 ≤ n) × (n ≤ 1 + open_slots h)
-
-  -- the slice has no place of this number
-  abbrev pub HasNoPlace : ℕ → Type 0
-  HasNoPlace k = (line.at.blocks < 16 + k * first.blocks + first.blocks) ⊎ ((0 < k) × (first.count ≤ k))
+    pub headed : (h : Head) → IsHead (place_on line first.blocks first.count k) (size_on site line) content h → h.master.blocks ≡ first.blocks
+        → (m : ℕ) × IsUnfitBy g (place_on line first.blocks first.count k) h content m × (n ≡ 1 + m)
 
   -- there the look at the slice ends
   abbrev pub EndsBy : ℕ → ℕ → Type 0
-  EndsBy k n = (HasNoPlace k × (n ≡ 0)) ⊎ IsUnreadableBy k n
+  EndsBy k n = (HasNoPlace line first k × (n ≡ 0)) ⊎ IsUnreadableBy k n
 
   -- the replica of this number is readable, or there the look ends
   abbrev pub IsNumberBy : ℕ → Bool → ℕ → Type 0
-  IsNumberBy k true n = (h : Head) × IsInChain (IsTextOf g) site line k content first h × (n ≡ 1 + open_slots h)
+  IsNumberBy k true n = (h : Head) × (HasNoPlace line first k → ⊥) × IsInChain (IsTextOf g) site line k content first h × (n ≡ 1 + open_slots h)
   IsNumberBy k false n = EndsBy k n
 
 -- All of a slice: the looks at its readable replicas and at the first place that has none; or at its first place alone, where that has no head.
 pub record IsWalkedBy (g : Geometry) (site : Site) (line : SliceLine) (first : Master) (content : ℕ → List ℕ) (n : ℕ) : Type 0 where
   pub located : IsMasterAt (place_on line 8192 0 0) (size_on site line) (content (line.at.start + 16)) first
+  pub begins : HasNoPlace line first 0 → ⊥
   pub number : ℕ
   pub calls : ℕ
   pub more : ℕ

@@ -5,7 +5,7 @@ ghost use Rattle.mdv_shelf.specs.Shelves.{DriveFailures, MadeCalls};
 ghost use Rattle.mdv_shelf.specs.Tale.{last};
 ghost use Rattle.mdv_name.specs.Sound.{IsSound};
 ghost use Rattle.mdv_replica.specs.Replica.{IsPlaced, slot_blocks as spec_slot_blocks};
-ghost use Rattle.mdv_survey.specs.Counts.{AreReadFor, ReadOn, blocks_for as spec_blocks_for};
+ghost use Rattle.mdv_survey.specs.Counts.{AreReadFor, IsTextBy, ReadOn, blocks_for as spec_blocks_for};
 ghost use Rattle.mdv_survey.specs.Slots.{IsFoundText, IsRead, OnlyReads, ReadAnswer};
 
 use mdv_base::{BLOCK_BYTES, Block, Failed, ZERO_BLOCK};
@@ -86,7 +86,7 @@ impl Body {
         ensures whole { self.new ≡ self.old }
         ensures answer { ReadAnswer (DriveFailures S.Shelf shelf.old shelf.new at.drive.0) result }
         ensures reads { OnlyReads S.Shelf (λ t. IfOk result (IsRead geometry.now at slot bytes (last t at.drive.0))) shelf.old shelf.new }
-        ensures counted { AreReadFor S.Shelf shelf.old shelf.new 1 result }
+        ensures counted { AreReadFor S.Shelf shelf.old shelf.new 1 (IsTextBy at.place.blocks bytes) result }
         ensures kept { ReadOn S.Shelf shelf.old shelf.new at.drive.0 }
     {
         let count = blocks_for(bytes);

@@ -13,7 +13,7 @@ mod telling;
 
 pub use choosing::{Choice, choose};
 pub use head::{greatest_of, spare_slot};
-pub use law::letters_are_one;
+pub use law::{counts_are_one, letters_are_one};
 pub use replica::{Newest, Other, Replica, Survey};
 pub use surveying::survey;
 pub use telling::letters;

@@ -8,7 +8,7 @@ ghost use Rattle.mdv_shelf.specs.Tale.{last};
 ghost use Rattle.mdv_replica.specs.Replica.{IsFormed, slot_blocks};
 ghost use Rattle.mdv_replica.specs.declared.replica.Head.{Head};
 ghost use Rattle.mdv_survey.specs.Counts.{IsBehindBy, IsCounted, IsNumberBy, IsSliceBy, IsVisitBy, ReadOn};
-ghost use Rattle.mdv_survey.specs.Replica.{IsOnShelf, IsSeated};
+ghost use Rattle.mdv_survey.specs.Replica.{IsOnShelf, IsSeated, at_of};
 ghost use Rattle.mdv_survey.specs.Others.{first_at, first_of, headed_flags, most_on, unread_flags};
 ghost use Rattle.mdv_survey.specs.Slice.{IsSeenThere, IsVisitAnswer, ListsRest, Looks, LooksAtAll, LooksBehind, Visits};
 ghost use Rattle.mdv_survey.specs.Slots.{OnlyReads, ReadAnswer};
@@ -217,7 +217,7 @@ fn visit<S: Shelf>(
     ensures whole { body.new ≡ body.old }
     ensures answer { IsVisitAnswer (DriveFailures S.Shelf shelf.old shelf.new replica.line.at.drive.0) site.now replica.line replica.number finds.old finds.new result }
     ensures reads { OnlyReads S.Shelf (λ t. IfOk result (Visits geometry.now site.now replica (last t) finds.old finds.new)) shelf.old shelf.new }
-    ensures counted { IsCounted S.Shelf shelf.old shelf.new 2 (λ _ n. IfOk result (λ readable. IsVisitBy replica.head readable n)) }
+    ensures counted { IsCounted S.Shelf shelf.old shelf.new 2 (λ t n. IfOk result (λ readable. IsVisitBy geometry.now (at_of replica) (last t replica.line.at.drive.0) replica.head readable n)) }
     ensures kept { ReadOn S.Shelf shelf.old shelf.new replica.line.at.drive.0 }
 {
     let at = replica.at();

@@ -5,7 +5,7 @@ ghost use Rattle.mdv_shelf.specs.Tale.{last};
 ghost use Rattle.mdv_name.specs.Sound.{IsSound};
 ghost use Rattle.mdv_replica.specs.Form.{IsNewest, IsSpareSlot, gate_of};
 ghost use Rattle.mdv_replica.specs.Replica.{IsPlaced, slot_blocks};
-ghost use Rattle.mdv_survey.specs.Counts.{AreReadFor, IsHeldCounted, ReadOn, open_slots, reads_of};
+ghost use Rattle.mdv_survey.specs.Counts.{AreReadFor, AreSlotsBy, IsHeldCounted, IsSlotBy, ReadOn, reads_of};
 ghost use Rattle.mdv_survey.specs.Slots.{AreSlots, IsHeld, IsHeldAnswer, IsNewestRead, IsSlotsAnswer, OnlyReads};
 
 use crate::body::{Body, ReadFault};
@@ -48,7 +48,7 @@ pub(crate) fn slots_at<S: Shelf>(
     ensures whole { body.new ≡ body.old }
     ensures answer { IsSlotsAnswer (DriveFailures S.Shelf shelf.old shelf.new at.drive.0) head.now result }
     ensures reads { OnlyReads S.Shelf (λ t. IfOk result (AreSlots geometry.now at head.now (last t at.drive.0))) shelf.old shelf.new }
-    ensures counted { AreReadFor S.Shelf shelf.old shelf.new (open_slots head.now) result }
+    ensures counted { AreSlotsBy S.Shelf geometry.now at head.now shelf.old shelf.new result }
     ensures kept { ReadOn S.Shelf shelf.old shelf.new at.drive.0 }
 {
     if !shows(head) {
@@ -82,7 +82,7 @@ fn newest_slot<S: Shelf>(
     ensures whole { body.new ≡ body.old }
     ensures answer { IsSlotsAnswer (DriveFailures S.Shelf shelf.old shelf.new at.drive.0) head.now result }
     ensures reads { OnlyReads S.Shelf (λ t. IfOk result (IsNewestRead geometry.now at head.now slot (last t at.drive.0))) shelf.old shelf.new }
-    ensures counted { AreReadFor S.Shelf shelf.old shelf.new (reads_of (gate_of head.now slot)) result }
+    ensures counted { AreReadFor S.Shelf shelf.old shelf.new (reads_of (gate_of head.now slot)) (IsSlotBy at.place.blocks (gate_of head.now slot)) result }
     ensures kept { ReadOn S.Shelf shelf.old shelf.new at.drive.0 }
 {
     let gate = gate_of_slot(head, slot);
@@ -109,7 +109,7 @@ fn read_slot<S: Shelf>(
     ensures whole { body.new ≡ body.old }
     ensures answer { IsHeldAnswer (DriveFailures S.Shelf shelf.old shelf.new at.drive.0) gate result }
     ensures reads { OnlyReads S.Shelf (λ t. IfOk result (IsHeld geometry.now at slot gate (last t at.drive.0))) shelf.old shelf.new }
-    ensures counted { IsHeldCounted S.Shelf shelf.old shelf.new gate result }
+    ensures counted { IsHeldCounted S.Shelf shelf.old shelf.new at.place.blocks gate result }
     ensures kept { ReadOn S.Shelf shelf.old shelf.new at.drive.0 }
 {
     match gate {

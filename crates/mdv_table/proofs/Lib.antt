@@ -5,6 +5,7 @@ pub mod Beside
 pub mod Causes
 pub mod Deciding
 mod InUse
+pub mod Listed
 pub mod Making
 pub mod Marks
 pub mod Pairs

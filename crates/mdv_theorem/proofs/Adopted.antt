@@ -1,9 +1,9 @@
 -- Which table a boot may adopt, by what it read: one that a boot may find by the history with which the drives stand.
-use Rattle.std.proofs.Common.{◌≡◌, ℕ, ◌+◌, ◌*◌, ◌<◌, ◌^◌, max, Bool, true, List, [], ◌∷◌, length, Option, Some, None, Contains, refl, sym, ◌∙◌, ap, subst, arith, ◌⊎◌, inl, inr, ⊎_elim, false, not, ◌&&◌, MatchOption, ◌≤◌, map, replicate}
+use Rattle.std.proofs.Common.{◌≡◌, ℕ, ◌+◌, ◌<◌, ◌^◌, max, Bool, true, List, [], ◌∷◌, length, Option, Some, None, Contains, refl, sym, ◌∙◌, ap, subst, arith, ◌⊎◌, inl, inr, ⊎_elim, false, not, ◌&&◌, MatchOption, ◌≤◌, map, replicate}
 use Rattle.std.specs.List.{find, list_any}
 use Rattle.std.specs.Prelude.{nat_le}
 use Rattle.std.proofs.lemmas.Bool.{and_from, false≢true, le-leb, or_left, or_right}
-use Rattle.std.proofs.lemmas.List.{length-map, length-replicate, length-append}
+use Rattle.std.proofs.lemmas.List.{length-map, length-replicate}
 use Rattle.mdv_base.specs.declared.block.TheConstants.{ZERO_BLOCK}
 use Rattle.mdv_record.specs.Record.{IsRecordOf}
 use Rattle.mdv_record.proofs.Rooms.{room_most}
@@ -55,7 +55,6 @@ use Rattle.mdv_store.specs.Adopting.{WasReadOf}
 use Rattle.mdv_store.specs.Boot.{IsAdopted, IsDrawn, IsWrittenTo, greatest_number, is_seated, seat_for, seats_of}
 use Rattle.mdv_store.specs.Opened.{Opened, least_room}
 use Rattle.mdv_store.specs.Records.{Spells}
-use Rattle.mdv_store.specs.Seats.{active_of}
 use Rattle.mdv_store.specs.Taking.{IsToAdopt}
 use Rattle.mdv_store.specs.Text.{blocks_for}
 use Rattle.mdv_store.proofs.Adoptions.{got_contains, same_identity_self}
@@ -79,10 +78,9 @@ use Rattle.mdv_survey.specs.declared.replica.Survey.{Survey}
 use Rattle.mdv_record.specs.Text.{record_text}
 use Rattle.mdv_table.proofs.Testing.{same_place-true}
 use Rattle.mdv_table.specs.Tests.{same_place}
-use Rattle.mdv_table.specs.Plan.{places_of, beside}
-use Rattle.mdv_table.specs.Table.{IsListsOf, IsOfGeometry}
-use Rattle.mdv_table.specs.declared.plan.Lists.{Lists}
-use Rattle.mdv_table.specs.declared.plan.Lists.TheVariants.{One, Two}
+use Rattle.mdv_table.specs.Plan.{places_of}
+use Rattle.mdv_table.specs.Table.{IsOfGeometry}
+use Rattle.mdv_table.specs.declared.plan.Lists.TheVariants.{One}
 use Rattle.mdv_table.specs.declared.table.Table.{Table}
 use Rattle.mdv_databases.specs.Lasting.{HasNoTable}
 use Rattle.mdv_databases.proofs.Lasting.{stand_crashed}
@@ -103,7 +101,7 @@ use Rattle.mdv_theorem.proofs.Lines.{never_in}
 use Rattle.mdv_record.specs.Parsing.{read_of}
 use Rattle.mdv_store.specs.Shares.{short_of}
 use Rattle.mdv_store.specs.declared.seats.Need.TheVariants.{More}
-use Rattle.mdv_store.proofs.Rows.{part_filter, part_length}
+use Rattle.mdv_table.proofs.Listed.{listed_few}
 
 -- a head with an open gate shows a table
 pub open_shows : (head : Head) (slot : Slot) (mark : Mark) (bytes : ℕ) → gate_of head slot ≡ Open mark bytes → shows head ≡ true
@@ -117,11 +115,6 @@ module _ {X : Type 0} (p : X → Bool) (xs : List X) where
     by : (o : Option X) → find p xs ≡ o → (y : X) × (find p xs ≡ Some y) × Contains xs y × (p y ≡ true)
     by None none = absurd (false≢true (sym (find_none p xs none x has.0 has.1 has.2) ∙ is))
     by (Some y) some = (let one = find_some p xs y some in (y, some, one.0, one.1))
-
--- a table of these drives lists few places
-few_listed : (g : Geometry) (lists : Lists) → IsListsOf g lists → length (places_of lists) ≤ 100
-few_listed g (One places) is = omega (arith, is.few)
-few_listed g (Two old new) is = omega (arith, is.0.few, is.1.few, length-append old (beside old new), part_length (beside old new) new (part_filter (λ (p : Place). not (list_any (same_place p) old)) new))
 
 -- drives that begin with an image read as it, and no crash leaves anything else
 begun_last : (image : Image) (told : List ℕ) → last (restarted image told) ≡ image
@@ -270,7 +263,7 @@ module _ (g : Geometry) (key : Key) (all : List Database) (t : Tale) (sound : Is
         identity_is = its;
         number_is = a.written.number_is ∙ a.drawn.number_is ∙ ap (λ (i : Identity). greatest_number i replicas + 1) (sym its);
         seats_are = subst (λ (i : Identity). a.written.hand.seats ≡ seats_of replicas i text (places_of newest.table.plan.lists)) (sym its) seats_are;
-        few = (let count = ap length seats_are ∙ length-map (places_of newest.table.plan.lists) (seat_for replicas a.replica.head.master.identity text) in let few = few_listed g newest.table.plan.lists of_geometry.lists in omega (arith, count, few));
+        few = (let count = ap length seats_are ∙ length-map (places_of newest.table.plan.lists) (seat_for replicas a.replica.head.master.identity text) in let few = listed_few g newest.table.plan.lists of_geometry.lists in omega (arith, count, few));
         room_is = refl;
       })
       (λ r has. (survey_is.each r has).seated) enough marks began was a.replica a.drawn.hand.the.one_of has_replica is_own

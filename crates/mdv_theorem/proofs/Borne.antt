@@ -1,9 +1,7 @@
 -- Where half of the slices on which a database was made, or more, are on drives on which no call fails: a boot that adopts its table finds a place at each of these, a creation makes it, and it stays active. So no boot and no
 -- line tells that places were lost. Where no more than half are, a boot may find nothing: then no creation is taken, since a call failed in it.
-use Rattle.std.proofs.Common.{◌≡◌, ◌⊎◌, inl, inr, ℕ, ◌*◌, ◌≤◌, ◌<◌, Bool, true, false, cond, List, [], ◌∷◌, Option, None, Some, MatchOption, Contains, length, refl, sym, ◌∙◌, ap, subst, arith, ◌+◌, is_some, map, ◌&&◌}
-use Rattle.std.proofs.lemmas.Bool.{false≢true, leb-false, and_from, and_parts, le-leb, or_cases, or_left, or_right}
-use Rattle.std.proofs.lemmas.List.{length-map}
-use Rattle.std.specs.List.{cons_option}
+use Rattle.std.proofs.Common.{◌≡◌, ◌⊎◌, inl, inr, ℕ, ◌*◌, ◌≤◌, Bool, true, false, cond, List, [], ◌∷◌, Option, None, Some, MatchOption, Contains, length, refl, sym, ◌∙◌, ap, subst, arith, is_some, map, ◌&&◌}
+use Rattle.std.proofs.lemmas.Bool.{false≢true, and_from, and_parts, le-leb, or_cases, or_left, or_right}
 use Rattle.std.specs.Bool.{MatchBool}
 use Rattle.std.specs.Prelude.{count_by, not, ◌&&◌}
 use Rattle.mdv_base.specs.DriveSet.{Drives, has_drive}
@@ -25,8 +23,7 @@ use Rattle.mdv_engine_law.specs.declared.answer.Ended.{Ended}
 use Rattle.mdv_engine_law.specs.declared.answer.Ended.TheVariants as stop
 use Rattle.mdv_engine_law.specs.declared.host.Host.{Host}
 use Rattle.mdv_home.specs.View.{own_view}
-use Rattle.mdv_look.proofs.Bringing.{count_cons}
-use Rattle.mdv_look.proofs.Looks.{count_length, count_within}
+use Rattle.mdv_look.proofs.Looks.{count_within}
 use Rattle.mdv_name.specs.SliceIndex.{HasSlice, slice_at}
 use Rattle.mdv_name.specs.declared.geometry.Geometry.{Geometry}
 use Rattle.mdv_name.specs.declared.slice_lines.SliceAt.{SliceAt}
@@ -43,12 +40,12 @@ use Rattle.mdv_shelf.specs.Tale.{Tale, last}
 use Rattle.mdv_shown.proofs.Sites.{law_sites}
 use Rattle.mdv_shown.specs.Sites.{is_line_of, site_of}
 use Rattle.mdv_store.proofs.Seated.{seat_is}
-use Rattle.mdv_store.proofs.Sitting.{contains_behind, contains_first, left_count, replica_of}
+use Rattle.mdv_store.proofs.Sitting.{replica_of}
 use Rattle.mdv_store.proofs.Spotting.{line_found}
 use Rattle.mdv_store.specs.Boot.{IsEndBy, TakesBoth, TakesClaimOrBoth, is_memory}
 use Rattle.mdv_store.specs.Create.{replica_on, seats_asked, table_of}
 use Rattle.mdv_store.specs.Opened.{Opened}
-use Rattle.mdv_store.specs.Seats.{AreLeft, TakesSlot, active_of, drive_of, replicas_of}
+use Rattle.mdv_store.specs.Seats.{AreLeft, TakesSlot, drive_of, replicas_of}
 use Rattle.mdv_store.specs.declared.booting.BootEnd.{BootEnd}
 use Rattle.mdv_store.specs.declared.booting.BootEnd.TheVariants as end
 use Rattle.mdv_store.specs.declared.seats.Seat.{Seat}

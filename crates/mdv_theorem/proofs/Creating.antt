@@ -1,5 +1,5 @@
 -- A line that was told to have made a database, on some slices: the table that is open then lists places on these slices, as many on each.
-use Rattle.std.proofs.Common.{◌≡◌, ℕ, ◌≤◌, ◌*◌, Bool, List, [], ◌∷◌, length, Some, Contains, sym, ap, subst, arith, map, ◌∙◌}
+use Rattle.std.proofs.Common.{◌≡◌, ℕ, ◌≤◌, Bool, List, [], ◌∷◌, length, Some, Contains, sym, ap, subst, arith, map, ◌∙◌}
 use Rattle.mdv_base.specs.declared.drive.SliceName.{SliceName}
 use Rattle.mdv_base.specs.declared.place.Place.{Place}
 use Rattle.mdv_engine_law.specs.Hosts.{identity_of, key_of, lines_asked}
@@ -18,20 +18,16 @@ use Rattle.mdv_table.specs.Slices.{IsSound}
 use Rattle.mdv_words.proofs.Form.{commands_are_in_form}
 use Rattle.mdv_words.specs.declared.command.Command.TheVariants.{Create}
 use Rattle.mdv_theorem.specs.Exchanges.{Asks, Exchange, IsTold}
-use Rattle.std.proofs.lemmas.Bool.{leb-true}
 use Rattle.mdv_base.specs.declared.name.Key.{Key}
-use Rattle.mdv_record.specs.Text.{record_text}
 use Rattle.mdv_replica.specs.declared.replica.Slot.{Slot}
 use Rattle.mdv_shelf.specs.Everywhere.{Image}
 use Rattle.mdv_shown.specs.Found.{IsOwn}
 use Rattle.mdv_shown.specs.Shown.{IsNewestOf}
 use Rattle.mdv_shown.specs.Sites.{site_of}
 use Rattle.mdv_shown.specs.declared.site.Site.{Site}
-use Rattle.mdv_standing.specs.Creating.{first_mark}
-use Rattle.mdv_store.proofs.Sitting.{left_count}
 use Rattle.mdv_store.specs.Create.{table_of}
 use Rattle.mdv_store.specs.Records.{Spells}
-use Rattle.mdv_store.specs.Seats.{TakesSlot, active_of, replicas_of}
+use Rattle.mdv_store.specs.Seats.{replicas_of}
 use Rattle.mdv_survey.specs.Replica.{at_of}
 use Rattle.mdv_survey.specs.declared.replica.Replica.{Replica}
 use Rattle.mdv_volumes.proofs.Lists.{contains_first}

@@ -1,9 +1,10 @@
 -- What a run has open: at least half of the places are active, on slices on which a boot looks. So where a boot or a line ends the run for want of places, a call failed on the drive of one of these.
 use Rattle.std.proofs.Common.{◌≡◌, ◌≢◌, ◌⊎◌, ◌*◌, ◌<◌, ◌≤◌, inl, inr, ℕ, Bool, true, false, List, [], ◌∷◌, Option, Some, None, Contains, MatchOption, length, if◌then◌else◌, refl, sym, ◌∙◌, ap, subst, arith, map}
-use Rattle.std.proofs.lemmas.Bool.{false≢true, leb-false, leb-true}
+use Rattle.std.proofs.lemmas.Bool.{false≢true, ltb-false}
 use Rattle.std.proofs.lemmas.Bool.Decides.{nat_tests}
+use Rattle.mdv_databases.proofs.Finding.{failing_list}
 use Rattle.std.specs.List.{find}
-use Rattle.std.specs.Prelude.{◌&&◌, not, nat_lt}
+use Rattle.std.specs.Prelude.{◌&&◌, not}
 use Rattle.mdv_base.specs.Causes.{Failures}
 use Rattle.mdv_base.specs.DriveSet.{Drives}
 use Rattle.mdv_base.specs.declared.mark.Identity.{Identity}
@@ -26,25 +27,24 @@ use Rattle.mdv_shown.specs.declared.site.Site.{Site}
 use Rattle.mdv_store.proofs.Passes.{some_lost}
 use Rattle.mdv_store.proofs.Seating.{seated_at}
 use Rattle.mdv_store.proofs.Adoptions.{same_identity_self}
-use Rattle.mdv_store.proofs.Sitting.{left_count, left_replica}
+use Rattle.mdv_store.proofs.Sitting.{left_replica}
 use Rattle.mdv_store.proofs.Spotting.{asked_active, asked_length}
 use Rattle.mdv_store.specs.Boot.{IsAdopted, IsEndBy, IsInHand, IsLost, IsShort, TakesBoth, is_memory, need_of}
 use Rattle.mdv_store.specs.Commit as commit
 use Rattle.mdv_store.specs.Create as create
 use Rattle.mdv_store.specs.Opened.{Opened, shortage}
-use Rattle.mdv_store.specs.Seats.{AreLeft, TakesSlot, active_of, drive_of, replicas_of}
+use Rattle.mdv_store.specs.Seats.{AreLeft, TakesSlot, drive_of, replicas_of}
 use Rattle.mdv_store.specs.Text.{blocks_for}
 use Rattle.mdv_store.specs.declared.booting.BootEnd.{BootEnd}
 use Rattle.mdv_store.specs.declared.booting.BootEnd.TheVariants as end
 use Rattle.mdv_store.specs.declared.seats.Seat.{Seat}
-use Rattle.mdv_survey.specs.Choice.{AreTwo, IsChoice, IsChoiceAmong, failing, is_of, needed_of, readable_of, same_identity, shows_other, is_read}
+use Rattle.mdv_survey.specs.Choice.{AreTwo, IsChoice, IsChoiceAmong, failing, is_of, needed_of, readable_of, same_identity, shows_other}
 use Rattle.mdv_survey.specs.declared.choosing.Choice.TheVariants as chosen
 use Rattle.mdv_survey.specs.declared.replica.Newest.{Newest}
 use Rattle.mdv_survey.specs.declared.replica.Replica.{Replica}
 use Rattle.mdv_survey.specs.declared.replica.Survey.{Survey}
 use Rattle.mdv_table.specs.Plan.{places_of}
 use Rattle.mdv_table.specs.declared.plan.Lists.{Lists}
-use Rattle.mdv_table.specs.declared.plan.Lists.TheVariants.{One, Two}
 use Rattle.mdv_table.specs.declared.table.Table.{Table}
 use Rattle.mdv_store.specs.Shares.{short_of}
 use Rattle.mdv_store.specs.declared.seats.Need.TheVariants.{Half, More}
@@ -63,23 +63,7 @@ half_lost failed Took lists old now share left half few = some_lost failed Took 
 
 -- of a list of which not more than half is readable more are needed
 short_read : (replicas : List Replica) (identity : Identity) (lists : Lists) (list : List Place) → failing replicas identity lists ≡ Some list → readable_of replicas identity list < needed_of list
-short_read replicas identity lists list fails = by lists fails where
-  short : (places : List Place) → is_read replicas identity places ≡ false → Some places ≡ Some list → readable_of replicas identity list < needed_of list
-  short places is same =
-      let few : 2 * readable_of replicas identity places ≤ length places = grind (arith, nat_tests) in
-      subst (λ (l : List Place). readable_of replicas identity l < needed_of l) (let one : places ≡ list = cc (same) in one) (omega (arith, few))
-
-  last : (places : List Place) (b : Bool) → is_read replicas identity places ≡ b → (if b then None else Some places) ≡ Some list → readable_of replicas identity list < needed_of list
-  last places true is none = absurd (cc (none))
-  last places false is same = short places is same
-
-  first : (old new : List Place) (b : Bool) → is_read replicas identity old ≡ b → (if b then (if is_read replicas identity new then None else Some new) else Some old) ≡ Some list → readable_of replicas identity list < needed_of list
-  first old new true is rest = last new (is_read replicas identity new) refl rest
-  first old new false is same = short old is same
-
-  by : (of : Lists) → failing replicas identity of ≡ Some list → readable_of replicas identity list < needed_of list
-  by (One places) is = last places (is_read replicas identity places) refl is
-  by (Two old new) is = first old new (is_read replicas identity old) refl is
+short_read replicas identity lists list fails = (let few = ltb-false (length list) (2 * readable_of replicas identity list) (failing_list replicas identity lists list fails).1 in omega (arith, few))
 
 -- what is found passes the test
 found_passes : (p : Replica → Bool) (rs : List Replica) (r : Replica) → find p rs ≡ Some r → p r ≡ true

@@ -1,14 +1,9 @@
 //! What each event does to the plain world.
 
 use super::{Stage, Version, World, named, plan_after};
-use crate::act::{Act, Lists, Spots, bit, has};
+use crate::act::{Act, Lists, Spots, bit, has, of_drive};
 use mdv_base::Mark;
 use std::alloc::{AllocError, Global};
-
-// The places and seats of a drive.
-fn of_drive(drive: u32) -> Spots {
-    0xfu32.checked_shl(drive.saturating_mul(4)).unwrap_or(0)
-}
 
 impl World {
     pub(crate) fn step(&mut self, alloc: Global, act: Act, index: u32) -> Result<(), AllocError> {
@@ -81,18 +76,18 @@ impl World {
 
     // The last table is firm once enough places took it.
     fn settle(&mut self) -> Result<(), AllocError> {
-        let Some(table) = self.tables.last() else {
-            return Ok(());
-        };
         let number = self.tables.len().saturating_sub(1);
-        let is_new = match self.firm.last() {
-            Some(last) => *last != number,
-            None => true,
-        };
-        if is_new && self.is_written(table) {
+        if self.is_newly_firm(number) {
             self.firm.push(number)?;
         }
         Ok(())
+    }
+
+    fn is_newly_firm(&self, number: usize) -> bool {
+        match self.tables.get(number) {
+            Some(table) => self.is_written(table) && !self.firm.contains(&number),
+            None => false,
+        }
     }
 
     // A place is formatted for the table in hand, a mediator's seat for the one that was told.

@@ -13,15 +13,17 @@ returns-in_err-read-clause-kept g c = kept_on_call g.S.Shelf (OnDrive c.args.dri
 
 pub returns-in_err-read-clause-counted : goal.returns-in_err-read-clause-counted
 returns-in_err-read-clause-counted g c =
-    rw (err_is c.from_residual.result c.in_err-read.field-0.0 c.from_residual.ensures.1)
-    (record {
-      failing = c.args.shelf.now;
-      calls = 0;
-      before = refl;
-      calm = refl;
-      made = took_one g.S.Shelf.calls g.S.Shelf.written _ _ 0 c.read.ensures.counted;
-      failed = c.in_err-read.ensures.cause.own.failed;
-    }, omega arith)
+    rw (err_is c.from_residual.result c.in_err-read.field-0.0 c.from_residual.ensures.1) (
+      record {
+        failing = c.args.shelf.now;
+        calls = 0;
+        before = refl;
+        calm = refl;
+        made = took_one g.S.Shelf.calls g.S.Shelf.written _ _ 0 c.read.ensures.counted;
+        failed = c.in_err-read.ensures.cause.own.failed;
+      },
+      omega arith,
+    )
 
 -- the read and the sync
 two : (g : _) (c : After-sync g) → MadeCalls g.S.Shelf c.args.shelf.now c.sync.new.self 2 0
@@ -36,15 +38,17 @@ both_kept g c =
 
 pub returns-in_err-sync-clause-counted : goal.returns-in_err-sync-clause-counted
 returns-in_err-sync-clause-counted g c =
-    rw (err_is c.from_residual-in_err-sync.result c.in_err-sync.field-0.0 c.from_residual-in_err-sync.ensures.1)
-    (record {
-      failing = c.read.new.self;
-      calls = 1;
-      before = took_one g.S.Shelf.calls g.S.Shelf.written _ _ 0 c.read.ensures.counted;
-      calm = c.in_ok-read.ensures.cause.own.calm;
-      made = took_one g.S.Shelf.calls g.S.Shelf.written _ _ 0 c.sync.ensures.counted;
-      failed = c.in_err-sync.ensures.cause.own.failed;
-    }, omega arith)
+    rw (err_is c.from_residual-in_err-sync.result c.in_err-sync.field-0.0 c.from_residual-in_err-sync.ensures.1) (
+      record {
+        failing = c.read.new.self;
+        calls = 1;
+        before = took_one g.S.Shelf.calls g.S.Shelf.written _ _ 0 c.read.ensures.counted;
+        calm = c.in_ok-read.ensures.cause.own.calm;
+        made = took_one g.S.Shelf.calls g.S.Shelf.written _ _ 0 c.sync.ensures.counted;
+        failed = c.in_err-sync.ensures.cause.own.failed;
+      },
+      omega arith,
+    )
 
 pub returns-in_err-sync-clause-kept : goal.returns-in_err-sync-clause-kept
 returns-in_err-sync-clause-kept g c = both_kept g (goal.at.returns-in_err-sync-clause-kept g c).After-sync

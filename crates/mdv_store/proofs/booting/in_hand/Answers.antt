@@ -3,7 +3,6 @@ use Rattle.std.proofs.lemmas.List.{length-map}
 use Rattle.std.proofs.lemmas.Option.{slice_get-get_or}
 use Rattle.mdv_store.specs.Below.{Identity, Place, record_text}
 use Rattle.mdv_store.specs.Boot.{seat_for, seats_of}
-use Rattle.mdv_store.specs.Opened.{least_room}
 use Rattle.mdv_store.specs.Text.{blocks_for}
 use Rattle.mdv_store.proofs.Seating.{greatest_less, max_is}
 use Rattle.mdv_store.proofs.booting.in_hand.Goals as goal

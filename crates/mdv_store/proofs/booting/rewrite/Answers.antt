@@ -1,4 +1,4 @@
-use Rattle.std.proofs.Common.{◌∙◌, ℕ, length, nat_eq, sym, ap}
+use Rattle.std.proofs.Common.{◌∙◌, ℕ, length, nat_eq, ap}
 use Rattle.mdv_shelf.specs.Shelves.{DriveFailures}
 use Rattle.mdv_store.specs.Seats.{active_of}
 use Rattle.mdv_store.proofs.Rewrites.{all_took, as_needed, both_kept, claimed_laid, claimed_room, done_answer, done_counted, done_end, done_open, first_answer, first_counted, first_moments, first_synced, lost_answer, lost_counted, room_short, second_moments, second_synced}

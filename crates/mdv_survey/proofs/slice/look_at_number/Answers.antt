@@ -12,7 +12,7 @@ use Rattle.mdv_survey.proofs.Efforts.{counted_one, unreadable_unread}
 use Rattle.mdv_survey.proofs.Places.{calm_here, cause_here, kept_here}
 use Rattle.mdv_survey.proofs.Slicing.{head_of}
 use Rattle.mdv_survey.proofs.Told.{added_is}
-use Rattle.mdv_survey.proofs.Visiting.{beyond_of, chained_of, lists_other, lists_skip, looks_beyond, looks_unread, number_counted, numbered, there_of}
+use Rattle.mdv_survey.proofs.Visiting.{beyond_of, chained_of, lists_other, lists_skip, looks_beyond, looks_unread, number_counted, numbered, placed_of, there_of}
 use Rattle.mdv_survey.proofs.slice.look_at_number.Goals as goal
 
 -- its head couldn't be read
@@ -35,7 +35,7 @@ pub returns-clause-counted : goal.returns-clause-counted
 returns-clause-counted g c =
     let here : Replica = record { line = c.args.first.line; number = c.args.number; first = c.args.first.first; head = c.in-Some.head } in
     number_counted g.S.Shelf c.args.geometry.now c.args.site.now c.args.first.line c.args.first.first c.args.number c.in-Some.head c.args.shelf.now c.look_at.new.shelf c.visit.new.shelf c.visit.result
-    c.in_ok-seen.ensures.reads.same c.look_at.ensures.counted (λ t is. (head_of (at_of (numbered c.args.first c.args.number)) (size_on c.args.site.now c.args.first.line) (last t c.args.first.line.at.drive.0) c.in_ok-seen.seen c.in-Some.head c.in-Some.ensures.some.0 (there_of (g.S.Shelf.sizes c.args.shelf.now) c.args.site.now c.requires.on_shelf (numbered c.args.first c.args.number) c.at.result c.at.ensures t c.in_ok-seen.seen (c.in_ok-seen.ensures.reads.gave t is)))) c.in-Some.ensures.some.1
+    c.in_ok-seen.ensures.reads.same c.look_at.ensures.counted (placed_of (numbered c.args.first c.args.number) c.requires.numbered (c.ends_within.ensures.0 c.if-not-ends_within.false)) (λ t is. (head_of (at_of (numbered c.args.first c.args.number)) (size_on c.args.site.now c.args.first.line) (last t c.args.first.line.at.drive.0) c.in_ok-seen.seen c.in-Some.head c.in-Some.ensures.some.0 (there_of (g.S.Shelf.sizes c.args.shelf.now) c.args.site.now c.requires.on_shelf (numbered c.args.first c.args.number) c.at.result c.at.ensures t c.in_ok-seen.seen (c.in_ok-seen.ensures.reads.gave t is)))) c.in-Some.ensures.some.1
     (λ t is. chained_of c.args.geometry.now c.args.site.now here (last t) c.args.finds.now c.visit.new.finds (head_of (at_of (numbered c.args.first c.args.number)) (size_on c.args.site.now c.args.first.line) (last t c.args.first.line.at.drive.0) c.in_ok-seen.seen c.in-Some.head c.in-Some.ensures.some.0 (there_of (g.S.Shelf.sizes c.args.shelf.now) c.args.site.now c.requires.on_shelf (numbered c.args.first c.args.number) c.at.result c.at.ensures t c.in_ok-seen.seen (c.in_ok-seen.ensures.reads.gave t is))) c.visit.result
     (c.visit.ensures.reads.gave t (c.in_ok-seen.ensures.reads.same ∙ is)))
     c.visit.ensures.counted
@@ -106,5 +106,5 @@ returns-in_default-clause-reads g c = record {
 pub returns-in_default-clause-counted : goal.returns-in_default-clause-counted
 returns-in_default-clause-counted g c =
     counted_one g.S.Shelf c.args.shelf.now c.look_at.new.shelf 3 _ (omega arith) c.look_at.ensures.counted
-    (λ t is. inr (unreadable_unread c.args.geometry.now c.args.site.now c.args.first.line c.args.first.first (last t c.args.first.line.at.drive.0) c.args.number c.in_ok-seen.seen.head
+    (λ t is. inr (unreadable_unread c.args.geometry.now c.args.site.now c.args.first.line c.args.first.first (last t c.args.first.line.at.drive.0) c.args.number c.in_ok-seen.seen.head (placed_of (numbered c.args.first c.args.number) c.requires.numbered (c.ends_within.ensures.0 c.if-not-ends_within.false))
     (there_of (g.S.Shelf.sizes c.args.shelf.now) c.args.site.now c.requires.on_shelf (numbered c.args.first c.args.number) c.at.result c.at.ensures t c.in_ok-seen.seen (c.in_ok-seen.ensures.reads.gave t is)).there (c.head_of_length.ensures.none c.in_default.is)))

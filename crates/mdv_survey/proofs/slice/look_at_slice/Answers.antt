@@ -3,6 +3,7 @@ use Rattle.std.specs.Prelude.{slice_index_or}
 use Rattle.mdv_survey.specs.Below.{PlaceAt, last, size_on}
 use Rattle.mdv_survey.specs.Counts.{IsCounted, IsVisitBy}
 use Rattle.mdv_survey.specs.Others.{first_at, first_of, most_on}
+use Rattle.mdv_survey.specs.Replica.{at_of}
 use Rattle.mdv_survey.specs.Slice.{ListsRest, LooksAtAll, Visits}
 use Rattle.mdv_survey.specs.declared.body.ReadFault.{ReadFault}
 use Rattle.mdv_survey.specs.declared.body.ReadFault.TheVariants.{Memory}
@@ -101,7 +102,7 @@ returns-then-not-branch-clause-counted g c =
     unreadable_counted g.S.Shelf c.args.shelf.now c.look_at.new.shelf c.visit.new.shelf c.in_ok-seen.ensures.reads.same c.look_at.ensures.counted c.args.geometry.now c.args.site.now c.args.line c.in-Some.head
     (λ t is. (head_of (first_at c.args.line (most_on c.args.line)) (size_on c.args.site.now c.args.line) (last t c.args.line.at.drive.0) c.in_ok-seen.seen c.in-Some.head c.in-Some.is (first_there (g.S.Shelf.sizes c.args.shelf.now) c.args.site.now c.requires.on_shelf c.args.line c.first_place.result c.first_place.ensures t c.in_ok-seen.seen (c.in_ok-seen.ensures.reads.gave t is)))) c.args.finds.now c.visit.new.finds
     (λ t is. (subst (Visits c.args.geometry.now c.args.site.now (first_replica c.args.geometry.now c.args.site.now c.args.line c.in-Some.head) (last t) c.args.finds.now c.visit.new.finds) c.if-not-branch.true (c.in_ok-visit.ensures.reads.gave t (c.in_ok-seen.ensures.reads.same ∙ is))))
-    (subst (λ (b : Bool). IsCounted g.S.Shelf c.look_at.new.shelf c.visit.new.shelf 2 (λ t n. IsVisitBy c.in-Some.head b n)) c.if-not-branch.true c.in_ok-visit.ensures.counted)
+    (subst (λ (b : Bool). IsCounted g.S.Shelf c.look_at.new.shelf c.visit.new.shelf 2 (λ t n. IsVisitBy c.args.geometry.now (at_of (first_replica c.args.geometry.now c.args.site.now c.args.line c.in-Some.head)) (last t c.args.line.at.drive.0) c.in-Some.head b n)) c.if-not-branch.true c.in_ok-visit.ensures.counted)
 
 pub returns-then-not-branch-clause-kept : goal.returns-then-not-branch-clause-kept
 returns-then-not-branch-clause-kept g c =
@@ -141,7 +142,7 @@ returns-clause-counted g c =
     all_counted g.S.Shelf c.args.shelf.now c.look_at.new.shelf c.visit.new.shelf c.in_ok-seen.ensures.reads.same c.look_at.ensures.counted c.args.geometry.now c.args.site.now c.args.line c.in-Some.head
     (λ t is. (head_of (first_at c.args.line (most_on c.args.line)) (size_on c.args.site.now c.args.line) (last t c.args.line.at.drive.0) c.in_ok-seen.seen c.in-Some.head c.in-Some.is (first_there (g.S.Shelf.sizes c.args.shelf.now) c.args.site.now c.requires.on_shelf c.args.line c.first_place.result c.first_place.ensures t c.in_ok-seen.seen (c.in_ok-seen.ensures.reads.gave t is)))) c.args.finds.now c.visit.new.finds c.look_behind.new.shelf c.in_ok-visit.ensures.reads.same
     (λ t is. (subst (Visits c.args.geometry.now c.args.site.now (first_replica c.args.geometry.now c.args.site.now c.args.line c.in-Some.head) (last t) c.args.finds.now c.visit.new.finds) c.if-not-branch.false (c.in_ok-visit.ensures.reads.gave t (c.in_ok-seen.ensures.reads.same ∙ is))))
-    (subst (λ (b : Bool). IsCounted g.S.Shelf c.look_at.new.shelf c.visit.new.shelf 2 (λ t n. IsVisitBy c.in-Some.head b n)) c.if-not-branch.false c.in_ok-visit.ensures.counted)
+    (subst (λ (b : Bool). IsCounted g.S.Shelf c.look_at.new.shelf c.visit.new.shelf 2 (λ t n. IsVisitBy c.args.geometry.now (at_of (first_replica c.args.geometry.now c.args.site.now c.args.line c.in-Some.head)) (last t c.args.line.at.drive.0) c.in-Some.head b n)) c.if-not-branch.false c.in_ok-visit.ensures.counted)
     c.in_ok-look_behind.ensures.counted
 
 pub returns-clause-kept : goal.returns-clause-kept

@@ -5,10 +5,11 @@ use Rattle.mdv_survey.specs.Replica.{at_of, other_of}
 use Rattle.mdv_survey.specs.Others.{headed_flags}
 use Rattle.mdv_survey.specs.Slice.{ListsNext, Visits}
 use Rattle.mdv_survey.specs.declared.replica.Finds.{Finds}
+use Rattle.mdv_survey.specs.declared.body.ReadFault.{ReadFault}
 use Rattle.mdv_survey.specs.declared.body.ReadFault.TheVariants.{Memory}
 use Rattle.mdv_survey.proofs.Counting.{err_is}
 use Rattle.mdv_survey.proofs.Seating.{first_fits, placed_of}
-use Rattle.mdv_survey.proofs.Places.{calm_here, cause_here, slots_here}
+use Rattle.mdv_survey.proofs.Places.{calm_here, cause_here, slots_here, unfit_here}
 use Rattle.mdv_survey.proofs.Told.{added_is}
 use Rattle.mdv_survey.proofs.Visiting.{lists_added, lists_other, lists_skip, visits_added, visits_not, visits_other}
 use Rattle.mdv_survey.proofs.slice.visit.Goals as goal
@@ -69,6 +70,10 @@ returns-in_default-clause-reads g c = record {
       (visits_not c.args.geometry.now c.args.site.now c.args.replica c.requires.seated (last t) c.args.finds.now
       (slots_here c.at-at.result (at_of c.args.replica) c.at-at.ensures c.args.geometry.now c.args.replica.head t c.in_ok-slots.field-0 None c.in_default.is (c.in_ok-slots.ensures.reads.gave t is)));
 }
+
+pub returns-in_default-clause-counted : goal.returns-in_default-clause-counted
+returns-in_default-clause-counted g c =
+    unfit_here c.at-at.result (at_of c.args.replica) c.at-at.ensures ReadFault g.S.Shelf c.args.shelf.now c.slots_at.new.shelf c.args.geometry.now c.args.replica.head c.in_ok-slots.field-0 c.in_default.is c.in_ok-slots.ensures.counted
 
 -- there is no memory for its place, since it is of another key
 pub returns-in_err-add_other-2-clause-answer : goal.returns-in_err-add_other-2-clause-answer

@@ -1,4 +1,4 @@
-use Rattle.std.proofs.Common.{◌≡◌, inl, ℕ, List, ◌≤◌, ◌∙◌, None, Err, ap, arith, length, refl, subst, sym, vec_len}
+use Rattle.std.proofs.Common.{◌≡◌, inl, ℕ, List, ◌≤◌, ◌∙◌, None, Err, ap, arith, length, subst, sym, vec_len}
 use Rattle.mdv_shelf.specs.Moments.{Ends, Moments}
 use Rattle.mdv_shelf.specs.Shelves.{AtEnd, DriveFailures}
 use Rattle.mdv_store.specs.Below.{Failures, Geometry, IsOfGeometry, record_text}

@@ -1,5 +1,5 @@
 use Rattle.std.proofs.Common.{◌∙◌, List, ap}
-use Rattle.mdv_store.specs.Opened.{Opened, shortage}
+use Rattle.mdv_store.specs.Opened.{shortage}
 use Rattle.mdv_store.specs.Shares.{short_of}
 use Rattle.mdv_store.specs.declared.seats.Need.TheVariants.{Half}
 use Rattle.mdv_store.specs.declared.seats.Seat.{Seat}

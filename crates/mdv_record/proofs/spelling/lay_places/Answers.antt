@@ -5,7 +5,7 @@ use Rattle.mdv_record.specs.Spelling.{IsLaid}
 use Rattle.mdv_record.specs.Text.{place_text, places_text}
 use Rattle.mdv_record.proofs.Laying.{laid_then, laid_more}
 use Rattle.mdv_record.proofs.Lengths.{length-place_text, parts_fit_of}
-use Rattle.mdv_record.proofs.spelling.lay_each.Goals as goal
+use Rattle.mdv_record.proofs.spelling.lay_places.Goals as goal
 
 pub lay_place-used-requires : goal.lay_place-used-requires
 unfolding places_text
