@@ -1,9 +1,11 @@
 -- How all databases go on while one is created.
-use Rattle.std.proofs.Common.{◌≡◌, ◌⊎◌, inl, inr, ℕ, Bool, true, false, not, ◌&&◌, cond, List, [], ◌∷◌, Option, None, Some, Ok, Err, Contains, true≢false, refl, sym, ◌∙◌, ap, subst}
+use Rattle.std.proofs.Common.{◌≡◌, ◌<◌, ◌⊎◌, inl, inr, ℕ, Bool, true, false, not, ◌&&◌, cond, List, [], ◌∷◌, Option, None, Some, Ok, Err, Contains, true≢false, refl, sym, ◌∙◌, ap, subst}
 use Rattle.std.proofs.lemmas.Bool.{and_left, cases_Bool, cases_eq}
 use Rattle.std.proofs.lemmas.List.Elements.{All-nil}
 use Rattle.mdv_shelf.specs.Tale.{last}
 use Rattle.mdv_shelf.proofs.Everywhere.{last_image}
+use Rattle.mdv_store_law.specs.Anew.{IsAnew}
+use Rattle.mdv_store_law.proofs.Anew.{issued_anew}
 use Rattle.mdv_standing.specs.Blanking.{MayClear}
 use Rattle.mdv_standing.specs.Creating.{issued_log}
 use Rattle.mdv_standing.specs.Databases.{is_current, log_in, same_key, with_over}
@@ -12,7 +14,8 @@ use Rattle.mdv_standing.specs.Laws.{ShowsNoTable}
 use Rattle.mdv_standing.specs.Tracing.{GoesTraced, IsStart}
 use Rattle.mdv_standing.proofs.Holding.{begins_holding, none_found, rest_of}
 use Rattle.mdv_standing.proofs.Stretches.{none_started}
-use Rattle.mdv_store_law.specs.Log.{AreMade, IsLog, Version}
+use Rattle.mdv_store_law.specs.Log.{IsLog, Issued, empty_log}
+use Rattle.mdv_store_law.proofs.Logs.{empty_is_log, is_log_after}
 use Rattle.mdv_store.specs.Commit.{AnyLog, AnyWorld}
 use Rattle.mdv_store.specs.Create.{AreOfCreation, CreateGoes, CreateMoment, IsCreatedTo, IsEnded, MayCreate, MayForm, seats_asked}
 use Rattle.mdv_store.specs.declared.creating.CreateFault.TheVariants as unmade
@@ -101,12 +104,7 @@ module _ (key : Key) (identity : Identity) (all : List Database) where
   creation_log = ap log_in creation_here
 
 issued_is_log : (g : Geometry) (identity : Identity) → IsLog g (issued_log identity)
-issued_is_log g identity = record {
-  rising = tt;
-  made = All-nil (λ (v : Version). AreMade g v.changes v.table);
-  descended = tt;
-  held = λ told same. absurd (cc (same));
-}
+issued_is_log g identity = is_log_after g empty_log (Issued identity) (empty_is_log g) refl
 
 module _ (g : Geometry) (all : List Database) (key : Key) (identity : Identity) (lines : List SliceLine) (count blocks : ℕ) (t : Tale) (c : IsCreation g all key identity lines count blocks t) where
   abbrev now : List Database
@@ -147,6 +145,7 @@ module _ (g : Geometry) (all : List Database) (key : Key) (identity : Identity) 
   begun_stand = record {
     worlds = λ image is. begins_holding (Spells g) g all image key identity (c.stand.worlds image is) c.fresh;
     logs = cases (λ d. IsLog g d.log) (issued_is_log g identity) (λ d found. c.stand.logs d (current_in key all d found)) (λ d left. c.stand.logs d left.one_of);
+    anew = cases (λ d. IsAnew d.log) (issued_anew identity) (λ d found. c.stand.anew d (current_in key all d found)) (λ d left. c.stand.anew d left.one_of);
     current = currents;
     over = overs;
   }
@@ -162,8 +161,8 @@ module _ (g : Geometry) (all : List Database) (key : Key) (identity : Identity) 
     none = λ image is. none_found (Spells g) g all image key identity (c.stand.worlds image is) c.fresh;
     rest = rest_of (Spells g) g now t identity begun_stand.worlds;
     taken = λ line has image is d rest. elim (keys d.key key) [
-      | inl same ↦ inr (subst (λ (k : Key). ShowsNoTable (Spells g) (site_of g k) d.identity image) (sym same) (c.none d.identity image is))
-      | inr differ ↦ elim (apart line has d rest.0 differ) [ inl out ↦ inl out | inr blank ↦ inr (blank image is) ]
+      | inl same ↦ inr ((begun_stand.anew d rest.0).lives, subst (λ (k : Key). ShowsNoTable (Spells g) (site_of g k) d.identity image) (sym same) (c.none d.identity image is))
+      | inr differ ↦ elim (apart line has d rest.0 differ) [ inl out ↦ inl out | inr blank ↦ inr ((begun_stand.anew d rest.0).lives, blank image is) ]
     ];
   }
 
@@ -192,7 +191,7 @@ module _ (g : Geometry) (all : List Database) (key : Key) (identity : Identity) 
       gone_on : Gone g now key identity [] went.es Then After m
       gone_on =
           go_on g now key identity [] (IsStart (site_of g key)) (AreOfCreation g key seats) Then After t m begun_stand (creation_its key identity all)
-          (subst Starts (sym (creation_log key identity all)) (none_started (Spells g) (site_of g key) identity (issued_log identity) t cleared.none refl))
+          (subst Starts (sym (creation_log key identity all)) (none_started (Spells g) (site_of g key) identity (issued_log identity) t cleared.none refl refl))
           (moment.rest g now may_create) (moment.blank g forms) went
 
     pub created_goes : GoOn g now key identity [] AnyLog m

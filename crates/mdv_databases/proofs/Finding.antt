@@ -19,10 +19,12 @@ use Rattle.mdv_shown.specs.Choice.{HaveRead, IsChosen, Seen, spot_seen, spots_se
 use Rattle.mdv_shown.specs.Found.{IsOwn}
 use Rattle.mdv_shown.specs.Shown.{SlotShows}
 use Rattle.mdv_shown.specs.declared.site.Site.{Site}
+use Rattle.mdv_store_law.specs.Anew.{IsAnew}
+use Rattle.mdv_standing.proofs.Anew.{all_places}
 use Rattle.mdv_standing.specs.Adopting.{AreOwn, IsFoundVersion, IsLook}
-use Rattle.mdv_standing.specs.Below.{IsBelow, Mark, Open, Slot, after_all, gate_of, table_at}
+use Rattle.mdv_standing.specs.Below.{IsBelow, Mark, Open, Slot, Spot, after_all, gate_of, table_at}
 use Rattle.mdv_standing.specs.Databases.{log_in}
-use Rattle.mdv_standing.specs.Listed.{HasPlace, HavePlaces}
+use Rattle.mdv_standing.specs.Listed.{HasPlace, HavePlaces, IsShut}
 use Rattle.mdv_standing.specs.Matching.{tables_of, version_at}
 use Rattle.mdv_standing.specs.Worlds.{IsWorld, Turned}
 use Rattle.mdv_standing.proofs.Reaching.{standing}
@@ -152,6 +154,9 @@ count_weaker p q (x ∷ xs) weaker =
     by true false so = absurd (false≢true (so refl))
     by false b so = omega arith
 
+pub live_or_gone : (o : Option Spot) (p : Spot) → o ≡ Some p → o ≡ None → ⊥
+live_or_gone o p gone live = cc (gone, live)
+
 module _ (g : Geometry) (all : List Database) (key : Key) (up : Drives) (survey : Survey) (t : Tale) (sound : IsSound g) (stand : Stand g all t) (is : IsSurvey (site_of g key) up survey) (of : IsSurveyOf g (site_of g key) up (last t) survey) where
   abbrev site : Site
   site = site_of g key
@@ -242,15 +247,22 @@ module _ (g : Geometry) (all : List Database) (key : Key) (up : Drives) (survey 
     same_table : version.version.table ≡ newest.table
     same_table = (shows_one (Spells g) (reads_one (read_of g)) (at_of replica) (here replica.line.at.drive.0) replica.head newest.slot newest.mark newest.mark version.version.table newest.table version.shows shows).1
 
+    anew : IsAnew log
+    anew = stand.anew current.database (current_in key all current.database current.current)
+
     -- so each place that the log's tables list has its replica, as that one shows a table
-    listed : HavePlaces (Spells g) site identity log here
-    listed =
+    shut : IsShut v → ⊥
+    shut (inr gone) = live_or_gone v.deleted gone.0 gone.1 (look.world.matches.there anew.lives)
+    shut (inl none) =
         let voted = chosen_voted (Spells g) site identity (tables_of log.family) v here (s ∷ []) look.known s newest.slot newest.mark chosen_one in
-        ⊎_elim (λ have. have)
-        (λ none. absurd (none.none (spot_seen s) voted.number (record { holds = (look.world.shows.each replica.line replica.number replica.first replica.head own).holds; newest = voted.newest }))) look.world.listed
+        none.none (spot_seen s) voted.number (record { holds = (look.world.shows.each replica.line replica.number replica.first replica.head own).holds; newest = voted.newest })
+
+    listed : HavePlaces (Spells g) site identity log here
+    listed = ⊎_elim (λ have. have) (λ none. absurd (shut none)) look.world.listed
 
     its_place : (p : Place) → Contains (places_of newest.table.plan.lists) p → HasPlace (Spells g) site identity here p
-    its_place p has = listed version.version p version.is.one_of (subst (λ (u : Table). Contains (places_of u.plan.lists) p) (sym same_table) has)
+    its_place p has =
+        all_places (Spells g) site identity log here anew (stand.logs current.database (current_in key all current.database current.current)).rising listed version.version p version.is.one_of (subst (λ (u : Table). Contains (places_of u.plan.lists) p) (sym same_table) has)
 
     drive_of : (p : Place) (h : HasPlace (Spells g) site identity here p) → on p ≡ answers_in up survey.failed h.line.at.drive
     drive_of p h = ap (λ (q : Place). on q) h.is ∙ ap (is_on answers) (line_found g sound key h.line h.own.found.one_of)
@@ -375,7 +387,7 @@ module _ (g : Geometry) (all : List Database) (key : Key) (up : Drives) (survey 
       f = firm_some g site identity log world.0 here world.1 firm
 
       met : Meets g site identity log world.0 here world.1 f.0 f.1 answers
-      met = meets g site identity log world.0 here world.1 f.0 f.1 list (lists (version_at log.family f.0) (firm_found g site identity log world.0 here world.1 f.0 f.1)) answers most
+      met = meets g site identity log world.0 here world.1 f.0 f.1 list (lists (version_at log.family f.0) (firm_found g site identity log world.0 here world.1 f.0 f.1)) answers most anew.lives
 
       -- it shows no greater mark
       not_above : (m : Mark) → m ≡ (table_at world.0.family met.number).mark → IsBelow newest.mark m → ⊥

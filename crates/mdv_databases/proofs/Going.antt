@@ -12,7 +12,10 @@ use Rattle.mdv_standing.specs.Tracing.{GoesTraced}
 use Rattle.mdv_standing.proofs.Holding.{joined}
 use Rattle.mdv_standing.proofs.Tracing.{traced}
 use Rattle.mdv_standing.proofs.Turning.{covers_known}
-use Rattle.mdv_store_law.specs.Log.{Event as LogEvent, IsCourse, IsLog, log_after_all}
+use Rattle.mdv_store_law.specs.Anew.{IsAnew}
+use Rattle.mdv_store_law.specs.Log.{Event as LogEvent, IsCourse, IsIssue, IsLog, NoCreation, log_after_all}
+use Rattle.mdv_store_law.specs.Machine.{AreAll}
+use Rattle.mdv_store_law.proofs.Anew.{anew_after_all}
 use Rattle.mdv_store_law.proofs.Logs.{is_log_after_all}
 use Rattle.mdv_store.specs.Blank.{StayBlank}
 use Rattle.mdv_store.specs.Commit.{IsNewestWritten}
@@ -47,6 +50,9 @@ module _ (g : Geometry) (all : List Database) (key : Key) (identity : Identity) 
   pub its_log : IsLog g (log_of all key)
   its_log = subst (IsLog g) (sym same_log) (stand.logs d has)
 
+  pub its_anew : IsAnew (log_of all key)
+  its_anew = subst IsAnew (sym same_log) (stand.anew d has)
+
   pub its_worlds : Covers (Spells g) (site_of g key) identity (log_of all key) t
   its_worlds = covers_as g d.key key d.identity identity d.log (log_of all key) t keyed its.as_begun (sym same_log) (λ image is. (stand.worlds image is).worlds d has)
 
@@ -78,6 +84,12 @@ module _ (g : Geometry) (all : List Database) (key : Key) (identity : Identity) 
       | inr was ↦ stand.logs x was.0
     ]
 
+    anew_behind : IsCourse g (log_of all key) es → AreAll (IsIssue NoCreation) es → (x : Database) → Contains next x → IsAnew x.log
+    anew_behind course issues x in_next = elim (events_cases key es all d once its.current x in_next) [
+      | inl here ↦ subst (λ (z : Database). IsAnew z.log) here (anew_after_all g NoCreation d.log es (stand.anew d has) (subst (λ (l : Log). IsCourse g l es) same_log course) issues)
+      | inr was ↦ stand.anew x was.0
+    ]
+
     current_behind : AreCurrent next
     current_behind x in_next going = elim (events_cases key es all d once its.current x in_next) [
       | inl here ↦ subst (λ (z : Database). current_of next z.key ≡ Some z) here (subst (λ (k : Key). current_of next k ≡ Some (gone es d)) (sym keyed) (events_here key es all d its.current))
@@ -97,8 +109,8 @@ module _ (g : Geometry) (all : List Database) (key : Key) (identity : Identity) 
       | inr was ↦ blank x.key x.identity (λ same. was.1 (same ∙ sym its.as_begun)) (stand.over x was.0 over)
     ]
 
-    pub stand_behind : (m : Tale) → IsCourse g (log_of all key) es → RestStands (Spells g) g all identity m → StayBlank g identity t m → Covers (Spells g) (site_of g key) identity (log_after_all (log_of all key) es) m → Stand g next m
-    stand_behind m course rest blank covers = record { worlds = all_behind m rest covers; logs = logs_behind course; current = current_behind; over = over_behind m blank }
+    pub stand_behind : (m : Tale) → IsCourse g (log_of all key) es → AreAll (IsIssue NoCreation) es → RestStands (Spells g) g all identity m → StayBlank g identity t m → Covers (Spells g) (site_of g key) identity (log_after_all (log_of all key) es) m → Stand g next m
+    stand_behind m course issues rest blank covers = record { worlds = all_behind m rest covers; logs = logs_behind course; anew = anew_behind course issues; current = current_behind; over = over_behind m blank }
 
 -- They went on by these events, to worlds of which this is known.
 pub record Gone (g : Geometry) (all : List Database) (key : Key) (identity : Identity) (asks : List (Option Change)) (es : List LogEvent) (Then : Core → Type 0) (After : Log → Type 0) (m : Tale) : Type 0 where
@@ -120,7 +132,7 @@ go_on g all key identity asks Know Are Then After t m stand its covers rest blan
         es = to.es;
         course = to.course;
         come = to.come;
-        stand = stand_behind g all key identity t stand its to.es m to.course rest blank (covers_known (Spells g) (site_of g key) identity (λ image w. Then w) next m known);
+        stand = stand_behind g all key identity t stand its to.es m to.course to.come.issues rest blank (covers_known (Spells g) (site_of g key) identity (λ image w. Then w) next m known);
         after = to.after;
       };
       same = refl;

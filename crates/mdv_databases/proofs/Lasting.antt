@@ -36,6 +36,7 @@ pub stand_crashed : (g : Geometry) (all : List Database) (m : Tale) (image : Ima
 stand_crashed g all m image told s is = record {
   worlds = all_stand (Spells g) g all m image told s.worlds is;
   logs = s.logs;
+  anew = s.anew;
   current = s.current;
   over = λ d has over. everywhere_begun (ShowsNoTable (Spells g) (site_of g d.key) d.identity) (record { block = image; told = told }) (s.over d has over image is);
 }
@@ -44,6 +45,7 @@ pub stand_fewer : (g : Geometry) (all : List Database) (t u : Tale) → LeavesNo
 stand_fewer g all t u fewer s = record {
   worlds = λ image is. s.worlds image (fewer image is);
   logs = s.logs;
+  anew = s.anew;
   current = s.current;
   over = λ d has over image is. s.over d has over image (fewer image is);
 }
@@ -64,6 +66,7 @@ pub stand_new : (g : Geometry) (image : Image) (told : List ℕ) → HasNoReplic
 stand_new g image told none = record {
   worlds = none_stand (Spells g) g image told none;
   logs = λ d has. absurd (omega (arith, has.1));
+  anew = λ d has. absurd (omega (arith, has.1));
   current = λ d has. absurd (omega (arith, has.1));
   over = λ d has. absurd (omega (arith, has.1));
 }
@@ -146,6 +149,7 @@ module _ (g : Geometry) (area : Area) (elsewhere : IsElsewhere g area) where
     stand_elsewhere all s = record {
       worlds = still (Holds (Spells g) g all) (holds_still all) s.worlds;
       logs = s.logs;
+      anew = s.anew;
       current = s.current;
       over = λ d has over. blank_elsewhere d.key d.identity (s.over d has over);
     }

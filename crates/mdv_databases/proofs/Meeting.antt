@@ -12,6 +12,7 @@ use Rattle.mdv_shown.specs.Shown.{HasNumber, NewestIs}
 use Rattle.mdv_shown.specs.declared.site.Site.{Site}
 use Rattle.mdv_shown.proofs.Choice.{enough}
 use Rattle.mdv_shown.proofs.Slots.{never_below}
+use Rattle.mdv_store_law.specs.Log.{Lives}
 use Rattle.mdv_standing.specs.Below.{First, Head, Image, IsBelow, Mark, Open, Second, Slot, Spot, SpotLists, covers, gate_of, is_majority, place_at, place_on, shows, spot_on, table_at}
 use Rattle.mdv_standing.specs.Databases.{log_in}
 use Rattle.mdv_standing.specs.Matching.{spot_in, spots_of as lists_of_spots, tables_of, version_at}
@@ -133,11 +134,11 @@ module _ (g : Geometry) (site : Site) (identity : Identity) (log : Log) (w : Cor
       read : covers (is_majority (is_there up)) (table_at w.family f).lists ≡ true
       read = subst (λ (l : SpotLists). covers (is_majority (is_there up)) l ≡ true) (sym its_lists) (and_from (is_majority (is_there up) (map (spot site up) places)) true (most_spots site up places most) refl)
 
-      pub meets : Meets up
-      meets =
+      pub meets : log.fate ≡ Lives → Meets up
+      meets lives =
           let t = table_at w.family f in
           let stands = standing site w world.reached in
-          let held = stands.held f firm world.matches.there in
+          let held = stands.held f firm (world.matches.there lives) in
           let p = writes_meet_reads t t held.0 (is_there up) (λ q. false) (lists_are_shared t.lists) (λ half none. none) held.1 (enough (is_there up) t (λ q. false) read) in
           let place = and_parts (not p.0.mediator) (up p.0.drive.0) p.2 in
           let has = held.2 p.0 p.1 in
@@ -174,5 +175,5 @@ databases_meet g all key places up t stand firm lists most = of_one (current_of 
         let has = (stand.worlds (last t) (last_image t)).worlds d (current_in key all d is) in
         let world = subst (λ (k : Key). IsWorld (Spells g) (site_of g k) d.identity d.log has.0 (last t)) (current_key key all d is) has.1 in
         let f = firm_some g (site_of g key) d.identity d.log has.0 (last t) world firm in
-        let one = meets g (site_of g key) d.identity d.log has.0 (last t) world f.0 f.1 places (lists (version_at d.log.family f.0) (firm_found g (site_of g key) d.identity d.log has.0 (last t) world f.0 f.1)) up most in
+        let one = meets g (site_of g key) d.identity d.log has.0 (last t) world f.0 f.1 places (lists (version_at d.log.family f.0) (firm_found g (site_of g key) d.identity d.log has.0 (last t) world f.0 f.1)) up most (stand.anew d (current_in key all d is)).lives in
         (one.replica, one.found, one.on, opens one.replica.head one.slot (table_at has.0.family one.number).mark one.bytes one.gate)

@@ -29,8 +29,8 @@ module _ (g : Geometry) (all : List Database) (key : Key) (t : Tale) (s : Stand 
       let has = current_in key all d is in
       let world = (s.worlds (last t) (last_image t)).worlds d has in
       let blank = subst (λ (k : Key). ShowsNoTable (Spells g) (site_of g k) d.identity (last t)) (sym (current_key key all d is)) (none d.identity (last t) (last_image t)) in (
-        none_written d.log.family (unanswered (Spells g) (site_of g d.key) d.identity d.log world.0 (last t) world.1 blank),
-        untold (Spells g) (site_of g d.key) d.identity d.log world.0 (last t) world.1 blank g (s.logs d has),
+        none_written d.log.family (unanswered (Spells g) (site_of g d.key) d.identity d.log world.0 (last t) world.1 blank (s.anew d has).lives),
+        untold (Spells g) (site_of g d.key) d.identity d.log world.0 (last t) world.1 blank (s.anew d has).lives g (s.logs d has),
       )
 
   pub nothing_told : (is_firm (log_of all key) ≡ false) × ((log_of all key).acknowledged ≡ None)

@@ -27,18 +27,20 @@ module _ (which before : List Change) where
     as_many = m.as_many;
     each = m.each;
     answered = m.answered;
-    dropped = λ p i since. (let by = m.dropped p i since in record { known = by.known; lacks = by.lacks });
+    dropped = λ p i since. (let by = m.dropped p i since in record { known = by.known; lacks = by.lacks; by = by.by });
+    steady = m.steady;
     reused = m.reused;
     there = m.there;
+    gone = m.gone;
   }
 
   world_told : (g : Geometry) (site : Site) (identity : Identity) (log : Log) (w : Core) (image : Image) → IsWorld (Spells g) site identity log w image → IsWorld (Spells g) site identity (log_after log told) w image
-  world_told g site identity log w image is = record { reached = is.reached; matches = matches_told site log w is.matches; shows = is.shows; listed = ⊎_elim (λ have. inl (λ v place one_of listed. have v place one_of listed)) (λ none. inr none) is.listed }
+  world_told g site identity log w image is = record { reached = is.reached; matches = matches_told site log w is.matches; shows = is.shows; listed = ⊎_elim (λ have. inl (λ v place one_of found listed. have v place one_of found listed)) (λ none. inr none) is.listed }
 
   module _ (g : Geometry) (all : List Database) (key : Key) (m : Tale) where
     pub told_stand : (identity : Identity) → Stand g all m → IsCurrentOf all key identity → MayHappen g (log_of all key) told → Stand g (with_event key told all) m
     told_stand identity stand its may =
-        stand_behind g all key identity m stand its (told ∷ []) m (may, tt) (rest_of (Spells g) g all m identity stand.worlds) (λ ask other another blank. blank)
+        stand_behind g all key identity m stand its (told ∷ []) m (may, tt) (tt, tt) (rest_of (Spells g) g all m identity stand.worlds) (λ ask other another blank. blank)
         (λ image is. (let one = its_worlds g all key identity m stand its image is in (one.0, world_told g (site_of g key) identity (log_of all key) one.0 image one.1)))
 
   newest_told : (log : Log) (o : Opened) → IsNewestWritten log o.mark o.table → IsNewestWritten (log_after log told) o.mark o.table

@@ -14,9 +14,9 @@ use Rattle.mdv_shelf.specs.Shelves.{AtEachTale, AtEnd, DriveFailures}
 use Rattle.mdv_shelf.specs.declared.shelf.Shelf.{Ghosts}
 use Rattle.mdv_shelf.proofs.Frame.{kept_outside_wider}
 use Rattle.mdv_shelf.proofs.Moments.{moments_end, moments_weaker, some_is}
-use Rattle.mdv_store.specs.Boot.{IfAdopted, IsAdopted, IsEndBy, IsInHand, IsLost, IsOnce, IsShort, TakesBoth, TakesClaimOrBoth, is_memory, seats_of, need_of}
+use Rattle.mdv_store.specs.Boot.{IfAdopted, IsAdopted, IsEndBy, IsOnce, IsShort, TakesAll, is_memory, need_of}
 use Rattle.mdv_store.specs.BootCounts.{IsBootCounted, IsEndCounted}
-use Rattle.mdv_store.specs.Booted.{IsBooted, IsReadAt}
+use Rattle.mdv_store.specs.Booted.{IsBooted, IsReadAt, WroteFor}
 use Rattle.mdv_store.specs.Letters.{AreLettersOf}
 use Rattle.mdv_store.specs.Booting.{BootEnds, IsBootedTo, boot_area, has_written}
 use Rattle.mdv_store.specs.Booting as store
@@ -24,12 +24,12 @@ use Rattle.mdv_replica.specs.Form.{shows}
 use Rattle.mdv_store.specs.Records.{Spells}
 use Rattle.mdv_store.specs.Seats.{drive_of}
 use Rattle.mdv_store.specs.Text.{blocks_for}
-use Rattle.mdv_table.specs.Plan.{places_of}
+use Rattle.mdv_table.specs.Plan.{last_of, places_of}
 use Rattle.std.proofs.lemmas.List.{length-map}
-use Rattle.mdv_store.specs.Taking.{Rewrites}
 use Rattle.mdv_store.specs.declared.booting.BootEnd.TheVariants as end
 use Rattle.mdv_store.specs.declared.booting.Booted.{Booted}
-use Rattle.mdv_store.proofs.Adoptions.{same_identity_self}
+use Rattle.mdv_store.proofs.Told.{adopted_count, adopted_each, adopted_enough, found_read, lost_read, lost_short}
+use Rattle.mdv_store.proofs.Adoptions.{takes_stay, same_identity_self}
 use Rattle.mdv_store.proofs.Few.{reads_between}
 use Rattle.mdv_store.proofs.Passes.{left_calm, some_lost, unmapped}
 use Rattle.mdv_store.proofs.Seating.{seated_at, seats_places}
@@ -175,18 +175,13 @@ module _ {S : Type 0} (shelf : Ghosts S) (old new : S) (host : Host) (ready : Is
   memory opened = booted_with opened answer.up answer.clean begun
 
   abbrev Read : BootEnd → Type 0
-  Read e = (survey : Survey) × (at : IsReadAt shelf old new host.drives host.site answer survey) × IsEndBy calls (Rewrites shelf at.looked new host.site.key) host.site survey e
+  Read e = (survey : Survey) × (at : IsReadAt shelf old new host.drives host.site answer survey) × IsEndBy calls (WroteFor shelf old at.looked new host.drives host.site) host.site survey e
 
   read : (e : BootEnd) → answer.end ≡ e → is_memory e ≡ false → Read e
   read e so remembered = by is.ended where
-    by : (is_memory answer.end ≡ true) ⊎ ((survey : Survey) × (at : IsReadAt shelf old new host.drives host.site answer survey) × IsEndBy calls (Rewrites shelf at.looked new host.site.key) host.site survey answer.end × AreLettersOf host.site survey at.calm answer.letters) → Read e
+    by : (is_memory answer.end ≡ true) ⊎ ((survey : Survey) × (at : IsReadAt shelf old new host.drives host.site answer survey) × IsEndBy calls (WroteFor shelf old at.looked new host.drives host.site) host.site survey answer.end × AreLettersOf host.site survey at.calm answer.letters) → Read e
     by (inl wanting) = absurd (let none = ap is_memory so in cc (wanting, none, remembered))
     by (inr (survey, at, end_by, letters)) = subst Read so (survey, at, end_by)
-
-  -- each place in hand has a replica that was read on a drive that answered
-  in_hand : (survey : Survey) (at : IsReadAt shelf old new host.drives host.site answer survey) (newest : Newest) (replica : Replica) (seats : List Seat) → IsInHand survey newest replica seats → (r : Replica) → Contains (replicas_of seats) r → IsListed host.site at.calm r
-  in_hand survey at newest replica seats hand r has =
-      let own = subst (λ (l : List Seat). Contains (replicas_of l) r) hand.seats_are has in at.survey_is.each r (seated_at survey.replicas replica.head.master.identity _ _ r own).1
 
   -- where it isn't clean a call failed, as on each drive of which the last look doesn't tell
   unclean : answer.clean ≡ false → (is_memory answer.end ≡ true) ⊎ ((drive : DriveNo) × Contains host.site.drives drive × (calls drive.0).some)
@@ -211,33 +206,29 @@ module _ {S : Type 0} (shelf : Ghosts S) (old new : S) (host : Host) (ready : Is
     abbrev by_it : Read (end.Adopted o)
     by_it = read (end.Adopted o) so refl
 
-    abbrev adoption : IsAdopted calls (Rewrites shelf by_it.1.looked new host.site.key) host.site by_it.0 o
+    abbrev adoption : IsAdopted calls (WroteFor shelf old by_it.1.looked new host.drives host.site) host.site by_it.0 o
     adoption = by_it.2
 
     abbrev Took : Replica → Replica → Type 0
-    Took = TakesBoth adoption.number (length (record_text adoption.newest.table))
+    Took = TakesAll adoption.number adoption.newest.table
 
     each : (n : Replica) → Contains (replicas_of o.seats) n → (r : Replica) × IsListed host.site by_it.1.calm r × (calls (drive_of r)).none × Took r n
     each n has =
-        let one = left_calm calls Took adoption.seats o.seats adoption.left n has in
-        (one.0, in_hand by_it.0 by_it.1 adoption.newest adoption.replica adoption.seats adoption.drawn.hand one.0 one.1, one.2, one.3)
+        let one = adopted_each calls (WroteFor shelf old by_it.1.looked new host.drives host.site) host.site by_it.0 o adoption n has in
+        (one.0, by_it.1.survey_is.each one.0 (found_read by_it.0 adoption.newest adoption.replica adoption.seats adoption.drawn.hand (last_of adoption.newest.table.plan.lists) one.0 one.1), one.2, one.3)
+
+    stay : (n : Replica) (has : Contains (replicas_of o.seats) n) → n ≡ record ((each n has).0) { head = n.head }
+    stay n has = (let one = each n has in takes_stay adoption.number adoption.newest.table one.0 n one.3)
 
     -- a seat for each listed place
     seats_counted : length o.seats ≡ length (places_of o.table.plan.lists)
-    seats_counted =
-        let own = seats_of by_it.0.replicas adoption.replica.head.master.identity (blocks_for (length (record_text adoption.newest.table))) (places_of adoption.newest.table.plan.lists) in
-        left_count calls Took adoption.seats o.seats adoption.left ∙ ap length adoption.drawn.hand.seats_are
-        ∙ sym (length-map own (λ (s : Seat). s.place))
-        ∙ ap length (seats_places by_it.0.replicas adoption.replica.head.master.identity (blocks_for (length (record_text adoption.newest.table))) (places_of adoption.newest.table.plan.lists))
-        ∙ ap (λ (x : Opened). length (places_of x.table.plan.lists)) (sym adoption.is)
+    seats_counted = adopted_count calls (WroteFor shelf old by_it.1.looked new host.drives host.site) host.site by_it.0 o adoption
 
     pub its_key : o.key ≡ key_of host
     its_key = ap (λ (x : Opened). x.key) adoption.is
 
     half_by : shortage o ≡ None
-    half_by =
-        let its = ap (λ (x : Opened). short_of Half o.seats x.table.plan.lists) adoption.is in
-        its ∙ subst (λ (k : Key). short_of (need_of k) o.seats adoption.newest.table.plan.lists ≡ None) ready.key adoption.enough
+    half_by = subst (λ (k : Key). short_of (need_of k) o.seats o.table.plan.lists ≡ None) ready.key (adopted_enough calls (WroteFor shelf old by_it.1.looked new host.drives host.site) host.site by_it.0 o adoption)
 
     pub held_by : IsOfGeometry host.drives o.table → IsHeldBy host o
     held_by listed = record {
@@ -247,11 +238,11 @@ module _ {S : Type 0} (shelf : Ghosts S) (old new : S) (host : Host) (ready : Is
       half = half_by;
       of_geometry = listed;
       laid = subst (λ (s : List ℕ). AreLaid s o.seats) (sym ready.on_shelf.sizes_are) (subst (λ (e : BootEnd). IfAdopted e (λ x. AreLaid (shelf.sizes old) x.seats)) so is.laid);
-      seated = λ n has. (let one = each n has in subst (λ (x : Replica). LiesOn host.site x) (sym one.3.2) (record { one_of = one.1.seated.one_of; within = one.1.seated.within }));
+      seated = λ n has. (let one = each n has in subst (λ (x : Replica). LiesOn host.site x) (sym (stay n has)) (record { one_of = one.1.seated.one_of; within = one.1.seated.within }));
     }
 
     line_is : (r n : Replica) → Took r n → n.line ≡ r.line
-    line_is r n took = ap (λ (x : Replica). x.line) took.2
+    line_is r n took = ap (λ (x : Replica). x.line) (takes_stay adoption.number adoption.newest.table r n took)
 
     pub open_by : IsOpenBy calls answer.up o
     open_by = record {
@@ -291,14 +282,11 @@ module _ {S : Type 0} (shelf : Ghosts S) (old new : S) (host : Host) (ready : Is
   pub lost_cause : (active listed : ℕ) → answer.end ≡ end.Lost active listed → IsEndedBy calls host (ended.Lost active listed)
   lost_cause active listed so =
       let by = read (end.Lost active listed) so refl in
-      let lost : IsLost calls (Rewrites shelf by.1.looked new host.site.key) host.site.key by.0 active listed = by.2 in
-      let Took = TakesClaimOrBoth lost.number (length (record_text lost.newest.table)) in
+      let one = lost_read calls (WroteFor shelf old by.1.looked new host.drives host.site) host.site.key by.0 active listed by.2 in
+      let at = by.1.survey_is.each one.0 one.1 in
+      let short = lost_short calls (WroteFor shelf old by.1.looked new host.drives host.site) host.site.key by.0 active listed by.2 in
       let share : Share = record { active = active; listed = listed } in
-      let fewer = short_fewer calls Took More (need_of host.site.key) (more_suffices (need_of host.site.key)) lost.newest.table.plan.lists lost.seats lost.now share lost.left lost.drawn.enough lost.few in
-      let one = some_lost calls Took lost.seats lost.now lost.left fewer in
-      let at = in_hand by.0 by.1 lost.newest lost.replica lost.seats lost.drawn.hand one.0 one.1 in
-      let few = subst (λ (k : Key). short_of (need_of k) lost.now lost.newest.table.plan.lists ≡ Some share) ready.key lost.few in
-      let less = half_less_of lost.now lost.newest.table.plan.lists share few in
+      let less = half_less_of short.1 short.0 share (subst (λ (k : Key). short_of (need_of k) short.1 short.0 ≡ Some share) ready.key short.2) in
       ended_cause (end.Lost active listed) (ended.Lost active listed) so refl (record { line = one.0.line; one_of = at.seated.one_of; here = one.2 }, less)
 
   pub spent_cause : answer.end ≡ end.Spent → IsEndedBy calls host ended.Spent

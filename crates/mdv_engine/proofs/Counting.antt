@@ -6,7 +6,7 @@ use Rattle.mdv_shelf.specs.Shelves.{MadeCalls}
 use Rattle.mdv_shelf.specs.declared.shelf.Shelf.{Ghosts}
 use Rattle.mdv_shelf.proofs.Between.{between_none, between_of, between_then, between_wider}
 use Rattle.mdv_shelf.proofs.Made.{with_more}
-use Rattle.mdv_store.specs.Create.{blanked_asked}
+use Rattle.mdv_acts.specs.Asked.{blanked_asked}
 use Rattle.mdv_words.specs.declared.command.Command.TheVariants.{MakeStripe, Print}
 use Rattle.mdv_engine.specs.Below.{Answer, Command, Create, Ended, Host, IoFault, Memory, Opened, OutOfMemory, Outcomes, Read, Refusal, VolId, Write, lines_asked}
 use Rattle.mdv_engine_law.specs.Answers.{IsMereRefusal, IsSaid, refusing}

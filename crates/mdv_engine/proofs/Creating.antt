@@ -18,7 +18,7 @@ use Rattle.mdv_shelf.specs.declared.shelf.Shelf.{Ghosts}
 use Rattle.mdv_shown.proofs.Elsewhere.{places_step}
 use Rattle.mdv_shown.specs.Site.{size_on}
 use Rattle.mdv_standing.specs.Creating.{first_mark}
-use Rattle.mdv_store.proofs.Asked.{few_of}
+use Rattle.mdv_acts.proofs.Asked.{few_of}
 use Rattle.mdv_store.proofs.Adoptions.{same_identity_self}
 use Rattle.mdv_store.proofs.Formed.{made_opened}
 use Rattle.mdv_store.proofs.Given.{IsOwner}
@@ -27,7 +27,8 @@ use Rattle.mdv_store.proofs.Seated.{replica_is}
 use Rattle.mdv_store.proofs.Sitting.{left_count, left_replica}
 use Rattle.mdv_store.proofs.Spotting.{asked_active, asked_length}
 use Rattle.mdv_store.specs.Create as create
-use Rattle.mdv_store.specs.Create.{AreAsked, CreateEnds, CreateMoment, MayForm, StayFormed, WereFormed, drives_asked, replica_on, seats_asked, table_of}
+use Rattle.mdv_acts.specs.Asked.{AreAsked, drives_asked}
+use Rattle.mdv_store.specs.Create.{CreateEnds, CreateMoment, MayForm, StayFormed, WereFormed, replica_on, seats_asked, table_of}
 use Rattle.mdv_store.specs.Blank.{IsBlank}
 use Rattle.mdv_store.specs.Seats.{AreLeft, AreTheirs, TakesSlot}
 use Rattle.mdv_store.specs.declared.creating.CreateFault.TheVariants as unmade

@@ -3,12 +3,13 @@ use Rattle.std.proofs.Common.{◌≡◌, ◌≤◌, ◌+◌, ◌-◌, ◌*◌, �
 use Rattle.mdv_shelf.proofs.Between.{rose_at_least}
 use Rattle.mdv_shelf.specs.Between.{RoseByAtLeast}
 use Rattle.mdv_shelf.specs.declared.shelf.Shelf.{Ghosts}
-use Rattle.mdv_store.proofs.Acted.{blanks_calls, forms_calls}
-use Rattle.mdv_store.proofs.Acting.{calls_more}
+use Rattle.mdv_acts.proofs.Counting.{blanks_calls, forms_calls}
+use Rattle.mdv_acts.proofs.Acting.{calls_more}
 use Rattle.mdv_store.proofs.Losing.{rose_then}
-use Rattle.mdv_store.specs.Acts.{Act, Makes, acts_asked, blanks_asked, calls_of, forms_asked}
+use Rattle.mdv_acts.specs.Acts.{Act, Makes, acts_asked, blanks_asked, calls_of, forms_asked}
 use Rattle.mdv_store.specs.Counts.{drives_lost}
-use Rattle.mdv_store.specs.Create.{WereFormed, blanked_asked, seats_asked}
+use Rattle.mdv_acts.specs.Asked.{blanked_asked}
+use Rattle.mdv_store.specs.Create.{WereFormed, seats_asked}
 use Rattle.mdv_engine_law.specs.Efforts.{places_on}
 use Rattle.mdv_engine.specs.Below.{Identity, Key, SliceLine, active_of}
 
@@ -23,10 +24,10 @@ module _ {S : Type 0} (shelf : Ghosts S) where
   acts_calls (x ∷ xs) old new made = rose_at_least (calls_of (x ∷ xs)) (calls_of (x ∷ xs)) (shelf.calls old) (shelf.calls new) (omega arith) made.in_calls
 
   module _ (old new : S) (key : Key) (identity : Identity) (lines : List SliceLine) (count blocks : ℕ) (some : 1 ≤ count) (f : WereFormed shelf old new key identity lines count blocks) where
-    total_calls : calls_of (acts_asked key identity lines count blocks) ≡ 2 * blanked_asked lines count + 6 * (length lines * count)
-    total_calls = omega (arith, calls_more (blanks_asked lines count blocks) (forms_asked key identity lines count blocks), blanks_calls count blocks some lines, forms_calls count blocks key identity lines)
+    total_calls : calls_of (acts_asked key identity 1 lines count blocks) ≡ 2 * blanked_asked lines count + 6 * (length lines * count)
+    total_calls = omega (arith, calls_more (blanks_asked lines count blocks) (forms_asked key identity 1 lines count blocks), blanks_calls count blocks some lines, forms_calls count blocks key identity 1 lines)
 
     pub formed_calls : RoseByAtLeast (2 * blanked_asked lines count + 6 * places_on lines count + (6 * active_of f.now + drives_lost (seats_asked key identity lines count blocks) f.now)) (shelf.calls old) (shelf.calls new)
     formed_calls =
-        rose_then (calls_of (acts_asked key identity lines count blocks)) (6 * active_of f.now + drives_lost (seats_asked key identity lines count blocks) f.now) _ (shelf.calls old) (shelf.calls f.formed) (shelf.calls new) (omega (arith, total_calls))
-        (acts_calls (acts_asked key identity lines count blocks) old f.formed f.gone.made) f.counted.some.at_least
+        rose_then (calls_of (acts_asked key identity 1 lines count blocks)) (6 * active_of f.now + drives_lost (seats_asked key identity lines count blocks) f.now) _ (shelf.calls old) (shelf.calls f.formed) (shelf.calls new) (omega (arith, total_calls))
+        (acts_calls (acts_asked key identity 1 lines count blocks) old f.formed f.gone.made) f.counted.some.at_least

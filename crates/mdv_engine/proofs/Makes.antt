@@ -8,7 +8,8 @@ use Rattle.mdv_shelf.specs.Shelves.{AtEachTale, AtEnd, DriveFailures}
 use Rattle.mdv_shelf.specs.declared.shelf.Shelf.{Ghosts}
 use Rattle.mdv_store.proofs.Passes.{left_as}
 use Rattle.mdv_store.specs.Counts.{drives_lost}
-use Rattle.mdv_store.specs.Create.{AreAsked, CreateEnds, CreateMoment, IsCreated, IsCreationCounted, WereFormed, blanked_asked, drives_asked, seats_asked, table_of}
+use Rattle.mdv_acts.specs.Asked.{AreAsked, blanked_asked, drives_asked}
+use Rattle.mdv_store.specs.Create.{CreateEnds, CreateMoment, IsCreated, IsCreationCounted, WereFormed, seats_asked, table_of}
 use Rattle.mdv_standing.specs.Creating.{first_mark}
 use Rattle.mdv_store.specs.Seats.{AreTheirs, TakesSlot}
 use Rattle.mdv_store.specs.declared.creating.CreateFault.TheVariants as unmade

@@ -10,12 +10,13 @@ use Rattle.mdv_shelf.specs.Tale.{Tale, last}
 use Rattle.mdv_shelf.specs.declared.shelf.Shelf.{Ghosts}
 use Rattle.mdv_words.specs.declared.command.Command.{Command}
 use Rattle.mdv_words.specs.declared.command.Command.TheVariants as command
-use Rattle.mdv_store.specs.BootCounts.{most_blocks, most_reads}
+use Rattle.mdv_store.specs.BootCounts.{IsAnewCounted, most_blocks, most_calls, most_reads}
 use Rattle.mdv_store.specs.Booted.{IsBooted}
 use Rattle.mdv_store.specs.declared.booting.Booted.{Booted}
-use Rattle.mdv_store.specs.Acts.{HaveGone, acts_asked}
+use Rattle.mdv_acts.specs.Acts.{HaveGone, acts_asked}
 use Rattle.mdv_store.specs.Commit.{next_mark}
-use Rattle.mdv_store.specs.Create.{blanked_asked, drives_asked, seats_asked, table_of}
+use Rattle.mdv_acts.specs.Asked.{blanked_asked, drives_asked}
+use Rattle.mdv_store.specs.Create.{seats_asked, table_of}
 use Rattle.mdv_store.specs.Seats.{AreLeft}
 use Rattle.mdv_store.specs.Text.{blocks_for}
 use Rattle.mdv_store.specs.Writing.{AreWrittenBy}
@@ -56,7 +57,7 @@ blocks_of host opened (command.Print names) = 0
 -- Places were formatted, and behind that their first table was written at each of them in turn.
 pub record WereMadeInTurn {S : Type 0} (shelf : Ghosts S) (old new : S) (key : Key) (identity : Identity) (lines : List SliceLine) (count blocks : ℕ) (now : List Seat) : Type 0 where
   pub formed : S
-  pub gone : HaveGone shelf old formed (drives_asked lines) (acts_asked key identity lines count blocks)
+  pub gone : HaveGone shelf old formed (drives_asked lines) (acts_asked key identity 1 lines count blocks)
   pub steps : AreWrittenBy shelf first_mark (table_of (seats_asked key identity lines count blocks)) formed new (seats_asked key identity lines count blocks) now
 
 -- A change that is done wrote its table at each place that was active, in turn: one is left only where its own writing was begun and a call on its drive failed, or behind an earlier one of this pass on its drive. So did a creation behind its formats.
@@ -128,10 +129,10 @@ IsQuietRefusal reply.Told = ⊥
 IsQuietRefusal (reply.NoQuorum readable needed) = ⊥
 IsQuietRefusal (reply.TwoDatabases a b) = ⊥
 
--- Behind so many calls that wrote nothing: a boot that opened a database made eight more for each active place, and wrote a claim, two gates and the table's text to each; one that
--- found none made none.
+-- Behind so many calls that wrote nothing: a boot that opened a database made eight more for each place that was found, and wrote a claim, two gates and the table's text to each; and, where its
+-- table had two lists, six more for each active place; one that found none made none.
 abbrev pub IsOpenedCounted : Made → ℕ → Option Opened → Type 0
-IsOpenedCounted made before (Some o) = made.exactly (before + 8 * active_of o.seats) ((3 + blocks_for (length (record_text o.table))) * active_of o.seats)
+IsOpenedCounted made before (Some o) = IsAnewCounted made.exactly before o
 IsOpenedCounted made before None = made.within before before 0
 
 -- A boot of the store came to this answer, and, where the tale is told, left this in memory. So whatever failed its end follows from its last look, by whose end no call on a drive that it tells of had failed, and nothing was
@@ -142,9 +143,9 @@ pub record WasBooted {S : Type 0} (shelf : Ghosts S) (old new : S) (host : Host)
   pub answer_is : answer ≡ answered_by booted.end
   pub tied : answer ≡ accepted → (t : Tale) → shelf.tale old ≡ Some t → (memory.opened ≡ opened_by booted.end) × (memory.up ≡ booted.up) × (memory.clean ≡ booted.clean)
 
--- The calls of a boot: no more than those of as many looks as there are drives, and one, and of a hundred places; and where it is answered and none failed, as many as it read, and those by which it opened what it did; and it made them as one of the store does.
+-- The calls of a boot: no more than those of as many looks as there are drives, and one, and of a hundred places, and of fifty again; and where it is answered and none failed, as many as it read, and those by which it opened what it did; and it made them as one of the store does.
 pub record IsBootedCounted {S : Type 0} (shelf : Ghosts S) (old new : S) (host : Host) (answer : Answer) (memory : Memory) : Type 0 where
-  pub most : (made_of shelf old new).within 0 (2 * length host.site.drives + most_reads host.site + 8 * 100) most_blocks
+  pub most : (made_of shelf old new).within 0 (2 * length host.site.drives + most_reads host.site + most_calls) most_blocks
   pub clean : answer ≡ accepted → memory.clean ≡ true → (t : Tale) → shelf.tale old ≡ Some t
       → (reads : ℕ) × AreLinesBy host.drives host.site memory.up no_drives (last t) host.site.lines reads × IsOpenedCounted (made_of shelf old new) (2 * length host.site.drives + reads) memory.opened
   pub booted : WasBooted shelf old new host answer memory

@@ -1,9 +1,11 @@
 -- What the calls of an engine say of their answers, and of the drives in the end.
 use Rattle.std.specs.Prelude.{◌≡◌, ◌≢◌, ◌≤◌, ◌+◌, ℕ, Bool, true, false, List, [], Option, Some, None, Result, Ok, Err, IfOk, IfErr, OnOk, Contains, length}
+use Rattle.mdv_acts.specs.Asked.{drives_asked}
 use Rattle.mdv_shelf.specs.Drives.{KeptAmong}
 use Rattle.mdv_shelf.specs.Shelves.{AtEachMoment, AtEachTale, AtEnd, DriveFailures, EndsTold, GivingFailed, GivingFailures, KeptOn, MadeCalls, RestsOnceTold}
 use Rattle.mdv_shelf.specs.declared.shelf.Shelf.{Ghosts}
 use Rattle.mdv_standing.specs.Creating.{first_mark}
+use Rattle.mdv_acts.specs.Asked.{drives_asked}
 use Rattle.mdv_store.specs.Booting.{boot_area, has_written}
 use Rattle.mdv_store.specs.Create as create
 use Rattle.mdv_store.specs.Seats.{AreTheirs}
@@ -263,7 +265,7 @@ KeptOnOne shelf old new = (drive : ℕ) × KeptOn shelf old new (OnDrive drive)
 
 -- so they are of a command: on the drives of the slices that a creation names, on those of the open database's active places, and of a transfer on one
 abbrev pub KeptAsAsked : {S : Type 0} → Ghosts S → S → S → Host → Memory → Command → Type 0
-KeptAsAsked shelf old new host memory (Create slices force count blocks) = KeptAmong shelf old new (create.drives_asked (lines_asked host slices))
+KeptAsAsked shelf old new host memory (Create slices force count blocks) = KeptAmong shelf old new (drives_asked (lines_asked host slices))
 KeptAsAsked shelf old new host memory (command.MakeStripe volume slice) = KeptAmong shelf old new (drives_open memory.opened)
 KeptAsAsked shelf old new host memory (Read volume at count) = KeptOnOne shelf old new
 KeptAsAsked shelf old new host memory (Write volume at block) = KeptOnOne shelf old new

@@ -6,7 +6,7 @@ ghost use Rattle.mdv_words.specs.declared.command.Command.TheVariants.{Create};
 ghost use Rattle.mdv_words.specs.Line.{IsCount, IsInForm, IsLength};
 ghost use Rattle.mdv_shelf.specs.Drives.{KeptAmong};
 ghost use Rattle.mdv_shelf.specs.Shelves.{DriveFailures};
-ghost use Rattle.mdv_store.specs.Create.{drives_asked};
+ghost use Rattle.mdv_acts.specs.Asked.{drives_asked};
 ghost use Rattle.mdv_table.specs.Slices.{IsSound};
 ghost use Rattle.mdv_engine_law.specs.Commands.{IsAllowed};
 ghost use Rattle.mdv_engine_law.specs.Hosts.{IsReady, lines_asked as spec_lines_asked};

@@ -102,3 +102,12 @@ module _ (g : Geometry) (change : Change) (newest table : Table) (made : IsMade 
   asked_is lg (log.Told which before ∷ es) is alone course within other (inl asked) = absurd asked
   asked_is lg (log.Told which before ∷ es) is alone course within other (inr asked) =
       asked_is (log_after lg (log.Told which before)) es (is_log_after g lg (log.Told which before) is course.0) (record { some = alone.some; each = alone.each }) course.1 within other asked
+  asked_is lg (log.Placing places ∷ es) is alone course within other (inl asked) = absurd asked
+  asked_is lg (log.Placing places ∷ es) is alone course within other (inr asked) =
+      asked_is (log_after lg (log.Placing places)) es (is_log_after g lg (log.Placing places) is course.0) (record { some = alone.some; each = alone.each }) course.1 within other asked
+  asked_is lg (log.Clearing ∷ es) is alone course within other (inl asked) = absurd asked
+  asked_is lg (log.Clearing ∷ es) is alone course within other (inr asked) =
+      asked_is (log_after lg log.Clearing) es (is_log_after g lg log.Clearing is course.0) (record { some = alone.some; each = alone.each }) course.1 within other asked
+  asked_is lg (log.Gone ∷ es) is alone course within other (inl asked) = absurd asked
+  asked_is lg (log.Gone ∷ es) is alone course within other (inr asked) =
+      asked_is (log_after lg log.Gone) es (is_log_after g lg log.Gone is course.0) (record { some = alone.some; each = alone.each }) course.1 within other asked

@@ -63,7 +63,7 @@ module _ (one other : Made) (too : IsToo one other) where
   command_too host command (Over (ended.TwoDatabases a b)) old new calls = none_too calls
 
   end_too : (reads : ℕ) (e : BootEnd) → EndCalls one reads e → EndCalls other reads e
-  end_too reads (end.Adopted o) calls = too.exactly _ _ calls
+  end_too reads (end.Adopted o) calls = record { table = calls.table; found = calls.found; is = calls.is; marked = calls.marked; one = calls.one; made = too.exactly _ _ calls.made }
   end_too reads end.Empty calls = too.within _ _ _ calls
   end_too reads (end.TwoDatabases a b) calls = too.within _ _ _ calls
   end_too reads (end.NoQuorum readable needed) calls = too.within _ _ _ calls
@@ -80,7 +80,7 @@ module _ (calls more : Outcomes) (cause : AreWithin calls more) (one other : Mad
       inr (record {
         survey = by.survey;
         read = read_more calls more cause host content up e by.survey by.read;
-        by_hand = end_more calls more cause (λ hand table. HandCalls one looks hand.seats table) (λ hand table. HandCalls other looks hand.seats table) (λ hand table made. too.within _ _ _ made) host.site by.survey e by.by_hand;
+        by_hand = end_more calls more cause (λ hand table gone. HandCalls one looks hand.seats table) (λ hand table gone. HandCalls other looks hand.seats table) (λ hand table gone made. too.within _ _ _ made) host.site by.survey e by.by_hand;
         still = λ unwritten. too.within _ _ _ (by.still unwritten);
       })
 

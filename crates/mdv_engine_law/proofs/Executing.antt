@@ -18,7 +18,7 @@ use Rattle.mdv_engine_law.specs.Commands.{CameTo, ComesTo, Effect, Fault, GivesU
 use Rattle.mdv_shelf.specs.Failing.{Outcomes}
 use Rattle.mdv_store.specs.Boot.{IsEndBy, is_memory}
 use Rattle.mdv_survey.specs.declared.replica.Survey.{Survey}
-use Rattle.mdv_engine_law.specs.Line.{Memory, Kept, kept_at, contents, IsReadOf, IsRebooted, WritesTo}
+use Rattle.mdv_engine_law.specs.Line.{Memory, Kept, kept_at, contents, IsReadOf, IsRebooted, WritesBy}
 use Rattle.mdv_engine_law.specs.Replies.{Blame, IsTold, HasAnswerCause, HasCommandCause, IsReplyTo, reply_at, reply_to}
 use Rattle.mdv_engine_law.specs.Efforts.{LineCalls, replied_to}
 use Rattle.mdv_shelf.specs.Made.{Made}
@@ -34,10 +34,10 @@ content_kept u v kept = sym same where
 
 -- what came of the calls of a stretch came of those of the longer one
 module _ (failed more : Outcomes) (cause : AreWithin failed more) (host : Host) (kept next : Kept) (answer : Answer) where
-  by_more : (e : BootEnd) (up : Drives) → (is_memory e ≡ true) ⊎ ((survey : Survey) × IsReadOf failed host kept.content up e survey × IsEndBy failed (λ hand table. WritesTo kept.content next.content hand.seats) host.site survey e)
-      → (is_memory e ≡ true) ⊎ ((survey : Survey) × IsReadOf more host kept.content up e survey × IsEndBy more (λ hand table. WritesTo kept.content next.content hand.seats) host.site survey e)
+  by_more : (e : BootEnd) (up : Drives) → (is_memory e ≡ true) ⊎ ((survey : Survey) × IsReadOf failed host kept.content up e survey × IsEndBy failed (λ hand table gone. WritesBy host.drives host.site.key kept.content next.content hand.identity hand.number hand.seats table gone) host.site survey e)
+      → (is_memory e ≡ true) ⊎ ((survey : Survey) × IsReadOf more host kept.content up e survey × IsEndBy more (λ hand table gone. WritesBy host.drives host.site.key kept.content next.content hand.identity hand.number hand.seats table gone) host.site survey e)
   by_more e up (inl memory) = inl memory
-  by_more e up (inr by) = inr (by.0, read_more failed more cause host kept.content up e by.0 by.1, end_more failed more cause (λ hand table. WritesTo kept.content next.content hand.seats) (λ hand table. WritesTo kept.content next.content hand.seats) (λ hand table wrote. wrote) host.site by.0 e by.2)
+  by_more e up (inr by) = inr (by.0, read_more failed more cause host kept.content up e by.0 by.1, end_more failed more cause (λ hand table gone. WritesBy host.drives host.site.key kept.content next.content hand.identity hand.number hand.seats table gone) (λ hand table gone. WritesBy host.drives host.site.key kept.content next.content hand.identity hand.number hand.seats table gone) (λ hand table gone wrote. wrote) host.site by.0 e by.2)
 
   pub rebooted_more : IsRebooted failed host kept answer next → IsRebooted more host kept answer next
   rebooted_more is = record {

@@ -5,7 +5,7 @@ use Rattle.mdv_shelf.specs.Failing.{Outcomes}
 use Rattle.mdv_standing.specs.Creating.{first_mark}
 use Rattle.mdv_store.specs.Commit as commit
 use Rattle.mdv_store.specs.Create as create
-use Rattle.mdv_store.specs.Create.{drives_asked}
+use Rattle.mdv_acts.specs.Asked.{drives_asked}
 use Rattle.mdv_store.specs.Opened.{shortage}
 use Rattle.mdv_store.specs.Seats.{AreTheirs, drives_of}
 use Rattle.mdv_shelf.specs.Calls.{Shows}

@@ -22,6 +22,9 @@ are_later (log.Issued identity ∷ es) is = absurd is.0
 are_later (log.Writing mark asked before table ∷ es) is = (tt, are_later es is.1)
 are_later (log.Written ∷ es) is = (tt, are_later es is.1)
 are_later (log.Told which before ∷ es) is = (tt, are_later es is.1)
+are_later (log.Placing places ∷ es) is = absurd is.0
+are_later (log.Clearing ∷ es) is = absurd is.0
+are_later (log.Gone ∷ es) is = absurd is.0
 
 -- a log's events read and write no volume
 pub lifted_awake : (host : Host) (key : Key) (identity : Identity) (es : List log.Event) (h : History) → AllAwake host h (lifted key identity es)
@@ -30,6 +33,9 @@ lifted_awake host key identity (log.Issued other ∷ es) h = lifted_awake host k
 lifted_awake host key identity (log.Writing mark asked before table ∷ es) h = (tt, lifted_awake host key identity es _)
 lifted_awake host key identity (log.Written ∷ es) h = (tt, lifted_awake host key identity es _)
 lifted_awake host key identity (log.Told which before ∷ es) h = (tt, lifted_awake host key identity es _)
+lifted_awake host key identity (log.Placing places ∷ es) h = (tt, lifted_awake host key identity es _)
+lifted_awake host key identity (log.Clearing ∷ es) h = (tt, lifted_awake host key identity es _)
+lifted_awake host key identity (log.Gone ∷ es) h = (tt, lifted_awake host key identity es _)
 
 lifted_issues : (Which : Identity → Type 0) (key : Key) (identity : Identity) (es : List log.Event) → AreAll (IsIssue Which) (lifted key identity es)
 lifted_issues Which key identity [] = tt
@@ -37,6 +43,9 @@ lifted_issues Which key identity (log.Issued other ∷ es) = lifted_issues Which
 lifted_issues Which key identity (log.Writing mark asked before table ∷ es) = (tt, lifted_issues Which key identity es)
 lifted_issues Which key identity (log.Written ∷ es) = (tt, lifted_issues Which key identity es)
 lifted_issues Which key identity (log.Told which before ∷ es) = (tt, lifted_issues Which key identity es)
+lifted_issues Which key identity (log.Placing places ∷ es) = (tt, lifted_issues Which key identity es)
+lifted_issues Which key identity (log.Clearing ∷ es) = (tt, lifted_issues Which key identity es)
+lifted_issues Which key identity (log.Gone ∷ es) = (tt, lifted_issues Which key identity es)
 
 -- a table that a change makes was asked by one
 pub asked_change : (es : List log.Event) (table : Table) → IsAsked es table → (change : Change) × IsPart (Some change ∷ []) (log.begun_by es)
@@ -51,6 +60,12 @@ asked_change (log.Written ∷ es) table (inl is) = absurd is
 asked_change (log.Written ∷ es) table (inr is) = asked_change es table is
 asked_change (log.Told which before ∷ es) table (inl is) = absurd is
 asked_change (log.Told which before ∷ es) table (inr is) = asked_change es table is
+asked_change (log.Placing places ∷ es) table (inl is) = absurd is
+asked_change (log.Placing places ∷ es) table (inr is) = asked_change es table is
+asked_change (log.Clearing ∷ es) table (inl is) = absurd is
+asked_change (log.Clearing ∷ es) table (inr is) = asked_change es table is
+asked_change (log.Gone ∷ es) table (inl is) = absurd is
+asked_change (log.Gone ∷ es) table (inr is) = asked_change es table is
 
 -- so none is, where only a creation is asked, or nothing
 pub never_asked : (es : List log.Event) (table : Table) → IsPart (log.begun_by es) (None ∷ []) → IsAsked es table → ⊥

@@ -12,10 +12,11 @@ use Rattle.mdv_fields.specs.Sets.{agrees, is_spaced, starts_well}
 use Rattle.mdv_name.specs.SliceIndex.{same_slice}
 use Rattle.mdv_record.proofs.Volumes.{no_volumes}
 use Rattle.mdv_shown.proofs.Elsewhere.{places_step}
-use Rattle.mdv_store.proofs.Asked.{few_of, start_short, within_line}
+use Rattle.mdv_acts.proofs.Asked.{few_of, start_short, within_line}
 use Rattle.mdv_store.proofs.Sitting.{contains_behind, contains_first}
 use Rattle.mdv_store.proofs.Spotting.{asked_length as seats_length}
-use Rattle.mdv_store.specs.Create.{AreAsked, seats_asked, seats_on, table_of}
+use Rattle.mdv_acts.specs.Asked.{AreAsked}
+use Rattle.mdv_store.specs.Create.{seats_asked, seats_on, table_of}
 use Rattle.mdv_table.proofs.Pairs.{AllPairs-cons, AllPairs-first, AllPairs-rest}
 use Rattle.mdv_table.specs.Table.{IsKindOf, IsOfGeometry, IsPlaceOf}
 use Rattle.mdv_table.specs.Slices.{Overlaps}

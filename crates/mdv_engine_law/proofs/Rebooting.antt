@@ -1,5 +1,5 @@
 -- What a boot of the store answered, as a line tells it: which drives came up, what was read of them, and what came of that.
-use Rattle.std.proofs.Common.{◌≡◌, ◌⊎◌, inl, inr, ◌≤◌, ℕ, Bool, true, false, Contains, Some, refl, sym, ◌∙◌, ap, subst, arith}
+use Rattle.std.proofs.Common.{◌≡◌, ◌⊎◌, inl, inr, ◌≤◌, ℕ, Bool, true, false, Contains, Some, refl, sym, ◌∙◌, ap, subst, arith, List}
 use Rattle.std.specs.Bool.{MatchBool}
 use Rattle.mdv_base.specs.Causes.{RoseOnce}
 use Rattle.mdv_shelf.proofs.Moments.{moments_end, some_is}
@@ -13,18 +13,19 @@ use Rattle.mdv_look.proofs.Among.{is_one_of}
 use Rattle.mdv_store.proofs.Few.{reads_between}
 use Rattle.mdv_store.specs.BootCounts.{IsBootCounted, IsEndCounted}
 use Rattle.mdv_store.specs.Boot.{IfAdopted, IsEndBy, IsOnce, is_memory}
-use Rattle.mdv_store.specs.Booted.{IsBooted, IsReadAt}
+use Rattle.mdv_store.specs.Booted.{IsBooted, IsReadAt, WroteFor}
 use Rattle.mdv_store.specs.Letters.{AreLettersOf}
 use Rattle.mdv_store.specs.Booting.{BootEnds, BootMoment, IsBootedTo, boot_area, has_written}
 use Rattle.mdv_look.specs.Quiet.{WritesNothing}
-use Rattle.mdv_store.specs.Taking.{RewriteMoment, Rewrites}
+use Rattle.mdv_store.specs.Taking.{RewriteMoment, Rewrites, drawn_open}
 use Rattle.mdv_store.specs.declared.booting.BootEnd.TheVariants as end
 use Rattle.mdv_store.specs.declared.booting.Booted.{Booted}
 use Rattle.mdv_survey.specs.declared.replica.Survey.{Survey}
-use Rattle.mdv_engine_law.specs.Below.{BootEnd, DriveNo, Table, Tale, has_drive, last}
+use Rattle.mdv_store.specs.Opened.{IsOpenedAt}
+use Rattle.mdv_engine_law.specs.Below.{BootEnd, DriveNo, Seat, Table, Tale, has_drive, last}
 use Rattle.mdv_engine_law.specs.Answers.{accepted}
 use Rattle.mdv_engine_law.specs.Efforts.{BootCalls, EndCalls, EndsByCalls, HandCalls, looks_of}
-use Rattle.mdv_engine_law.specs.Line.{IsLeftBy, IsReadOf, IsRebooted, IsUpBy, Memory, WritesTo, answered_by, booted_with, contents, kept_at, opened_by}
+use Rattle.mdv_engine_law.specs.Line.{IsLeftBy, IsReadOf, IsRebooted, IsUpBy, Memory, WritesBy, WritesTo, answered_by, booted_with, contents, kept_at, opened_by}
 use Rattle.mdv_engine_law.specs.declared.answer.Answer.{Answer}
 use Rattle.mdv_engine_law.specs.declared.host.Host.{Host}
 use Rattle.mdv_engine_law.proofs.Keeping.{open_on, same_beside}
@@ -111,7 +112,7 @@ module _ {S : Type 0} (shelf : Ghosts S) (old new : S) (host : Host) (answer : B
 
     -- memory was wanting, or its end is by what was read, and the letters of the listed places
     abbrev WasEnded : Type 0
-    WasEnded = (is_memory answer.end ≡ true) ⊎ ((survey : Survey) × (at : IsReadAt shelf old new host.drives host.site answer survey) × IsEndBy calls (Rewrites shelf at.looked new host.site.key) host.site survey answer.end × AreLettersOf host.site survey at.calm answer.letters)
+    WasEnded = (is_memory answer.end ≡ true) ⊎ ((survey : Survey) × (at : IsReadAt shelf old new host.drives host.site answer survey) × IsEndBy calls (WroteFor shelf old at.looked new host.drives host.site) host.site survey answer.end × AreLettersOf host.site survey at.calm answer.letters)
 
     -- its calls, by what was read
     ends_by_calls : (is_memory answer.end ≡ true) ⊎ EndsByCalls calls (made_of shelf old new) host (contents t) answer.up answer.end
@@ -121,8 +122,8 @@ module _ {S : Type 0} (shelf : Ghosts S) (old new : S) (host : Host) (answer : B
       by (inr (survey, at, end_by, letters)) = inr (record {
         survey = survey;
         read = read_of survey at (λ drive one_of out. (at.failed drive one_of out).1);
-        by_hand = end_more calls calls (within_itself calls) (Rewrites shelf at.looked new host.site.key) (λ hand table. HandCalls (made_of shelf old new) (looks_of host answer.up at.calm) hand.seats table)
-            (hand_calls shelf old at.looked new host.site.key (looks_of host answer.up at.calm) at.reads) host.site survey answer.end end_by;
+        by_hand = end_more calls calls (within_itself calls) (WroteFor shelf old at.looked new host.drives host.site) (λ hand table gone. HandCalls (made_of shelf old new) (looks_of host answer.up at.calm) hand.seats table)
+            (λ hand table gone wrote. hand_calls shelf old at.looked new host.site.key (looks_of host answer.up at.calm) at.reads hand table wrote.rewrites) host.site survey answer.end end_by;
         still = λ unwritten. looks_alone shelf old at.looked new host.site.key (looks_of host answer.up at.calm) at.reads (at.still unwritten);
       })
 
@@ -130,7 +131,7 @@ module _ {S : Type 0} (shelf : Ghosts S) (old new : S) (host : Host) (answer : B
     wrote_of written = by booted.ended where
       by : WasEnded → (made_of shelf old new).wrote
       by (inl memory) = absurd (let still = memory_still answer.end memory in cc (still, written))
-      by (inr (survey, at, end_by, letters)) = end_wrote shelf old at.looked new host.site.key _ at.reads calls host.site survey answer.end end_by written
+      by (inr (survey, at, end_by, letters)) = end_wrote shelf old at.looked new host.site.key _ at.reads host.drives calls host.site survey answer.end end_by written
 
     -- its calls, as a line counts them
     pub boot_calls : IsUnclean → IsBootCounted shelf old new host.drives host.site answer
@@ -157,15 +158,22 @@ module _ {S : Type 0} (shelf : Ghosts S) (old new : S) (host : Host) (answer : B
         let same : writes.0 ≡ u = some_is (shelf.tale new) writes.0 u writes.1 told_new in
         ap (λ (x : Tale). last x drive block) (sym same) ∙ (writes.2.quiet.outside drive block out).last ∙ (looks.2.outside drive block refl).last
 
+    wrote_by : (survey : Survey) (at : IsReadAt shelf old new host.drives host.site answer survey) (hand : _) (table : Table) (gone : List Seat) → WroteFor shelf old at.looked new host.drives host.site hand table gone
+        → WritesBy host.drives host.site.key (contents t) (contents u) hand.identity hand.number hand.seats table gone
+    wrote_by survey at hand table gone wrote =
+        let shows = wrote.shows t told_old in
+        let same : shows.0 ≡ u = some_is (shelf.tale new) shows.0 u shows.1 told_new in
+        record { to = wrote_to survey at hand table wrote.rewrites; shows = open_on host.drives (drawn_open host.site.key hand table gone) u (subst (λ (x : Tale). IsOpenedAt host.drives (drawn_open host.site.key hand table gone) x) same shows.2) }
+
     -- its end, as a line tells it
     module _ (unclean : IsUnclean) (away : (survey : Survey) (at : IsReadAt shelf old new host.drives host.site answer survey) → AreAway survey at) (moment : BootMoment host.drives host.site answer.end t u) (failed : ℕ → Type 0) (ends : BootEnds failed host.drives host.site answer t u) where
-      pub ended : (is_memory answer.end ≡ true) ⊎ ((survey : Survey) × IsReadOf calls host (contents t) answer.up answer.end survey × IsEndBy calls (λ hand table. WritesTo (contents t) (contents u) hand.seats) host.site survey answer.end)
+      pub ended : (is_memory answer.end ≡ true) ⊎ ((survey : Survey) × IsReadOf calls host (contents t) answer.up answer.end survey × IsEndBy calls (λ hand table gone. WritesBy host.drives host.site.key (contents t) (contents u) hand.identity hand.number hand.seats table gone) host.site survey answer.end)
       ended = by (is_memory answer.end) refl booted.ended where
         by : (b : Bool) → is_memory answer.end ≡ b → WasEnded
-            → (is_memory answer.end ≡ true) ⊎ ((survey : Survey) × IsReadOf calls host (contents t) answer.up answer.end survey × IsEndBy calls (λ hand table. WritesTo (contents t) (contents u) hand.seats) host.site survey answer.end)
+            → (is_memory answer.end ≡ true) ⊎ ((survey : Survey) × IsReadOf calls host (contents t) answer.up answer.end survey × IsEndBy calls (λ hand table gone. WritesBy host.drives host.site.key (contents t) (contents u) hand.identity hand.number hand.seats table gone) host.site survey answer.end)
         by true is end_by = inl is
         by false is (inl memory) = inl memory
-        by false is (inr (survey, at, end_by, letters)) = inr (survey, read_of survey at (away survey at), end_more calls calls (within_itself calls) (Rewrites shelf at.looked new host.site.key) (λ hand table. WritesTo (contents t) (contents u) hand.seats) (wrote_to survey at) host.site survey answer.end end_by)
+        by false is (inr (survey, at, end_by, letters)) = inr (survey, read_of survey at (away survey at), end_more calls calls (within_itself calls) (WroteFor shelf old at.looked new host.drives host.site) (λ hand table gone. WritesBy host.drives host.site.key (contents t) (contents u) hand.identity hand.number hand.seats table gone) (wrote_by survey at) host.site survey answer.end end_by)
 
       pub left : IsLeftBy host.drives answer.end (contents u)
       left = by answer.end ends.adopted where

@@ -9,12 +9,14 @@ use Rattle.mdv_store.proofs.Few.{reads_between}
 use Rattle.mdv_store.proofs.Losing.{rose_then}
 use Rattle.mdv_store.specs.Boot.{IsEndBy, is_memory}
 use Rattle.mdv_store.specs.Booting.{has_written}
+use Rattle.mdv_store.specs.BootCounts.{blocks_at, calls_at}
 use Rattle.mdv_store.specs.Taking.{Rewrites}
 use Rattle.mdv_store.specs.Text.{blocks_for}
 use Rattle.mdv_store.specs.declared.booting.BootEnd.TheVariants as end
 use Rattle.mdv_survey.specs.Counts.{MadeFew, MadeReads}
 use Rattle.mdv_survey.specs.declared.replica.Survey.{Survey}
-use Rattle.mdv_engine_law.specs.Below.{BootEnd, Key, Site, Table, active_of, record_text}
+use Rattle.mdv_store.specs.Booted.{WroteFor}
+use Rattle.mdv_engine_law.specs.Below.{BootEnd, Geometry, Key, Site, Table, active_of, record_text}
 use Rattle.mdv_engine_law.specs.Efforts.{HandCalls}
 
 -- what writes doesn't want memory
@@ -45,17 +47,17 @@ module _ {S : Type 0} (shelf : Ghosts S) where
     -- or the calls by which the places in hand were written
     pub hand_calls : (hand : _) (table : Table) → Rewrites shelf looked new key hand table → HandCalls (made_of shelf old new) reads hand.seats table
     hand_calls hand table wrote =
-        between_then shelf.calls shelf.written old looked new 0 reads 0 1 (8 * active_of hand.seats) ((3 + blocks_for (length (record_text table))) * active_of hand.seats) 1 (reads + 8 * active_of hand.seats) ((3 + blocks_for (length (record_text table))) * active_of hand.seats)
+        between_then shelf.calls shelf.written old looked new 0 reads 0 1 (calls_at hand.seats table) (blocks_at hand.seats table) 1 (reads + calls_at hand.seats table) (blocks_at hand.seats table)
         (omega arith) (omega arith) (omega arith) (reads_between shelf old looked looks.0 0 reads (omega arith) looks.1 looks.2) wrote.made
 
     began : RoseByAtLeast 1 (shelf.written looked) (shelf.written new) → (made_of shelf old new).wrote
     began rose = rose_then 0 1 1 (shelf.written old) (shelf.written looked) (shelf.written new) (omega arith) (reads_rose old looked looks.0 looks.2) rose
 
-    pub end_wrote : (failed : Outcomes) (site : Site) (survey : Survey) (e : BootEnd) → IsEndBy failed (Rewrites shelf looked new key) site survey e → has_written e ≡ true → (made_of shelf old new).wrote
-    end_wrote failed site survey (end.Adopted o) is written = began is.written.wrote.wrote
-    end_wrote failed site survey end.Empty is written = absurd (cc (written))
-    end_wrote failed site survey (end.TwoDatabases a b) is written = absurd (cc (written))
-    end_wrote failed site survey (end.NoQuorum readable needed) is written = absurd (cc (written))
-    end_wrote failed site survey (end.Lost active listed) is written = began is.written.wrote.wrote
-    end_wrote failed site survey end.Spent is written = absurd (cc (written))
-    end_wrote failed site survey end.Memory is written = absurd (cc (written))
+    pub end_wrote : (g : Geometry) (failed : Outcomes) (site : Site) (survey : Survey) (e : BootEnd) → IsEndBy failed (WroteFor shelf old looked new g site) site survey e → has_written e ≡ true → (made_of shelf old new).wrote
+    end_wrote g failed site survey (end.Adopted o) is written = began is.written.wrote.rewrites.wrote
+    end_wrote g failed site survey end.Empty is written = absurd (cc (written))
+    end_wrote g failed site survey (end.TwoDatabases a b) is written = absurd (cc (written))
+    end_wrote g failed site survey (end.NoQuorum readable needed) is written = absurd (cc (written))
+    end_wrote g failed site survey (end.Lost active listed) is written = began is.written.wrote.rewrites.wrote
+    end_wrote g failed site survey end.Spent is written = absurd (cc (written))
+    end_wrote g failed site survey end.Memory is written = absurd (cc (written))

@@ -4,7 +4,7 @@ use Rattle.std.specs.Bool.{MatchBool}
 use Rattle.mdv_base.proofs.Causes.{IsWithin}
 use Rattle.mdv_engine_law.specs.Below.{BootEnd, DriveNo, Drives, Identity, Key, Opened, Site, SliceLine, Table, Command, Create, Print, Read, Write}
 use Rattle.mdv_store.proofs.Passes.{left_as}
-use Rattle.mdv_store.specs.Boot.{IsEndBy, IsOnce, IsWrittenTo, is_memory}
+use Rattle.mdv_store.specs.Boot.{IsEndBy, IsOnce, IsShortBy, IsWrittenTo, is_memory}
 use Rattle.mdv_store.specs.Commit as commit
 use Rattle.mdv_store.specs.Create as create
 use Rattle.mdv_store.specs.Seats.{AreLeft, drive_of}
@@ -13,6 +13,7 @@ use Rattle.mdv_store.specs.declared.seats.Seat.{Seat}
 use Rattle.mdv_survey.specs.declared.replica.Newest.{Newest}
 use Rattle.mdv_survey.specs.declared.replica.Replica.{Replica}
 use Rattle.mdv_survey.specs.declared.replica.Survey.{Survey}
+use Rattle.mdv_table.specs.declared.plan.Lists.{Lists}
 use Rattle.mdv_words.specs.declared.command.Command.TheVariants as command
 use Rattle.mdv_shelf.specs.Everywhere.{Image}
 use Rattle.mdv_shelf.specs.Failing.{AreCalm, FailedOn, Outcomes}
@@ -38,9 +39,9 @@ pub record IsBlamed (one other : Blame) : Type 0 where
   pub lost : (active listed : ℕ) → one.lost active listed → other.lost active listed
 
 -- what was written, told of what each leads to
-written_more : (One Other : _ → Table → Type 0) → ((hand : _) (table : Table) → One hand table → Other hand table) → (newest : Newest) (replica : Replica) (seats : List Seat) (number : ℕ)
-    → IsWrittenTo One newest replica seats number → IsWrittenTo Other newest replica seats number
-written_more One Other so newest replica seats number is = record { hand = is.hand; identity_is = is.identity_is; number_is = is.number_is; seats_are = is.seats_are; wrote = so is.hand newest.table is.wrote }
+written_more : (One Other : _ → Table → List Seat → Type 0) → ((hand : _) (table : Table) (gone : List Seat) → One hand table gone → Other hand table gone) → (newest : Newest) (replica : Replica) (seats : List Seat) (number : ℕ) (gone : List Seat)
+    → IsWrittenTo One newest replica seats number gone → IsWrittenTo Other newest replica seats number gone
+written_more One Other so newest replica seats number gone is = record { hand = is.hand; identity_is = is.identity_is; number_is = is.number_is; seats_are = is.seats_are; wrote = so is.hand newest.table gone is.wrote }
 
 -- a stretch, told of itself
 pub within_itself : (failed : Outcomes) → AreWithin failed failed
@@ -86,13 +87,16 @@ module _ (failed more : Outcomes) (cause : AreWithin failed more) where
   lost_commit_more old table active listed is = record { new = is.new; calm = beside_more _ is.calm; lost = now_more old is.new table is.lost; few = is.few }
 
   -- and a boot's end
-  pub end_more : (One Other : _ → Table → Type 0) → ((hand : _) (table : Table) → One hand table → Other hand table) → (site : Site) (survey : Survey) (e : BootEnd) → IsEndBy failed One site survey e → IsEndBy more Other site survey e
-  end_more One Other so site survey (end.Adopted o) is = record { newest = is.newest; replica = is.replica; seats = is.seats; number = is.number; drawn = is.drawn; written = written_more One Other so _ _ _ _ is.written; left = left_more _ _ _ is.left; enough = is.enough; is = is.is }
+  short_more : (Took : Replica → Replica → Type 0) (key : Key) (lists : Lists) (seats : List Seat) (active listed : ℕ) → IsShortBy failed Took key lists seats active listed → IsShortBy more Took key lists seats active listed
+  short_more Took key lists seats active listed short = record { now = short.now; left = left_more Took seats short.now short.left; few = short.few }
+
+  pub end_more : (One Other : _ → Table → List Seat → Type 0) → ((hand : _) (table : Table) (gone : List Seat) → One hand table gone → Other hand table gone) → (site : Site) (survey : Survey) (e : BootEnd) → IsEndBy failed One site survey e → IsEndBy more Other site survey e
+  end_more One Other so site survey (end.Adopted o) is = record { newest = is.newest; replica = is.replica; seats = is.seats; number = is.number; drawn = is.drawn; gone = is.gone; over = left_more _ _ _ is.over; written = written_more One Other so _ _ _ _ _ is.written; left = left_more _ _ _ is.left; enough = is.enough; is = is.is }
   end_more One Other so site survey end.Empty is = is
   end_more One Other so site survey (end.TwoDatabases a b) is = is
   end_more One Other so site survey (end.NoQuorum readable needed) is = is
   end_more One Other so site survey (end.Lost active listed) is =
-      record { newest = is.newest; replica = is.replica; seats = is.seats; number = is.number; drawn = is.drawn; now = is.now; written = written_more One Other so _ _ _ _ is.written; left = left_more _ _ _ is.left; few = is.few }
+      record { newest = is.newest; replica = is.replica; seats = is.seats; number = is.number; drawn = is.drawn; written = written_more One Other so _ _ _ _ _ is.written; short = elim is.short [ inl first ↦ inl (short_more _ _ _ _ _ _ first) | inr again ↦ inr (again.0, short_more _ _ _ _ _ _ again.1) ] }
   end_more One Other so site survey end.Spent is = is
   end_more One Other so site survey end.Memory is = is
 

@@ -4,7 +4,7 @@ use Rattle.mdv_engine_law.specs.Below.{DriveBlock, VolId, Refusal, BadLine, IoFa
 use Rattle.mdv_standing.specs.Creating.{first_mark}
 use Rattle.mdv_store.specs.Commit as commit
 use Rattle.mdv_store.specs.Create as create
-use Rattle.mdv_store.specs.Create.{drives_asked}
+use Rattle.mdv_acts.specs.Asked.{drives_asked}
 use Rattle.mdv_store.specs.Opened.{shortage}
 use Rattle.mdv_store.specs.Seats.{drives_of}
 use Rattle.mdv_tab.specs.Text.{IsFaultOf}

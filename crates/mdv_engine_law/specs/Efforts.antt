@@ -6,10 +6,11 @@ use Rattle.mdv_shelf.specs.Failing.{Outcomes}
 use Rattle.mdv_shelf.specs.Made.{Made, and_more}
 use Rattle.mdv_look.specs.Looking.{reads_by}
 use Rattle.mdv_store.specs.Boot.{IsEndBy, is_memory}
-use Rattle.mdv_store.specs.BootCounts.{most_blocks, most_reads}
+use Rattle.mdv_store.specs.BootCounts.{IsAnewCounted, blocks_at, calls_at, most_blocks, most_calls, most_reads}
 use Rattle.mdv_store.specs.Booting.{has_written}
 use Rattle.mdv_store.specs.Counts.{drives_lost}
-use Rattle.mdv_store.specs.Create.{blanked_asked, seats_asked}
+use Rattle.mdv_acts.specs.Asked.{blanked_asked}
+use Rattle.mdv_store.specs.Create.{seats_asked}
 use Rattle.mdv_store.specs.Text.{blocks_for}
 use Rattle.mdv_store.specs.declared.booting.BootEnd.TheVariants as end
 use Rattle.mdv_survey.specs.Counts.{AreLinesBy}
@@ -90,7 +91,7 @@ CommandCalls made host command (Over other) old new = NoCalls made
 
 -- of a boot on which no call failed, behind so many that read
 abbrev pub EndCalls : Made → ℕ → BootEnd → Type 0
-EndCalls made reads (end.Adopted o) = made.exactly (reads + 8 * active_of o.seats) ((3 + blocks_for (length (record_text o.table))) * active_of o.seats)
+EndCalls made reads (end.Adopted o) = IsAnewCounted made.exactly reads o
 EndCalls made reads end.Empty = made.within reads reads 0
 EndCalls made reads (end.TwoDatabases a b) = made.within reads reads 0
 EndCalls made reads (end.NoQuorum readable needed) = made.within reads reads 0
@@ -102,21 +103,21 @@ EndCalls made reads end.Memory = Unit {0}
 abbrev pub looks_of : Host → (up calm : Drives) → ℕ
 looks_of host up calm = 2 * length host.site.drives + reads_by host.site up calm
 
--- Behind so many calls of its looks at most two calls are made for a claim and six for the table at each of these places that was found, with a claim, two gates and the table's text; one at least.
+-- Behind so many calls of its looks at most two calls are made for a claim and six for the table at each of these places that was found, with a claim, two gates and the table's text; and where it has two lists six again at each of the new one; one at least.
 abbrev pub HandCalls : Made → ℕ → List Seat → Table → Type 0
-HandCalls made looks seats table = made.within 1 (looks + 8 * active_of seats) ((3 + blocks_for (length (record_text table))) * active_of seats)
+HandCalls made looks seats table = made.within 1 (looks + calls_at seats table) (blocks_at seats table)
 
 -- Its end is by what its looks read; it made no more calls than these, and those by which it wrote to the places that it has in hand.
 pub record EndsByCalls (calls : Outcomes) (made : Made) (host : Host) (content : Image) (up : Drives) (end : BootEnd) : Type 0 where
   pub survey : Survey
   pub read : IsReadOf calls host content up end survey
-  pub by_hand : IsEndBy calls (λ hand table. HandCalls made (looks_of host up read.calm) hand.seats table) host.site survey end
+  pub by_hand : IsEndBy calls (λ hand table gone. HandCalls made (looks_of host up read.calm) hand.seats table) host.site survey end
   pub still : has_written end ≡ false → made.within 0 (looks_of host up read.calm) 0
 
 -- A boot reads a block of each of the host's drives and syncs it, and each head and each body of an open slot once, where no call failed; and then writes to each active place. Whatever failed, its looks make no more calls than so many looks could take as there are drives of which a read failed, and one; where it
 -- adopts or is lost it began to write, by no more calls, and no more blocks, than the places take that it found of the newest table's lists; and else it writes nothing.
 pub record BootCalls (calls : Outcomes) (made : Made) (host : Host) (answer : Answer) (memory : Memory) (content : Image) : Type 0 where
-  pub most : made.within 0 (2 * length host.site.drives + most_reads host.site + 8 * 100) most_blocks
+  pub most : made.within 0 (2 * length host.site.drives + most_reads host.site + most_calls) most_blocks
   pub end : BootEnd
   pub answer_is : answer ≡ answered_by end
   pub up : Drives

@@ -8,7 +8,7 @@ use Rattle.mdv_store.specs.Boot.{IsEndBy, IsOnce, is_memory}
 use Rattle.mdv_store.specs.Booting.{boot_area, has_written}
 use Rattle.mdv_store.specs.Commit as commit
 use Rattle.mdv_store.specs.Create as create
-use Rattle.mdv_store.specs.Create.{drives_asked}
+use Rattle.mdv_acts.specs.Asked.{drives_asked}
 use Rattle.mdv_store.specs.Seats.{drives_of}
 use Rattle.mdv_store.specs.declared.booting.BootEnd.TheVariants as end
 use Rattle.mdv_survey.specs.Replica.{at_of}
@@ -177,6 +177,11 @@ IsLeftBy g other content = Unit {0}
 abbrev pub WritesTo : Image → Image → List Seat → Type 0
 WritesTo old new seats = IsSameBeside (seats_area seats) old new
 
+-- and so it was by a boot; these of them, which the new list of two lacks, show the table then under the number's first mark
+pub record WritesBy (g : Geometry) (key : Key) (old new : Image) (identity : Identity) (number : ℕ) (seats : List Seat) (table : Table) (gone : List Seat) : Type 0 where
+  pub to : WritesTo old new seats
+  pub shows : IsOpenOn g (record { key = key; identity = identity; mark = record { boot = number; count = 0 }; table = table; seats = gone }) new
+
 -- Which drives a boot brought up, and whether no call failed in it: of the host's drives all but some on which one failed, and no other; one on which it failed later is up. On each of them just one failed, or none, if memory wasn't wanting; and where none failed on any the boot is clean.
 pub record IsUpBy (calls : Outcomes) (host : Host) (end : BootEnd) (up : Drives) (clean : Bool) : Type 0 where
   pub down : is_memory end ≡ false → (drive : DriveNo) → Contains host.site.drives drive → has_drive up drive ≡ false → (calls drive.0).some
@@ -201,7 +206,7 @@ pub record IsRebooted (calls : Outcomes) (host : Host) (kept : Kept) (answer : A
   pub up : Drives
   pub clean : Bool
   pub up_by : IsUpBy calls host end up clean
-  pub by : (is_memory end ≡ true) ⊎ ((survey : Survey) × IsReadOf calls host kept.content up end survey × IsEndBy calls (λ hand table. WritesTo kept.content next.content hand.seats) host.site survey end)
+  pub by : (is_memory end ≡ true) ⊎ ((survey : Survey) × IsReadOf calls host kept.content up end survey × IsEndBy calls (λ hand table gone. WritesBy host.drives host.site.key kept.content next.content hand.identity hand.number hand.seats table gone) host.site survey end)
   pub answer_is : answer ≡ answered_by end
   pub memory : answer ≡ accepted → next.memory ≡ booted_with (opened_by end) up clean kept.memory.begun
   pub content : IsLeftBy host.drives end next.content

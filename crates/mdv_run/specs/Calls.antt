@@ -6,16 +6,16 @@ use Rattle.mdv_engine_law.specs.Hosts.{lines_asked}
 use Rattle.mdv_items.specs.declared.gather.GatherFault.{GatherFault}
 use Rattle.mdv_run.specs.Below.{Boot, Command, Create, Host, IsItem, IsLine, Read, Script, Spelled, Write, at_end, line, spent, too_long}
 use Rattle.mdv_run_law.specs.Run.{IsNoCommand}
-use Rattle.mdv_store.specs.BootCounts.{most_reads}
-use Rattle.mdv_store.specs.Create.{blanked_asked}
+use Rattle.mdv_store.specs.BootCounts.{most_calls, most_reads}
+use Rattle.mdv_acts.specs.Asked.{blanked_asked}
 use Rattle.mdv_words.specs.declared.command.Command.TheVariants as command
 use Rattle.mdv_words.specs.Line as words
 use Rattle.mdv_run.specs.declared.session.Turn.{Turn}
 use Rattle.mdv_run.specs.declared.session.Turn.TheVariants.{On, Over}
 
--- what a boot takes: two calls for each of the host's own drives, those of its looks, and eight for each of a hundred places
+-- what a boot takes: two calls for each of the host's own drives, those of its looks, eight for each of a hundred places, and six again for each of fifty
 abbrev pub boot_calls : Host → ℕ
-boot_calls host = 2 * length host.site.drives + most_reads host.site + 8 * 100
+boot_calls host = 2 * length host.site.drives + most_reads host.site + most_calls
 
 -- What a command takes: a creation twelve for each place, and two more for each that is blanked before; a change six for each of a hundred places; a read one, a write two, and a print none.
 abbrev pub command_calls : Host → Command → ℕ

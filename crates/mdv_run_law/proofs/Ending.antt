@@ -11,7 +11,7 @@ use Rattle.mdv_record.specs.Text.{record_text}
 use Rattle.mdv_replica.specs.Replica.{slot_blocks}
 use Rattle.mdv_shelf.specs.Failing.{Outcomes}
 use Rattle.mdv_shown.specs.declared.site.Site.{Site}
-use Rattle.mdv_table.specs.Plan.{places_of}
+use Rattle.mdv_table.specs.Plan.{last_of, places_of, settled}
 use Rattle.mdv_table.specs.declared.plan.Lists.{Lists}
 use Rattle.mdv_table.specs.declared.plan.Lists.TheVariants.{One, Two}
 use Rattle.mdv_table.specs.declared.table.Table.{Table}
@@ -21,14 +21,17 @@ use Rattle.mdv_survey.specs.declared.replica.Newest.{Newest}
 use Rattle.mdv_survey.specs.declared.replica.Replica.{Replica}
 use Rattle.mdv_survey.specs.declared.replica.Survey.{Survey}
 use Rattle.mdv_survey.proofs.Identities.{find_some}
-use Rattle.mdv_store.specs.Boot.{IsAdopted, IsEndBy, IsInHand, IsShort, TakesBoth, greatest_number, is_memory, is_seated, seats_of, need_of}
+use Rattle.mdv_store.specs.Boot.{IsAdopted, IsEndBy, IsInHand, IsShort, TakesAll, greatest_number, is_memory, is_seated, last_found, seats_of}
 use Rattle.mdv_store.specs.Opened.{Opened}
 use Rattle.mdv_store.specs.Text.{blocks_for}
 use Rattle.mdv_store.specs.declared.booting.BootEnd.{BootEnd}
 use Rattle.mdv_store.specs.declared.booting.BootEnd.TheVariants as end
 use Rattle.mdv_store.specs.declared.seats.Seat.{Seat}
 use Rattle.mdv_store.proofs.Adoptions.{same_identity_self}
-use Rattle.mdv_run_law.proofs.Passing.{NoneFailed, left_is, never_short, rewritten, rewritten_is, seats_with}
+use Rattle.mdv_store.proofs.Told.{lost_read}
+use Rattle.mdv_store.specs.Seats.{drive_of}
+use Rattle.mdv_store.specs.Settled.{settles}
+use Rattle.mdv_run_law.proofs.Passing.{NoneFailed, all_is, left_is, rewritten_by, seats_with}
 use Rattle.mdv_store.specs.Shares.{has_active, short_in, short_of}
 use Rattle.mdv_store.specs.declared.seats.Need.TheVariants.{More}
 use Rattle.mdv_store.specs.declared.seats.Share.{Share}
@@ -45,14 +48,17 @@ abbrev by_lists : List Replica → Replica → Share → Option (List Place) →
 by_lists rs r share None = end.NoQuorum share.active (share.listed / 2 + 1)
 by_lists rs r share (Some list) = end.NoQuorum (readable_of rs r.head.master.identity list) (needed_of list)
 
-abbrev by_number : Key → Newest → Replica → List Seat → ℕ → Bool → BootEnd
-by_number key newest r seats number false = end.Spent
-by_number key newest r seats number true =
-    end.Adopted (record { key = key; identity = r.head.master.identity; mark = record { boot = number; count = 0 }; table = newest.table; seats = seats_with (rewritten number (length (record_text newest.table))) seats })
+abbrev last_seats : List Replica → Newest → Replica → List Seat
+last_seats rs newest r = seats_of rs r.head.master.identity (text_blocks newest.table) (last_of newest.table.plan.lists)
+
+abbrev by_number : Key → List Replica → Newest → Replica → ℕ → Bool → BootEnd
+by_number key rs newest r number false = end.Spent
+by_number key rs newest r number true =
+    end.Adopted (record { key = key; identity = r.head.master.identity; mark = record { boot = number; count = settles newest.table.plan.lists }; table = settled newest.table; seats = seats_with (rewritten_by newest.table.plan.lists number newest.table) (last_seats rs newest r) })
 
 abbrev by_seats : Key → List Replica → Newest → Replica → List Seat → Option Share → BootEnd
 by_seats key rs newest r seats (Some share) = by_lists rs r share (failing rs r.head.master.identity newest.table.plan.lists)
-by_seats key rs newest r seats None = (let number = greatest_number r.head.master.identity rs + 1 in by_number key newest r seats number (nat_lt number (2 ^ 63)))
+by_seats key rs newest r seats None = (let number = greatest_number r.head.master.identity rs + 1 in by_number key rs newest r number (nat_lt number (2 ^ 63)))
 
 abbrev seated : Key → List Replica → Newest → Replica → List Seat → BootEnd
 seated key rs newest r seats = by_seats key rs newest r seats (short_of More seats newest.table.plan.lists)
@@ -150,7 +156,7 @@ module _ (failed : Outcomes) (calm : NoneFailed failed) (site : Site) (survey : 
     abbrev number : ℕ
     number = greatest_number replica.head.master.identity rs + 1
 
-    enough_seats : short_of More seats newest.table.plan.lists ≡ None → seated site.key rs newest replica seats ≡ by_number site.key newest replica seats number (nat_lt number (2 ^ 63))
+    enough_seats : short_of More seats newest.table.plan.lists ≡ None → seated site.key rs newest replica seats ≡ by_number site.key rs newest replica number (nat_lt number (2 ^ 63))
     enough_seats none = ap (by_seats site.key rs newest replica seats) none
 
     few_seats : (share : Share) → short_of More seats newest.table.plan.lists ≡ Some share → seated site.key rs newest replica seats ≡ by_lists rs replica share (failing rs replica.head.master.identity newest.table.plan.lists)
@@ -158,13 +164,13 @@ module _ (failed : Outcomes) (calm : NoneFailed failed) (site : Site) (survey : 
 
   adopted_is : (Wrote : _) (o : Opened) → IsAdopted failed Wrote site survey o → end.Adopted o ≡ end_of site.key rs survey.newest
   adopted_is Wrote o is =
-      let left = left_is failed calm (TakesBoth is.number (length (record_text is.newest.table))) (rewritten is.number (length (record_text is.newest.table))) (rewritten_is is.number (length (record_text is.newest.table))) is.seats o.seats is.left in
+      let left = left_is failed calm (TakesAll is.number is.newest.table) (rewritten_by is.newest.table.plan.lists is.number is.newest.table) (all_is is.number is.newest.table) (last_found survey is.newest is.replica) o.seats is.left in
       let small : nat_lt (number is.newest is.replica is.seats is.drawn.hand) (2 ^ 63) ≡ true = lt_yes _ (2 ^ 63) (subst (λ (n : ℕ). n < 2 ^ 63) is.drawn.number_is is.drawn.small) in
-      let made : end.Adopted o ≡ by_number site.key is.newest is.replica is.seats is.number true =
+      let made : end.Adopted o ≡ by_number site.key rs is.newest is.replica is.number true =
       ap (λ (x : Opened). end.Adopted x) is.is
-      ∙ ap (λ (l : List Seat). end.Adopted (record { key = site.key; identity = is.replica.head.master.identity; mark = record { boot = is.number; count = 0 }; table = is.newest.table; seats = l })) left in
-      made ∙ ap (λ (n : ℕ). by_number site.key is.newest is.replica is.seats n true) is.drawn.number_is
-      ∙ ap (by_number site.key is.newest is.replica is.seats (number is.newest is.replica is.seats is.drawn.hand)) (sym small)
+      ∙ ap (λ (l : List Seat). end.Adopted (record { key = site.key; identity = is.replica.head.master.identity; mark = record { boot = is.number; count = settles is.newest.table.plan.lists }; table = settled is.newest.table; seats = l })) left in
+      made ∙ ap (λ (n : ℕ). by_number site.key rs is.newest is.replica n true) is.drawn.number_is
+      ∙ ap (by_number site.key rs is.newest is.replica (number is.newest is.replica is.seats is.drawn.hand)) (sym small)
       ∙ sym (enough_seats is.newest is.replica is.seats is.drawn.hand is.drawn.enough) ∙ sym (in_hand is.newest is.replica is.seats is.drawn.hand)
 
   short_is : (readable needed : ℕ) → IsShort survey readable needed → end.NoQuorum readable needed ≡ end_of site.key rs survey.newest
@@ -210,9 +216,9 @@ module _ (failed : Outcomes) (calm : NoneFailed failed) (site : Site) (survey : 
     by (Some n) two =
         (λ i. end.TwoDatabases (two.a_is i) (two.b_is i)) ∙ ap (by_other site.key rs n two.one) (sym two.second) ∙ ap (by_first site.key rs n) (sym two.first)
   end_is Wrote (end.NoQuorum readable needed) so is = short_is readable needed is
-  end_is Wrote (end.Lost active listed) so is = absurd (never_short failed calm _ More (need_of site.key) (more_suffices (need_of site.key)) is.newest.table.plan.lists is.seats is.now (record { active = active; listed = listed }) is.left is.drawn.enough is.few)
+  end_is Wrote (end.Lost active listed) so is = (let one = lost_read failed Wrote site.key survey active listed is in absurd (calm (drive_of one.0) one.2))
   end_is Wrote end.Spent so is =
-      ap (by_number site.key is.newest is.replica is.seats (number is.newest is.replica is.seats is.hand)) (sym (lt_no (number is.newest is.replica is.seats is.hand) (2 ^ 63) is.spent))
+      ap (by_number site.key rs is.newest is.replica (number is.newest is.replica is.seats is.hand)) (sym (lt_no (number is.newest is.replica is.seats is.hand) (2 ^ 63) is.spent))
       ∙ sym (enough_seats is.newest is.replica is.seats is.hand is.enough) ∙ sym (in_hand is.newest is.replica is.seats is.hand)
   end_is Wrote end.Memory so is = absurd (cc (so))
 

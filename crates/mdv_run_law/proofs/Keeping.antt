@@ -1,7 +1,10 @@
 -- What two courses keep in common, as far as a boot and a line can tell.
-use Rattle.std.proofs.Common.{◌≡◌, inl, inr, ℕ, ◌+◌, ◌<◌, Bool, true, false, List, [], ◌∷◌, Option, None, Some, Contains, length, refl, sym, ◌∙◌, ap, subst, arith}
+use Rattle.std.proofs.Common.{◌≡◌, ◌⊎◌, ◌++◌, inl, inr, ℕ, ◌+◌, ◌<◌, Bool, true, false, cond, not, map, slice_get, List, [], ◌∷◌, Option, None, Some, Contains, length, refl, sym, ◌∙◌, ap, subst, arith}
 use Rattle.std.proofs.lemmas.Bool.{cases_Bool, false≢true}
+use Rattle.std.specs.List.{find, list_any}
+use Rattle.std.proofs.lemmas.List.Elements.{Contains-append_cases, Contains-append_left, Contains-append_right, filter_map-append}
 use Rattle.std.proofs.lemmas.List.Kept.{AllPairs-filter}
+use Rattle.mdv_base.specs.declared.place.Place.{Place}
 use Rattle.mdv_base.specs.DriveSet.{has_drive}
 use Rattle.mdv_map.specs.Maps.{DriveBlock}
 use Rattle.mdv_record.proofs.Parsed.{is_read}
@@ -15,10 +18,25 @@ use Rattle.mdv_shown.proofs.Sites.{law_sites}
 use Rattle.mdv_shown.specs.Site.{IsSite}
 use Rattle.mdv_shown.specs.Sites.{is_line_of}
 use Rattle.mdv_store.proofs.Seating.{seated_at}
-use Rattle.mdv_store.proofs.Sitting.{contains_first}
-use Rattle.mdv_store.specs.Boot.{IsEndBy, TakesBoth, is_memory}
+use Rattle.mdv_store.proofs.Sitting.{contains_behind, contains_first, first_or_behind, left_replica, replica_of, seat_of}
+use Rattle.mdv_replica.specs.declared.replica.Slot.{Slot}
+use Rattle.mdv_shown.specs.Shown.{IsNewestOf}
+use Rattle.mdv_store.proofs.Again.{none_all, none_of}
+use Rattle.mdv_store.proofs.Adoptions.{takes_stay}
+use Rattle.mdv_store.proofs.Passes.{left_told, mapped, unmapped}
+use Rattle.mdv_store.proofs.Rows.{part_filter, part_has}
+use Rattle.mdv_store.proofs.Told.{found_read, last_enough}
+use Rattle.mdv_store.specs.Boot.{IsEndBy, TakesAll, TakesBoth, gone_found, greatest_number, is_memory, is_seated, last_found, seat_for, seats_of}
+use Rattle.mdv_store.specs.Settled.{gone_of}
+use Rattle.mdv_survey.specs.Replica.{at_of}
+use Rattle.mdv_survey.specs.declared.replica.Newest.{Newest}
+use Rattle.mdv_table.proofs.Beside.{among-true}
+use Rattle.mdv_table.specs.Plan.{beside, last_of, same_place}
+use Rattle.mdv_table.specs.declared.plan.Lists.{Lists}
+use Rattle.mdv_table.specs.declared.plan.Lists.TheVariants.{One as OneList, Two}
+use Rattle.mdv_table.specs.declared.table.Table.{Table}
 use Rattle.mdv_store.specs.Booting.{boot_area, has_written}
-use Rattle.mdv_store.specs.Seats.{active_of, replicas_of, seats_area}
+use Rattle.mdv_store.specs.Seats.{active_of, drive_of, replica_area, replicas_of, seats_area}
 use Rattle.mdv_store.specs.Text.{blocks_for}
 use Rattle.mdv_store.specs.declared.booting.BootEnd.{BootEnd}
 use Rattle.mdv_store.specs.declared.booting.BootEnd.TheVariants as end
@@ -27,16 +45,16 @@ use Rattle.mdv_survey.specs.declared.replica.Replica.{Replica}
 use Rattle.mdv_survey.specs.declared.replica.Survey.{Survey}
 use Rattle.mdv_table.specs.Plan.{places_of}
 use Rattle.mdv_engine_law.specs.Answers.{accepted, refusing}
-use Rattle.mdv_engine_law.specs.Line.{IsLeftBy, IsOpenOn, IsReadOf, IsUpBy, WritesTo, answered_by, booted_with, opened_by}
+use Rattle.mdv_engine_law.specs.Line.{IsLeftBy, IsOpenOn, IsReadOf, IsUpBy, WritesBy, answered_by, booted_with, opened_by}
 use Rattle.mdv_engine_law.specs.declared.answer.Answer.TheVariants.{Over}
 use Rattle.mdv_engine_law.specs.declared.answer.Ended.TheVariants as ended
 use Rattle.mdv_run_law.specs.Run.{AreOnce, IsOfTable, IsSaid, IsSameMemory}
 use Rattle.mdv_run_law.proofs.Ending.{one_end}
-use Rattle.mdv_run_law.proofs.Moving.{IsAlike, IsAway, IsChanged, IsThere, alike_beside, found_of, here_beside, here_of, newest_beside, one_text}
-use Rattle.mdv_run_law.proofs.Passing.{NoneFailed, left_active, left_is, rewritten, rewritten_is}
+use Rattle.mdv_run_law.proofs.Moving.{IsAlike, IsAway, IsChanged, IsThere, alike_beside, alike_written, areas, changed_written, found_of, here_beside, here_of, newest_beside, one_text}
+use Rattle.mdv_run_law.proofs.Passing.{NoneFailed, left_active, left_is, rewritten, rewritten_is, seats_with}
 use Rattle.mdv_run_law.proofs.Placing.{put_at}
 use Rattle.mdv_run_law.proofs.Surveyed.{IsAllOf, one_survey}
-use Rattle.mdv_run_law.proofs.Written.{alike_behind, its_each, written}
+use Rattle.mdv_run_law.proofs.Written.{its_each}
 use Rattle.mdv_store.proofs.Shares.{some_more}
 
 -- an answer that tells nothing of a want of memory
@@ -103,6 +121,10 @@ module _ (host : Host) (calls also : Outcomes) (calm : NoneFailed calls) (calm_t
     begun = number;
     entries = refl;
   }
+
+-- those that the new list lacks, as what was read settles it
+abbrev gone_now : List Replica → Newest → Replica → List Seat
+gone_now all it r = seats_with (rewritten (greatest_number r.head.master.identity all + 1) (length (record_text it.table))) (seats_of all r.head.master.identity (blocks_for (length (record_text it.table))) (gone_of it.table.plan.lists))
 
 module _ (host : Host) (has : IsOfTable host) (once : AreOnce host.drives.slices) where
   -- where a boot looks
@@ -201,7 +223,7 @@ module _ (host : Host) (has : IsOfTable host) (once : AreOnce host.drives.slices
     up_by : IsUpBy calls host e up clean
     survey : Survey
     all : IsAllOf host.drives host.site ok once_there brought k.content survey
-    by : IsEndBy calls (λ hand table. WritesTo k.content n.content hand.seats) host.site survey e
+    by : IsEndBy calls (λ hand table gone. WritesBy host.drives host.site.key k.content n.content hand.identity hand.number hand.seats table gone) host.site survey e
     memory : IsSaid (answered_by e) → n.memory ≡ booted_with (opened_by e) up clean k.memory.begun
     content : IsLeftBy host.drives e n.content
     beside : IsSameBeside (boot_area host.site (has_written e)) k.content n.content
@@ -243,29 +265,114 @@ module _ (host : Host) (has : IsOfTable host) (once : AreOnce host.drives.slices
     adopted_held : (o : Opened) → Booted calls k n (end.Adopted o) → IsHeld o n.content
     adopted_held o is = record {
       key = ap (λ (x : Opened). x.key) is.by.is;
-      some = (let active = left_active calls calm _ is.by.seats o.seats is.by.left in let most = some_more is.by.seats is.by.newest.table.plan.lists is.by.drawn.enough in omega (arith, active, most));
+      some = (
+          let active = left_active calls calm _ (last_found is.survey is.by.newest is.by.replica) o.seats is.by.left in
+          let most = some_more (last_found is.survey is.by.newest is.by.replica) (OneList (last_of is.by.newest.table.plan.lists)) (last_enough is.survey is.by.newest is.by.replica is.by.seats is.by.drawn.hand is.by.drawn.enough) in
+          omega (arith, active, most));
       on = is.content;
     }
 
-    -- and nothing was written but there
-    adopted_changed : (o : Opened) (is : Booted calls k n (end.Adopted o)) → (key : host.site ≡ site_of host.drives o.key)
-        → IsChanged (Spells host.drives) (one_text host.drives) host.site ok (IsAway (Spells host.drives) (one_text host.drives) host.site ok (replicas_of o.seats)) (replicas_of o.seats) k.content n.content
-    adopted_changed o is key =
-        written host.drives host.site ok o key head is.by.seats (left_is calls calm (TakesBoth is.by.number bytes) (rewritten is.by.number bytes) (rewritten_is is.by.number bytes) is.by.seats o.seats is.by.left) k.content n.content found wrote is.content where
-          bytes : ℕ
-          bytes = length (record_text is.by.newest.table)
+    -- Nothing was written but there, and at those places that the new list lacks.
+    module _ (o : Opened) (is : Booted calls k n (end.Adopted o)) where
+      abbrev rs : List Replica
+      rs = is.survey.replicas
 
-          head : Replica → Head
-          head r = (rewritten is.by.number bytes r).head
+      abbrev newest : Newest
+      newest = is.by.newest
 
-          found : (r : Replica) → Contains (replicas_of is.by.seats) r → There k.content r
-          found r among =
-              let hand = is.by.drawn.hand in
-              let at = seated_at is.survey.replicas is.by.replica.head.master.identity (blocks_for bytes) (places_of is.by.newest.table.plan.lists) r (subst (λ (l : List Seat). Contains (replicas_of l) r) hand.seats_are among) in
-              here_of (Spells host.drives) (one_text host.drives) host.site ok k.content r (is.all.of.each r at.1)
+      abbrev lists : Lists
+      lists = newest.table.plan.lists
 
-          wrote : IsSameBeside (seats_area is.by.seats) k.content n.content
-          wrote = subst (λ (l : List Seat). WritesTo k.content n.content l) is.by.written.seats_are is.by.written.wrote
+      abbrev found : List Place → List Seat
+      found = seats_of rs is.by.replica.head.master.identity (blocks_for (length (record_text newest.table)))
+
+      -- the database as both passes left it there
+      abbrev left_open : Opened
+      left_open = record { key = host.site.key; identity = is.by.written.hand.identity; mark = record { boot = is.by.written.hand.number; count = 0 }; table = newest.table; seats = is.by.gone }
+
+      abbrev written_at : List Replica
+      written_at = replicas_of (o.seats ++ is.by.gone)
+
+      in_both : (r : Replica) → Contains written_at r → Contains (replicas_of o.seats) r ⊎ Contains (replicas_of is.by.gone) r
+      in_both r has = Contains-append_cases (replicas_of o.seats) (replicas_of is.by.gone) r (subst (λ (l : List Replica). Contains l r) (filter_map-append (λ (s : Seat). s.replica) o.seats is.by.gone) has)
+
+      of_both : (r : Replica) → Contains (replicas_of o.seats) r ⊎ Contains (replicas_of is.by.gone) r → Contains written_at r
+      of_both r has = subst (λ (l : List Replica). Contains l r) (sym (filter_map-append (λ (s : Seat). s.replica) o.seats is.by.gone)) (elim has [
+        | inl here ↦ Contains-append_left (replicas_of o.seats) (replicas_of is.by.gone) r here
+        | inr gone ↦ Contains-append_right (replicas_of o.seats) (replicas_of is.by.gone) r gone
+      ])
+
+      stay : (r m : Replica) → TakesBoth is.by.number (length (record_text newest.table)) r m → m ≡ record r { head = m.head }
+      stay r m took = took.2 ∙ ap (λ (h : Head). record r { head = h }) (sym (ap (λ (x : Replica). x.head) took.2))
+
+      -- each of them was found
+      came : (m : Replica) → Contains written_at m → (r : Replica) × Contains rs r × (m ≡ record r { head = m.head })
+      came m has = elim (in_both m has) [
+        | inl here ↦ (
+            let one = left_replica calls (TakesAll is.by.number newest.table) (last_found is.survey newest is.by.replica) o.seats m is.by.left here in
+            (one.0, found_read is.survey newest is.by.replica is.by.seats is.by.drawn.hand (last_of lists) one.0 one.1, takes_stay is.by.number newest.table one.0 m one.2))
+        | inr gone ↦ (
+            let one = left_replica calls (TakesBoth is.by.number (length (record_text newest.table))) (gone_found is.survey newest is.by.replica) is.by.gone m is.by.over gone in
+            (one.0, found_read is.survey newest is.by.replica is.by.seats is.by.drawn.hand (gone_of lists) one.0 one.1, stay one.0 m one.2))
+      ]
+
+      before : (m : Replica) → Contains written_at m → (h : Head) × There k.content (record { line = m.line; number = m.number; first = m.first; head = h })
+      before m has =
+          let one = came m has in
+          let there = here_of (Spells host.drives) (one_text host.drives) host.site ok k.content one.0 (is.all.of.each one.0 one.1) in
+          (one.0.head, subst (λ (x : Replica). There k.content (record { line = x.line; number = x.number; first = x.first; head = one.0.head })) (sym one.2) there)
+
+      each : (key : host.site ≡ site_of host.drives o.key) (m : Replica) → Contains written_at m → There n.content m
+      each key m there = elim (in_both m there) [
+        | inl here ↦ its_each host.drives host.site ok o key n.content is.content m here
+        | inr gone ↦ its_each host.drives host.site ok left_open (its_site left_open (ap (λ (s : Site). s.key) has.site)) n.content is.by.written.wrote.shows m gone
+      ]
+
+      -- a place of both lists is the new one's, or one that it lacks
+      one_of : (l : Lists) (p : Place) → Contains (places_of l) p → Contains (last_of l) p ⊎ Contains (gone_of l) p
+      one_of (OneList list) p there = inl there
+      one_of (Two old new) p there = elim (Contains-append_cases old (beside old new) p there) [
+        | inl first ↦ (elim (cases_Bool (list_any (same_place p) new)) [ inl among ↦ inl ((among-true new p).0 among) | inr away ↦ inr (beside_has old away first) ])
+        | inr last ↦ inl (part_has (beside old new) new p (part_filter (λ (q : Place). not (list_any (same_place q) old)) new) last)
+      ]
+        where
+          beside_has : (xs : List Place) → list_any (same_place p) new ≡ false → Contains xs p → Contains (beside new xs) p
+          beside_has [] away has = absurd (omega (arith, has.1))
+          beside_has (x ∷ xs) away has = by (list_any (same_place x) new) refl (beside_has xs away) where
+            by : (b : Bool) → list_any (same_place x) new ≡ b → (Contains xs p → Contains (beside new xs) p) → Contains (cond (not b) (x ∷ beside new xs) (beside new xs)) p
+            by true is rest = elim (first_or_behind x p xs has) [ inl here ↦ absurd (false≢true (sym away ∙ ap (λ (q : Place). list_any (same_place q) new) (sym here) ∙ is)) | inr behind ↦ rest behind ]
+            by false is rest = elim (first_or_behind x p xs has) [ inl here ↦ subst (Contains (x ∷ beside new xs)) here (contains_first x (beside new xs)) | inr behind ↦ contains_behind x p (beside new xs) (rest behind) ]
+
+      of_place : (places : List Place) (p : Place) (r : Replica) → Contains places p → find (is_seated is.by.replica.head.master.identity p (blocks_for (length (record_text newest.table)))) rs ≡ Some r → Contains (replicas_of (found places)) r
+      of_place places p r there some = replica_of (found places) (seat_for rs is.by.replica.head.master.identity (blocks_for (length (record_text newest.table))) p) r (mapped (seat_for rs is.by.replica.head.master.identity (blocks_for (length (record_text newest.table)))) places p there) some
+
+      -- so each block outside them is as it was
+      out_there : (drive block : ℕ) → areas written_at drive block ≡ false → (r : Replica) → Contains (replicas_of is.by.seats) r → replica_area r drive block ≡ false
+      out_there drive block out r has =
+          let seat = seat_of (found (places_of lists)) r (subst (λ (ss : List Seat). Contains (replicas_of ss) r) is.by.drawn.hand.seats_are has) in
+          let place = unmapped (seat_for rs is.by.replica.head.master.identity (blocks_for (length (record_text newest.table)))) (places_of lists) seat.0 seat.1 in
+          let some = ap (λ (s : Seat). s.replica) place.2 ∙ seat.2 in
+          elim (one_of lists place.0 place.1) [
+            | inl last ↦ (elim (left_told calls (TakesAll is.by.number newest.table) (last_found is.survey newest is.by.replica) o.seats is.by.left r (of_place (last_of lists) place.0 r last some)) [
+              | inl failed ↦ absurd (calm (drive_of r) failed)
+              | inr m ↦ ap (λ (x : Replica). replica_area x drive block) (sym (takes_stay is.by.number newest.table r m.0 m.3)) ∙ none_of (λ (x : Replica). replica_area x drive block) written_at m.0 out (of_both m.0 (inl m.1))
+            ])
+            | inr gone ↦ (elim (left_told calls (TakesBoth is.by.number (length (record_text newest.table))) (gone_found is.survey newest is.by.replica) is.by.gone is.by.over r (of_place (gone_of lists) place.0 r gone some)) [
+              | inl failed ↦ absurd (calm (drive_of r) failed)
+              | inr m ↦ ap (λ (x : Replica). replica_area x drive block) (sym (stay r m.0 m.3)) ∙ none_of (λ (x : Replica). replica_area x drive block) written_at m.0 out (of_both m.0 (inr m.1))
+            ])
+          ]
+
+      same_out : (drive block : ℕ) → areas written_at drive block ≡ false → n.content drive block ≡ k.content drive block
+      same_out drive block out =
+          is.by.written.wrote.to drive block (subst (λ (ss : List Seat). seats_area ss drive block ≡ false) (sym is.by.written.seats_are) (none_all (λ (r : Replica). replica_area r drive block) (replicas_of is.by.seats) (out_there drive block out)))
+
+      adopted_changed : (key : host.site ≡ site_of host.drives o.key) → IsChanged (Spells host.drives) (one_text host.drives) host.site ok (IsAway (Spells host.drives) (one_text host.drives) host.site ok written_at) written_at k.content n.content
+      adopted_changed key = changed_written (Spells host.drives) (one_text host.drives) host.site ok written_at k.content n.content same_out before (each key)
+
+      gone_is : is.by.gone ≡ gone_now rs newest is.by.replica
+      gone_is = left_is calls calm (TakesBoth is.by.number (length (record_text newest.table))) (rewritten is.by.number (length (record_text newest.table))) (rewritten_is is.by.number (length (record_text newest.table))) (gone_found is.survey newest is.by.replica) is.by.gone is.by.over
+          ∙ ap (λ (number : ℕ). seats_with (rewritten number (length (record_text newest.table))) (gone_found is.survey newest is.by.replica)) is.by.drawn.number_is
 
     no_database : (e : BootEnd) (is : Booted calls k n e) → IsSaid (answered_by e) → opened_by e ≡ None → Settled n
     no_database e is said none o opened = absurd (let never : None ≡ Some o = sym none ∙ sym (ap (λ (m : Memory). m.opened) (is.memory said)) ∙ opened in cc (never))
@@ -295,8 +402,29 @@ module _ (host : Host) (has : IsOfTable host) (once : AreOnce host.drives.slices
     alike_end : (e : BootEnd) → Booted calls k n e → Booted also j m e → IsSaid (answered_by e) → Alike n.content m.content
     alike_end (end.Adopted o) one two said =
         let key = its_site o (adopted_held calls calm k n o one).key in
-        alike_behind host.drives host.site ok o key (IsAway (Spells host.drives) (one_text host.drives) host.site ok (replicas_of o.seats)) k.content j.content n.content m.content alike
-        (adopted_changed calls calm k n o one key) (adopted_changed also calm_too j m o two key) one.content two.content
+        let surveys = one_survey host.drives host.site ok once_there brought k.content j.content alike one.survey two.survey one.all two.all in
+        let newest : one.by.newest ≡ two.by.newest = some_same one.by.newest two.by.newest (sym one.by.drawn.hand.newest_is ∙ surveys.newest ∙ two.by.drawn.hand.newest_is) in
+        let replica : one.by.replica ≡ two.by.replica = some_same one.by.replica two.by.replica (sym one.by.drawn.hand.the.one_of ∙ (λ i. slice_get (surveys.replicas i) (newest i).replica) ∙ two.by.drawn.hand.the.one_of) in
+        let gone : one.by.gone ≡ two.by.gone = gone_is calls calm k n o one ∙ (λ i. gone_now (surveys.replicas i) (newest i) (replica i)) ∙ sym (gone_is also calm_too j m o two) in
+        let number : one.by.written.hand.number ≡ two.by.written.hand.number =
+        one.by.written.number_is ∙ one.by.drawn.number_is ∙ (λ i. greatest_number (replica i).head.master.identity (surveys.replicas i) + 1) ∙ sym two.by.drawn.number_is ∙ sym two.by.written.number_is in
+        let rs : List Replica = replicas_of (o.seats ++ one.by.gone) in
+        let both : IsChanged (Spells host.drives) (one_text host.drives) host.site ok (IsAway (Spells host.drives) (one_text host.drives) host.site ok rs) rs j.content m.content =
+        subst (λ (ss : List Seat). IsChanged (Spells host.drives) (one_text host.drives) host.site ok (IsAway (Spells host.drives) (one_text host.drives) host.site ok (replicas_of (o.seats ++ ss))) (replicas_of (o.seats ++ ss)) j.content m.content) (sym gone) (adopted_changed also calm_too j m o two key) in
+        alike_written (Spells host.drives) (one_text host.drives) host.site ok (IsAway (Spells host.drives) (one_text host.drives) host.site ok rs) rs k.content j.content n.content m.content alike (adopted_changed calls calm k n o one key) both
+        (λ r has. elim (in_both calls calm k n o one r has) [
+          | inl here ↦ (o.mark, o.table, one.content.shown r here, two.content.shown r here)
+          | inr left ↦ (
+            record { boot = one.by.written.hand.number; count = 0 },
+            one.by.newest.table,
+            one.by.written.wrote.shows.shown r left,
+            shown_too r (one.by.written.hand.number) (two.by.written.hand.number) (one.by.newest.table) (two.by.newest.table) (sym number) (ap (λ (x : Newest). x.table) (sym newest)) m.content (two.by.written.wrote.shows.shown r (subst (λ (ss : List Seat). Contains (replicas_of ss) r) gone left)),
+          )
+        ])
+      where
+        shown_too : (r : Replica) (a b : ℕ) (t u : Table) → b ≡ a → u ≡ t → (c : Image) → (slot : Slot) × IsNewestOf (Spells host.drives) (at_of r) (c r.line.at.drive.0) r.head slot (record { boot = b; count = 0 }) u → (slot : Slot) × IsNewestOf (Spells host.drives) (at_of r) (c r.line.at.drive.0) r.head slot (record { boot = a; count = 0 }) t
+        shown_too r a b t u numbers tables c shown = subst (λ (x : ℕ). (slot : Slot) × IsNewestOf (Spells host.drives) (at_of r) (c r.line.at.drive.0) r.head slot (record { boot = x; count = 0 }) t) numbers
+            (subst (λ (x : Table). (slot : Slot) × IsNewestOf (Spells host.drives) (at_of r) (c r.line.at.drive.0) r.head slot (record { boot = b; count = 0 }) x) tables shown)
     alike_end end.Empty one two said =
         alike_beside (Spells host.drives) (one_text host.drives) host.site ok k.content j.content n.content m.content (λ drive block within. one.beside drive block refl) (λ drive block within. two.beside drive block refl) alike
     alike_end (end.TwoDatabases x y) one two said = absurd said

@@ -35,7 +35,8 @@ use Rattle.mdv_run_law.proofs.Coming.{IsDone}
 use Rattle.mdv_run_law.proofs.Deeds.{change_has, deed_has, part_changes, part_contains, part_deeds}
 use Rattle.mdv_run_law.proofs.Elsewhere.{stands_elsewhere}
 use Rattle.mdv_run_law.proofs.Looked.{finds_one, finds_table}
-use Rattle.mdv_run_law.proofs.Made.{empty_is_log, run_told, told_acknowledged, told_shown}
+use Rattle.mdv_store_law.proofs.Logs.{empty_is_log}
+use Rattle.mdv_run_law.proofs.Made.{run_told, told_acknowledged, told_shown}
 use Rattle.mdv_run_law.proofs.Owning.{none_own, runs_own}
 
 -- what is among changes is among them in any order

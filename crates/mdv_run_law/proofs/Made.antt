@@ -27,9 +27,6 @@ use Rattle.mdv_run_law.specs.Standing.{AreOfRun, Goes, InWork, IsTold, ShowsMade
 use Rattle.mdv_run_law.proofs.Coming.{IsDone, come_told}
 use Rattle.mdv_run_law.proofs.Deeds.{deed_has}
 
-pub empty_is_log : (g : Geometry) → IsLog g empty_log
-empty_is_log g = record { rising = tt; made = λ k d lt. absurd (omega (arith, lt)); descended = tt; held = λ told is. absurd (cc (is)) }
-
 pub some_told : {X : Type 0} (xs : List X) (x : X) → Contains xs x → xs ≡ [] → ⊥
 some_told xs x has none = absurd (let in_none : Contains [] x = subst (λ (l : List _). Contains l x) none has in omega (arith, in_none.1))
 

@@ -311,15 +311,20 @@ module _ {T : Type 0} (Tells : List ℕ → T → Type 0) (one : (text : List �
     | inr left ↦ (other.to r left.0 (alike.there r left.1)).0
   ]
 
-  -- so images that were alike are, where they show one newest table there
-  pub alike_changed : (Away : Replica → Type 0) (rs : List Replica) (c d n m : Image) (mark : Mark) (table : T) → AreAlike c d → IsChanged Away rs c n → IsChanged Away rs d m → AreShown n rs mark table → AreShown m rs mark table → AreAlike n m
-  alike_changed Away rs c d n m mark table alike one other shown also = record {
+  -- one table is the newest one of each in both, under one mark
+  abbrev pub ShowTheSame : Image → Image → List Replica → Type 0
+  ShowTheSame n m rs = (r : Replica) → Contains rs r → (mark : Mark) × (table : T) × ((slot : Slot) × IsNewestOf Tells (place_at r) (n r.line.at.drive.0) r.head slot mark table) × ((slot : Slot) × IsNewestOf Tells (place_at r) (m r.line.at.drive.0) r.head slot mark table)
+
+  -- so images that were alike are, where they show the same newest tables there
+  pub alike_written : (Away : Replica → Type 0) (rs : List Replica) (c d n m : Image) → AreAlike c d → IsChanged Away rs c n → IsChanged Away rs d m → ShowTheSame n m rs → AreAlike n m
+  alike_written Away rs c d n m alike one other shown = record {
     there = there_changed Away rs c d n m alike one other;
     back = there_changed Away rs d c m n (alike_back c d alike) other one;
     tables = λ r slot mine t u is top a b. elim (one.from r is) [
       | inl own ↦
-          top_is_newest (place_at r) (n r.line.at.drive.0) r.head slot (shown r own).0 mine mark t table top a (shown r own).1
-          ∙ sym (top_is_newest (place_at r) (m r.line.at.drive.0) r.head slot (also r own).0 mine mark u table top b (also r own).1)
+          let both = shown r own in
+          top_is_newest (place_at r) (n r.line.at.drive.0) r.head slot both.2.0 mine both.0 t both.1 top a both.2.1
+          ∙ sym (top_is_newest (place_at r) (m r.line.at.drive.0) r.head slot both.3.0 mine both.0 u both.1 top b both.3.1)
       | inr left ↦
           let there = alike.there r left.1 in
           let moved = other.to r left.0 there in
@@ -328,6 +333,9 @@ module _ {T : Type 0} (Tells : List ℕ → T → Type 0) (one : (text : List �
           (shows_there m d r moved.0 (λ block from to. sym (moved.1 block from to)) slot mine u b)
     ];
   }
+
+  pub alike_changed : (Away : Replica → Type 0) (rs : List Replica) (c d n m : Image) (mark : Mark) (table : T) → AreAlike c d → IsChanged Away rs c n → IsChanged Away rs d m → AreShown n rs mark table → AreShown m rs mark table → AreAlike n m
+  alike_changed Away rs c d n m mark table alike one other shown also = alike_written Away rs c d n m alike one other (λ r has. (mark, table, shown r has, also r has))
 
   -- images that stay as they were on the site's slices
   in_site : (image : Image) (r : Replica) → IsHere image r → (block : ℕ) → r.line.at.start + 16 ≤ block → block < r.line.at.start + (16 + r.number * r.first.blocks) + r.first.blocks → site_area site r.line.at.drive.0 block ≡ true

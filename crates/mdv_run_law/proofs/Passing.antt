@@ -13,7 +13,11 @@ use Rattle.mdv_replica.specs.declared.replica.Slot.TheVariants.{First, Second}
 use Rattle.mdv_shelf.specs.Failing.{Outcomes}
 use Rattle.mdv_votes.specs.Family.{mark_below}
 use Rattle.mdv_survey.specs.declared.replica.Replica.{Replica}
-use Rattle.mdv_store.specs.Boot.{TakesBoth}
+use Rattle.mdv_record.specs.Text.{record_text}
+use Rattle.mdv_store.specs.Boot.{TakesAll, TakesBoth, TakesBy}
+use Rattle.mdv_table.specs.Plan.{settled}
+use Rattle.mdv_table.specs.declared.plan.Lists.TheVariants.{One, Two}
+use Rattle.mdv_table.specs.declared.table.Table.{Table}
 use Rattle.mdv_store.specs.Seats.{AreLeft, IsSpareOf, TakesSlot, active_of, drive_of, replicas_of}
 use Rattle.mdv_store.specs.declared.seats.Seat.{Seat}
 use Rattle.mdv_store.specs.Shares.{short_of, suffices}
@@ -66,6 +70,19 @@ slotted_is mark bytes r n takes = takes.2 ∙ ap (λ (s : Slot). record r { head
 
 pub rewritten_is : (number bytes : ℕ) (r n : Replica) → TakesBoth number bytes r n → n ≡ rewritten number bytes r
 rewritten_is number bytes r n takes = takes.2 ∙ ap (λ (s : Slot). record r { head = with_slot (record r.head { claim = number }) s (Open (record { boot = number; count = 0 }) bytes) }) (spare_is r.head takes.0 takes.1)
+
+-- and with all that a boot writes
+abbrev pub rewritten_by : Lists → ℕ → Table → Replica → Replica
+rewritten_by (One list) number table r = rewritten number (length (record_text table)) r
+rewritten_by (Two old new) number table r = slotted (record { boot = number; count = 1 }) (length (record_text (settled table))) (rewritten number (length (record_text table)) r)
+
+pub all_is : (number : ℕ) (table : Table) (r n : Replica) → TakesAll number table r n → n ≡ rewritten_by table.plan.lists number table r
+all_is number table r n takes = by table.plan.lists takes where
+  by : (l : Lists) → TakesBy l number table r n → n ≡ rewritten_by l number table r
+  by (One list) took = rewritten_is number (length (record_text table)) r n took
+  by (Two old new) (m, first, second) =
+      slotted_is (record { boot = number; count = 1 }) (length (record_text (settled table))) m n second
+      ∙ ap (slotted (record { boot = number; count = 1 }) (length (record_text (settled table)))) (rewritten_is number (length (record_text table)) r m first)
 
 -- the seats with what became of their replicas
 abbrev pub became : (Replica → Replica) → Option Replica → Option Replica

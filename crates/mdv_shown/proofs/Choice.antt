@@ -158,6 +158,9 @@ module _ {Table : Type 0} (Spells : List ℕ → Table → Type 0) (site : Site)
     none_open : newest ≡ None → (slot : Slot) (mark : Mark) (bytes : ℕ) → gate_of s.head slot ≡ Open mark bytes → ⊥
     none_open e slot mark bytes gate = (let t = open_shows slot mark bytes gate in shows_none e slot mark t.0 t.1)
 
+    pub shows_nothing : newest ≡ None → shows s.head ≡ false
+    shows_nothing e = (let shut = shut_both s.head (none_open e) in or_from (is_open s.head.first) (is_open s.head.second) (ap is_open shut.0) (ap is_open shut.1))
+
     -- the number of its newest table is the greatest that its gates have
     boots_same : boot_of w.family newest ≡ max (boot_of_gate s.head.first) (boot_of_gate s.head.second)
     boots_same = by newest refl
@@ -278,9 +281,7 @@ module _ {Table : Type 0} (Spells : List ℕ → Table → Type 0) (site : Site)
 
   pub none_shown : newest_of w.family w.places None (spots_seen seen) ≡ None ↔ ShowNone seen
   none_shown = (
-    λ e s has.
-        let shut = shut_both s.head (none_open s has (sym (shown_is w.places s) ∙ none_is_shown w.family w.places (spots_seen seen) (spot_seen s) e (in_spots seen s has))) in
-        or_from _ _ (ap is_open shut.0) (ap is_open shut.1),
+    λ e s has. shows_nothing s has (sym (shown_is w.places s) ∙ none_is_shown w.family w.places (spots_seen seen) (spot_seen s) e (in_spots seen s has)),
     λ none. by none (newest_of w.family w.places None (spots_seen seen)) refl,
   )
     where

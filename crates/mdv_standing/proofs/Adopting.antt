@@ -1,5 +1,5 @@
 -- What a boot's choice, claims and slots do to the worlds and the log of the database that it adopts.
-use Rattle.std.proofs.Common.{◌≡◌, inl, inr, ⊎_elim, ℕ, ◌+◌, ◌<◌, ◌^◌, ◌&&◌, Bool, true, List, [], ◌∷◌, ◌++◌, refl, sym, ◌∙◌, ap, subst, Contains, Option, None, Some, arith}
+use Rattle.std.proofs.Common.{◌≡◌, inl, inr, ⊎_elim, ℕ, ◌+◌, ◌<◌, ◌≤◌, ◌^◌, ◌&&◌, Bool, true, List, [], ◌∷◌, ◌++◌, length, refl, sym, ◌∙◌, ap, subst, Contains, Option, None, Some, arith}
 use Rattle.std.proofs.lemmas.Bool.{and_from, lt-ltb, or_right}
 use Rattle.std.specs.List.{filter_map}
 use Rattle.std.specs.Prelude.{nat_lt, reverse}
@@ -7,24 +7,24 @@ use Rattle.mdv_votes.specs.Family.{put_at, with_claim}
 use Rattle.mdv_votes.specs.Spots.{same_spot}
 use Rattle.mdv_votes.proofs.Growing.{claims_grow}
 use Rattle.mdv_quorum.specs.May.{is_fair, is_target, may, may_choose, may_claim, may_slot}
-use Rattle.mdv_quorum.specs.Standing.{Standing}
+use Rattle.mdv_quorum.specs.Standing.{Adopts, Standing}
 use Rattle.mdv_quorum.specs.World.{chosen, claimed, happens, rewritten, slotted}
 use Rattle.mdv_shown.specs.Steps.{claim_at}
 use Rattle.mdv_shown.specs.Worlds.{IsClaimable}
 use Rattle.mdv_shown.proofs.Choice.{chosen_voted, enough, greatest_is}
 use Rattle.mdv_shown.proofs.Worlds.{claim_ends, claim_goes}
 use Rattle.mdv_table.specs.Plan.{places_of}
-use Rattle.mdv_standing.specs.Below.{IsBelow, Identity, Mark, Geometry, SliceLine, Master, Head, Place, Slot, Seen, HaveRead, IsChosen, greatest_seen, spot_seen, spots_seen, Site, place_on, spot_on, Claims, MayClaim, Image, Core, Stage, Claiming, Claimed, Slotted, LeftClosed, Log, MayHappen, Version, WritesLog, log_after, Table, FamilyTable, Spot, SpotLists, covers, is_claimed, is_in, is_majority, is_named, is_none, is_read, knows_above, no_table, place_at, table_at, Shows}
-use Rattle.mdv_standing.specs.Listed.{HasPlace, HavePlaces, IsUnshown}
-use Rattle.mdv_standing.specs.Matching.{IsVersionAt, by_majority_of, is_set, lists_of, tables_of, version_at}
+use Rattle.mdv_standing.specs.Below.{IsBelow, Identity, Mark, Geometry, SliceLine, Master, Head, Place, Slot, Seen, HaveRead, IsChosen, greatest_seen, spot_seen, spots_seen, Site, place_on, spot_on, Claims, MayClaim, Image, Core, Stage, Claiming, Claimed, Slotted, LeftClosed, Log, MayHappen, Version, WritesLog, log_after, Table, FamilyTable, Spot, SpotLists, covers, is_claimed, is_in, is_majority, is_named, is_none, is_read, knows_above, last_list, no_table, place_at, table_at, Shows}
+use Rattle.mdv_standing.specs.Listed.{HasPlace, HavePlaces, IsShut}
+use Rattle.mdv_standing.specs.Matching.{HasStaleVote, IsVersionAt, by_majority_of, is_set, lists_of, spot_floor, tables_of, version_at}
 use Rattle.mdv_standing.specs.Worlds.{IsWorld, Turned, IsNoneOr, HasClaimed, MayBeClaimed, not_yet, claimed as has_claimed, IsTaking}
 use Rattle.mdv_standing.specs.Adopting.{IsFoundVersion, IsClaim, IsBeginning, again, drawn}
 use Rattle.mdv_standing.proofs.Versions.{version_has}
 use Rattle.mdv_standing.proofs.Reaching.{reached_more, standing}
 use Rattle.mdv_standing.proofs.Listed.{claim_still, own_found, past_reading, places_still}
 use Rattle.mdv_standing.proofs.Beginning.{LeadsBy, begun_taking, begun_world, none_in}
-use Rattle.mdv_standing.proofs.Voting.{all_that, below, boots, in_log, lists_are, none_stale, not_older, version_is}
-use Rattle.mdv_standing.proofs.Following.{Follows, floor_put, matches_follow, one_more, since_put}
+use Rattle.mdv_standing.proofs.Voting.{all_that, below, boots, in_log, is_fair_in, lists_are, not_older, version_is}
+use Rattle.mdv_standing.proofs.Following.{Follows, GoesOn, floor_put, matches_follow, one_more, since_put}
 
 module _ (Spells : List ℕ → Table → Type 0) (site : Site) (identity : Identity) (log : Log) (w : Core) (image : Image) (world : IsWorld Spells site identity log w image) where
   stands : Standing w
@@ -45,8 +45,8 @@ module _ (Spells : List ℕ → Table → Type 0) (site : Site) (identity : Iden
         }
 
     pub draws : (v : Version) → IsChosen seen s slot v.mark → Contains log.family v → covers (is_majority (is_in (spots_seen seen))) (lists_of site v) ≡ true
-        → MayBeClaimed v.mark (greatest_seen seen + 1) [] w
-    draws v c has most =
+        → (HasStaleVote site log seen v.mark → ⊥) → MayBeClaimed v.mark (greatest_seen seen + 1) [] w
+    draws v c has most fair =
         let voted = chosen_voted Spells site identity (tables_of log.family) w image seen r s slot v.mark c in
         let i = voted.number in
         let known = stands.family.shown _ i voted.newest in
@@ -63,6 +63,7 @@ module _ (Spells : List ℕ → Table → Type 0) (site : Site) (identity : Iden
           quorum = enough (is_in (spots_seen seen)) t (knows_above w.family w.places t)
               (subst (λ (l : SpotLists). covers (is_majority (is_in (spots_seen seen))) l ≡ true) (sym (lists_are site log w world.reached world.matches i v known has voted.marked)) most);
           drawn = ap (λ (n : ℕ). n + 1) (greatest_is Spells site identity (tables_of log.family) w image seen r);
+          fair = is_fair_in Spells site identity log w image world.matches seen r i v.mark known voted.marked fair;
         })
 
 -- Claims.
@@ -90,10 +91,11 @@ module _ (Spells : List ℕ → Table → Type 0) (site : Site) (identity : Iden
     set = refl;
     family = refl;
     changes = refl;
-    floors = λ q. floor_put w.places p q (with_claim n) (λ x. refl) (λ x. refl);
+    floors = λ q. subst (λ (f : ℕ). f ≤ spot_floor site log q) (sym (floor_put w.places p q (with_claim n) (λ x. refl) (λ x. refl))) (c.world.matches.reused q);
     deleted = refl;
     firm = λ f e. (f, e, omega arith);
     dropped = λ q j e. c.world.matches.dropped q j (sym (since_put w.places p q (with_claim n) (λ x. refl) (λ x. refl)) ∙ e);
+    steady = c.world.matches.steady;
   }
 
   pub claim_is : IsClaimed (happens w (Claimed p))
@@ -109,7 +111,7 @@ module _ (Spells : List ℕ → Table → Type 0) (site : Site) (identity : Iden
         (and_from reads adopts a.quorum
         (and_from (is_target w (table_at w.family a.table).lists p) (nat_lt next.mark.boot (2 ^ 63)) (target (table_at w.family a.table).lists lists)
         (lt-ltb next.mark.boot (2 ^ 63) (subst (λ (n : ℕ). n < 2 ^ 63) (sym a.drawn) c.small))))
-        (none_stale w a.table a.read c.world.matches.reused) in
+        a.fair in
         subst IsClaimed (sym same) (record {
           claimable = record {
             fits = subst (λ (g : Stage). may_claim w p g ≡ true) (sym a.stage) (subst (λ (o : Option ℕ). may_choose w p a.read o ≡ true) (sym a.voted) choose);
@@ -156,11 +158,16 @@ module _ (Spells : List ℕ → Table → Type 0) (site : Site) (identity : Iden
   ]
 
   -- the boot read a place that shows a table, or has claimed
-  past : IsUnshown w → ⊥
-  past none = elim c.known [
+  past : IsShut w → ⊥
+  past (inl none) = elim c.known [
     | not_yet empty a ↦ none.none a.place a.table a.shown
-    | has_claimed h ↦ past_reading w (Claiming h.table h.next h.claimed) h.stage (λ read same. cc (same)) none
+    | has_claimed h ↦ past_reading site w c.world.reached (Claiming h.table h.next h.claimed) h.stage (λ read same. cc (same)) (inl none)
   ]
+  past (inr (p', gone)) =
+      let then = happens w (Claimed p) in
+      let h = claim_is.known in
+      past_reading site then (reached_more site w (Claimed p ∷ []) c.world.reached (claim_is.claimable.fits, tt)) (Claiming h.table h.next h.claimed) h.stage (λ read same. cc (same))
+      (inr (p', claim_is.follows.deleted ∙ gone))
 
   listed : (new : Image) → MayClaim (place_on line first.blocks first.count k) number old new → HavePlaces Spells site identity log new
   listed new change =
@@ -254,8 +261,18 @@ module _ (Spells : List ℕ → Table → Type 0) (site : Site) (identity : Iden
         lists = lists;
         some = ap (λ (l : SpotLists). is_none l.first) chose.lists ∙ was.some;
         changes = ap (λ (x : Version). x.changes) (sym is_version) ∙ was.changes ∙ ap (λ (l : List ℕ). reverse (filter_map b.world.matches.book l)) (sym (boots site log w b.world.reached b.world.matches v number ok chose).1);
+        lie = λ place listed. was.lie place (subst (λ (x : Version). Contains (places_of x.table.plan.lists) place) (sym is_version) listed);
         numbered = λ n has. was.numbered n (subst (λ (l : List ℕ). Contains l n) (boots site log w b.world.reached b.world.matches v number ok chose).1 has);
       }
+
+  adopts : Adopts w chose.table next.mark.boot (length w.family)
+  adopts = (boots site log w b.world.reached b.world.matches v number ok chose).0
+
+  -- it isn't older than the firm one
+  goes_on : GoesOn site log w (again number v)
+  goes_on f firm unwritten =
+      let up = adopts.above f firm ((standing site w b.world.reached).descent.known f firm) in
+      ap (λ (x : Version). last_list (lists_of site x)) (sym is_version) ∙ b.world.matches.steady f chose.table firm up chose.known unwritten
 
   leads : LeadsBy w next (Some chose.table) p
   leads = ap (slotted w p LeftClosed) chose.stage
@@ -276,16 +293,16 @@ module _ (Spells : List ℕ → Table → Type 0) (site : Site) (identity : Iden
   kind = chose.kind ∙ ap (λ (s : Bool). s && is_none next.lists.mediators) b.world.matches.kind ∙ ap (λ (l : SpotLists). is_set site.key && is_none l.mediators) lists
 
   have : HavePlaces Spells site identity log image
-  have = ⊎_elim (λ places. places) (λ none. absurd (past_reading w (Claiming chose.table chose.next chose.claimed) chose.stage (λ read same. cc (same)) none)) b.world.listed
+  have = ⊎_elim (λ places. places) (λ none. absurd (past_reading site w b.world.reached (Claiming chose.table chose.next chose.claimed) chose.stage (λ read same. cc (same)) none)) b.world.listed
 
   its : (place : Place) → Contains (places_of v.table.plan.lists) place → HasPlace Spells site identity image place
-  its place listed = have v place b.one_of listed
+  its place listed = have v place b.one_of (all_that (λ x. x.is_written ≡ true → IsBelow v.mark x.mark → ⊥) log.family (not_older site log w b.world.reached b.world.matches v number ok chose)) listed
 
   pub begins : Turned Spells site identity written w image (λ es. es ≡ Slotted p LeftClosed ∷ []) (IsTaking (by_majority_of site v) (drawn number) [])
   begins = record {
     events = Slotted p LeftClosed ∷ [];
     are = refl;
     may = (fits, tt);
-    world = begun_world Spells site identity log w image b.world next (again number v) next_is refl p (Some chose.table) leads fits have its;
-    known = begun_taking Spells site identity log w image b.world next (again number v) next_is refl p (Some chose.table) leads fits (by_majority_of site v) kind;
+    world = begun_world Spells site identity log w image b.world next (again number v) next_is refl goes_on adopts.there p (Some chose.table) leads fits have its;
+    known = begun_taking Spells site identity log w image b.world next (again number v) next_is refl goes_on adopts.there p (Some chose.table) leads fits (by_majority_of site v) kind;
   }

@@ -1,18 +1,19 @@
 -- A table begins to be written: it joins the family of a world and the log.
-use Rattle.std.proofs.Common.{◌≡◌, inl, ℕ, ◌+◌, ◌-◌, ◌<◌, Bool, true, false, List, [], ◌∷◌, length, sym, ◌∙◌, ap, subst, Contains, Option, arith}
+use Rattle.std.proofs.Common.{◌≡◌, inl, ℕ, ◌+◌, ◌-◌, ◌<◌, Bool, true, false, List, [], ◌∷◌, length, sym, ◌∙◌, ap, subst, Contains, None, Option, arith}
 use Rattle.std.proofs.lemmas.Bool.{false≢true}
 use Rattle.mdv_quorum.specs.May.{may}
+use Rattle.mdv_quorum.specs.Standing.{ArePlaced}
 use Rattle.mdv_quorum.specs.World.{happens, settled, with_table}
 use Rattle.mdv_shown.proofs.Worlds.{begun_shows}
 use Rattle.mdv_table.specs.Plan.{places_of}
-use Rattle.mdv_standing.specs.Below.{Core, FamilyTable, Identity, Image, LeftClosed, Log, Place, Shows, Site, Slotted, Spot, Table, Version, Writing, is_in, is_written, last_table, table_at}
+use Rattle.mdv_standing.specs.Below.{Core, FamilyTable, Identity, Image, LeftClosed, Lives, Log, Place, Shows, Site, Slotted, Spot, Table, Version, Writing, is_in, is_written, last_list, last_table, table_at}
 use Rattle.mdv_standing.specs.Listed.{HasPlace, HavePlaces}
 use Rattle.mdv_standing.specs.Matching.{IsVersionAt, Matches, tables_of}
 use Rattle.mdv_standing.specs.Worlds.{IsTaking, IsWorld}
 use Rattle.mdv_standing.proofs.Listed.{places_more}
 use Rattle.mdv_standing.proofs.Versions.{version_older}
 use Rattle.mdv_standing.proofs.Reaching.{reached_more, standing, tables_agree}
-use Rattle.mdv_standing.proofs.Following.{Follows, longer_family, matches_follow, matches_longer, settled_family, settled_follows, settled_stage, table_newest}
+use Rattle.mdv_standing.proofs.Following.{Follows, GoesOn, longer_family, matches_follow, matches_longer, settled_family, settled_follows, settled_stage, table_newest, table_older}
 
 pub none_in : (p : Spot) → is_in [] p ≡ true → ⊥
 none_in p e = false≢true e
@@ -29,17 +30,18 @@ abbrev pub LeadsBy : Core → FamilyTable → Option ℕ → Spot → Type 0
 LeadsBy w next boot p = happens w (Slotted p LeftClosed) ≡ first_write (with_begun w next boot)
 
 module _ (Spells : List ℕ → Table → Type 0) (site : Site) (identity : Identity) (log : Log) (w : Core) (image : Image) (world : IsWorld Spells site identity log w image) (next : FamilyTable) (v : Version)
-    (is : IsVersionAt site world.matches.book w.changes next v) (unanswered : v.is_written ≡ false) (p : Spot) (boot : Option ℕ) (leads : LeadsBy w next boot p) (fits : may w (Slotted p LeftClosed) ≡ true) where
+    (is : IsVersionAt site world.matches.book w.changes next v) (unanswered : v.is_written ≡ false) (goes_on : GoesOn site log w v) (there : w.deleted ≡ None) (p : Spot) (boot : Option ℕ) (leads : LeadsBy w next boot p)
+    (fits : may w (Slotted p LeftClosed) ≡ true) where
   abbrev written : Log
-  written = record log { family = v ∷ log.family }
+  written = record log { family = v ∷ log.family; fate = Lives }
 
   abbrev begun : Core
   begun = with_begun w next boot
 
   begun_matches : Matches site written begun
   begun_matches =
-      let m = matches_longer site log w next v world.matches is unanswered in
-      record { kind = m.kind; book = m.book; as_many = m.as_many; each = m.each; answered = m.answered; dropped = m.dropped; reused = m.reused; there = m.there }
+      let m = matches_longer site log w next v world.matches is unanswered goes_on there in
+      record { kind = m.kind; book = m.book; as_many = m.as_many; each = m.each; answered = m.answered; dropped = m.dropped; steady = m.steady; reused = m.reused; there = m.there; gone = m.gone }
 
   begun_long : length begun.family ≡ length w.family + 1
   begun_long = longer_family site log w next v world.matches is unanswered
@@ -47,10 +49,16 @@ module _ (Spells : List ℕ → Table → Type 0) (site : Site) (identity : Iden
   last_is : last_table begun ≡ next
   last_is = table_newest site log w next v world.matches is unanswered (length begun.family - 1) (omega (arith, begun_long))
 
+  begun_placed : ArePlaced begun
+  begun_placed q e =
+      let s = standing site w world.reached in
+      let at = s.placed q e in
+      (at.0, at.1, ap (λ (t : FamilyTable). is_in (last_list t.lists) q) (table_older site log w next v world.matches is unanswered at.0 (s.descent.known at.0 at.1)) ∙ at.2)
+
   begun_follows : Follows site written begun (first_write begun)
   begun_follows =
-      settled_follows site written begun (is_written (last_table begun) (is_in [])) begun_matches (omega (arith, begun_long))
-      (λ f e. omega (arith, begun_long, (standing site w world.reached).descent.known f e))
+      settled_follows site written begun begun_matches (omega (arith, begun_long))
+      (λ f e. omega (arith, begun_long, (standing site w world.reached).descent.known f e)) begun_placed (is_written (last_table begun) (is_in []))
 
   begun_image : Shows Spells site identity (tables_of written.family) (happens w (Slotted p LeftClosed)) image
   begun_image =

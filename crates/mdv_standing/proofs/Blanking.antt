@@ -16,11 +16,11 @@ use Rattle.mdv_shown.proofs.Elsewhere.{found_kept, places_step}
 use Rattle.mdv_shown.proofs.Formatting.{law_blank}
 use Rattle.mdv_shown.proofs.Made.{first_before, later_before}
 use Rattle.mdv_shown.proofs.Sites.{lines_apart, site_is}
-use Rattle.mdv_standing.specs.Below.{Everywhere, FirstIs, Geometry, HasFirst, Head, Identity, Image, IsFormat, IsImage, IsSite, Key, Leaves, Master, MayFormat, MayWipe, PlaceAt, Reads, Site, SliceLine, Table, Tale, after_all, master_on, place_on}
+use Rattle.mdv_standing.specs.Below.{Lives, Everywhere, FirstIs, Geometry, HasFirst, Head, Identity, Image, IsFormat, IsImage, IsSite, Key, Leaves, Master, MayFormat, MayWipe, PlaceAt, Reads, Site, SliceLine, Table, Tale, after_all, master_on, place_on}
 use Rattle.mdv_standing.specs.Blanking.{AreBlank, HasNoFirst, IsFormatOn, MayClear}
 use Rattle.mdv_standing.specs.Databases.{Database}
 use Rattle.mdv_standing.specs.Holding.{AllStand, AreKnown, HasWorld}
-use Rattle.mdv_standing.specs.Laws.{HasNone, ShowsNoTable}
+use Rattle.mdv_standing.specs.Laws.{HasNone}
 use Rattle.mdv_standing.specs.Matching.{tables_of}
 use Rattle.mdv_standing.specs.Rest.{HoldsRest, IsRest, MayBeTaken}
 use Rattle.mdv_standing.proofs.Holding.{joined}
@@ -116,7 +116,10 @@ module _ (Spells : List ℕ → Table → Type 0) (g : Geometry) (old new : Imag
     none_before key identity none l j m h own = none l j m h (record { found = before key l j m h own.found; of_identity = own.of_identity })
 
     pub taken_before : (line : SliceLine) (d : Database) → MayBeTaken Spells g line old d → MayBeTaken Spells g line new d
-    taken_before line d taken = ⊎_elim (λ out. inl out) (λ (none : ShowsNoTable Spells (site_of g d.key) d.identity old). inr (λ l j m h own. none l j m h (record { found = before d.key l j m h own.found; of_identity = own.of_identity }))) taken
+    taken_before line d taken = elim taken [
+      | inl out ↦ inl out
+      | inr (lives, none) ↦ inr (lives, λ l j m h own. none l j m h (record { found = before d.key l j m h own.found; of_identity = own.of_identity }))
+    ]
 
   module _ (sound : IsSound g) (key : Key) (line : SliceLine) (has : Contains (site_of g key).lines line) (outside : SameOutside (line_area line) old new) where
     -- what is done on a slice leaves what is found on the others
@@ -192,8 +195,8 @@ module _ (read : List ℕ → Option Table) (g : Geometry) (sound : IsSound g) (
             | inl looks ↦ absurd (out looks)
             | inr apart ↦ (w.0, world_apart Spells g d.key d.identity d.log w.0 old new line apart (wipe_within line 0 blocks count old new within change) w.1)
           ]
-          | inr none ↦
-              let to = first_formats_take Spells g d.key d.identity d.log w.0 old new key identity line sound (λ at same. is.1 (sym same)) w.1 none blocks 1 number before (single (site_of g key) identity line blocks count number f old) located
+          | inr (lives, none) ↦
+              let to = first_formats_take Spells g d.key d.identity d.log w.0 old new key identity line sound (λ at same. is.1 (sym same)) w.1 lives none blocks 1 number before (single (site_of g key) identity line blocks count number f old) located
               (as_format line blocks count number (master_on (site_of g key) identity line blocks 1 0) old new change) in
               (after_all w.0 to.events, to.world)
         ])
@@ -229,9 +232,9 @@ module _ (read : List ℕ → Option Table) (g : Geometry) (all : List Database)
     ))
 
 -- meanwhile all stand
-pub clear_stands : (read : List ℕ → Option Table) (g : Geometry) (all : List Database) (d : Database) (lines : List SliceLine) (t : Tale) → Contains all d → d.log.family ≡ [] → MayClear (Reads read) g all d.key d.identity lines t → AllStand (Reads read) g all t
-clear_stands read g all d lines t has empty clear =
-    joined (Reads read) g all t d clear.rest has (λ image is. (_, world_none (Reads read) (site_of g d.key) d.identity d.log empty image (clear.none image is)))
+pub clear_stands : (read : List ℕ → Option Table) (g : Geometry) (all : List Database) (d : Database) (lines : List SliceLine) (t : Tale) → Contains all d → d.log.family ≡ [] → d.log.fate ≡ Lives → MayClear (Reads read) g all d.key d.identity lines t → AllStand (Reads read) g all t
+clear_stands read g all d lines t has empty lives clear =
+    joined (Reads read) g all t d clear.rest has (λ image is. (_, world_none (Reads read) (site_of g d.key) d.identity d.log empty lives image (clear.none image is)))
 
 -- A place is formatted for a database: what is found of the others was found before.
 module _ (Spells : List ℕ → Table → Type 0) (g : Geometry) (sound : IsSound g) (key : Key) (identity : Identity) (line : SliceLine) (old new : Image) where
@@ -246,12 +249,16 @@ module _ (Spells : List ℕ → Table → Type 0) (g : Geometry) (sound : IsSoun
   ]
 
   taken_made : ((ask : Key) → AreFoundOrMade Spells (site_of g ask) key identity old new) → (other : SliceLine) (d : Database) → (d.identity ≡ identity → ⊥) → MayBeTaken Spells g other old d → MayBeTaken Spells g other new d
-  taken_made before other d another taken =
-      ⊎_elim (λ out. inl out)
-      (λ (none : ShowsNoTable Spells (site_of g d.key) d.identity old). inr (λ l j m h own. elim (before d.key l j m h own.found) [
+  taken_made before other d another taken = elim taken [
+    | inl out ↦ inl out
+    | inr (lives, none) ↦ inr (
+      lives,
+      λ l j m h own. elim (before d.key l j m h own.found) [
         | inl was ↦ none l j m h (record { found = was; of_identity = own.of_identity })
         | inr made ↦ absurd (another (sym own.of_identity ∙ made.1))
-      ])) taken
+      ],
+    )
+  ]
 
   pub first_taken : (blocks count number : ℕ) (before : Option Master) → IsFormat (site_of g key) identity old line blocks count 0 number → FirstIs (site_of g key) old line before
       → MayFormat (place_on line blocks count 0) (master_on (site_of g key) identity line blocks count 0) number old new → (other : SliceLine) (d : Database) → (d.identity ≡ identity → ⊥) → MayBeTaken Spells g other old d → MayBeTaken Spells g other new d

@@ -2,27 +2,33 @@
 use Rattle.std.proofs.Common.{◌≡◌, ◌⊎◌, ⊎_elim, suc, inl, inr, ℕ, ◌+◌, ◌<◌, ◌^◌, ◌==◌, ◌&&◌, ◌||◌, Bool, true, false, List, [], ◌∷◌, ◌++◌, refl, sym, ◌∙◌, ap, subst, map, cond, All, Contains, Option, None, Some, append-nil, arith}
 use Rattle.std.proofs.lemmas.Bool.{and_from, cases_lt, cond-false, cond-true, eq-eqb, false_from_ne_true, false≢true, eqb-true, lt-ltb, or_left, or_right}
 use Rattle.std.proofs.lemmas.List.{reverse-append}
-use Rattle.std.proofs.lemmas.List.Elements.{All-contains, Contains-get_or, Contains-push_cases, filter_map-append}
-use Rattle.std.specs.Prelude.{nat_lt, not, reverse}
+use Rattle.std.proofs.lemmas.List.Elements.{All-contains, All-filter, Contains-append_cases, Contains-get_or, Contains-push_cases, filter_map-append}
+use Rattle.std.specs.Prelude.{filter, nat_lt, not, reverse}
 use Rattle.std.specs.List.{cons_option, filter_map, list_all}
 use Rattle.mdv_votes.specs.Spots.{same_spot, same_spots}
 use Rattle.mdv_votes.proofs.Meeting.{same_self}
-use Rattle.mdv_quorum.specs.May.{all_second, is_distinct, is_lists, is_one_more, is_place, may, may_follow, may_list, moves_on, same_second}
+use Rattle.mdv_quorum.specs.May.{IsReady, all_second, is_distinct, is_lists, is_one_more, is_place, may, may_follow, may_list, moves_on, same_second}
+use Rattle.mdv_quorum.specs.Standing.{BootsAt, IsLastFirm}
 use Rattle.mdv_quorum.specs.World.{changed, happens, lists_at}
 use Rattle.mdv_shown.proofs.Slots.{never_below}
 use Rattle.mdv_store_law.specs.Log.{IsMade, with_asked}
-use Rattle.mdv_table.specs.Plan.{places_of}
+use Rattle.mdv_table.specs.Plan.{beside, places_of}
 use Rattle.mdv_table.proofs.Settled.{all_of_last}
-use Rattle.mdv_standing.specs.Below.{Change, Core, FamilyTable, Geometry, Identity, Image, IsBelow, LeftClosed, Lists, Log, Mark, MayHappen, NextLists, One, Two, Place, Ready, Site, Slotted, Spot, SpotLists, Stage, Table, Version, WritesLog, is_named, is_none, last_number, last_of, last_table, log_after, place_at, slice_at, table_at}
+use Rattle.mdv_standing.specs.Below.{Change, Core, FamilyTable, Geometry, Identity, Image, IsBelow, LeftClosed, Lists, Log, Mark, MayHappen, NextLists, One, Two, Place, Ready, Site, Slotted, Spot, SpotLists, Stage, Table, Version, WritesLog, is_named, is_none, last_list, last_number, last_of, last_table, log_after, place_at, slice_at, table_at}
 use Rattle.mdv_standing.specs.Listed.{HasPlace, HavePlaces}
 use Rattle.mdv_standing.specs.Matching.{IsVersionAt, Matches, Reached, lists_of, spot_in, spots_in, spots_of, version_at}
 use Rattle.mdv_standing.specs.Worlds.{IsTaking, IsWorld, Turned}
 use Rattle.mdv_standing.specs.Committing.{IsCommit, MayChangeLists, MayFollow, next_mark}
 use Rattle.mdv_standing.proofs.Reaching.{reached_more, standing}
 use Rattle.mdv_standing.proofs.Voting.{all_that, numbered}
-use Rattle.mdv_standing.proofs.Listed.{past_reading}
+use Rattle.mdv_standing.proofs.Listed.{has_lies, past_reading}
+use Rattle.mdv_standing.proofs.Following.{GoesOn, some_is}
 use Rattle.mdv_standing.proofs.Beginning.{LeadsBy, begun_taking, begun_world}
 use Rattle.mdv_standing.proofs.Taking.{last_lists, last_version, some_table}
+
+-- what passes a test was there
+pub of_filter : (test : Place → Bool) (list : List Place) (place : Place) → Contains (filter test list) place → Contains list place
+of_filter test list place has = All-contains (Contains list) (filter test list) place (All-filter test (Contains list) list (λ k d lt. Contains-get_or list k d lt)) has
 
 -- a plan's changes, where the book agrees on its numbers
 kept_same : (book other : ℕ → Option Change) (plan : List ℕ) → ((n : ℕ) → Contains plan n → other n ≡ book n) → filter_map other plan ≡ filter_map book plan
@@ -49,11 +55,11 @@ module _ (site : Site) where
   same_list [] = refl
   same_list (p ∷ ps) = and_from (same_spot p p) (same_spots ps ps) (same_self p) (same_list ps)
 
-  abbrev MayListNext : Bool → SpotLists → SpotLists → Type 0
-  MayListNext set l next = (is_lists set next ≡ true) × (may_follow l next ≡ true) × (same_spots l.mediators next.mediators ≡ true)
+  abbrev MayListAsNext : Bool → SpotLists → SpotLists → Type 0
+  MayListAsNext set l next = (is_lists set next ≡ true) × (may_follow l next ≡ true) × (same_spots l.mediators next.mediators ≡ true)
 
   abbrev MayListAgain : Bool → SpotLists → Type 0
-  MayListAgain set l = MayListNext set l l
+  MayListAgain set l = MayListAsNext set l l
 
   list_again : (set : Bool) (places : List Place) (second : Option (List Spot)) → all_second second ≡ true → same_second second second ≡ true → MayListAgain set (record { first = spots_in site places; second = second; mediators = [] })
   list_again set places second all same =
@@ -71,7 +77,7 @@ module _ (site : Site) where
   may_list_again set (Two old new) = list_again set old (Some (spots_in site new)) (all_places new) (same_list (spots_in site new))
 
   -- the second list comes in the place of both
-  may_list_last : (set : Bool) (lists : Lists) → MayListNext set (spots_of site lists) (spots_of site (One (last_of lists)))
+  may_list_last : (set : Bool) (lists : Lists) → MayListAsNext set (spots_of site lists) (spots_of site (One (last_of lists)))
   may_list_last set (One places) = may_list_again set (One places)
   may_list_last set (Two old new) =
       let l : SpotLists = spots_of site (Two old new) in
@@ -83,9 +89,18 @@ module _ (site : Site) where
         refl,
       )
 
-  pub may_list_next : (set : Bool) (was next : Lists) → MayFollow was next → MayListNext set (spots_of site was) (spots_of site next)
-  may_list_next set was next (inl same) = subst (λ (l : Lists). MayListNext set (spots_of site was) (spots_of site l)) (sym same) (may_list_again set was)
-  may_list_next set was next (inr over) = subst (λ (l : Lists). MayListNext set (spots_of site was) (spots_of site l)) (sym over) (may_list_last set was)
+  -- a second list comes beside the one that was
+  pub may_second : (old new : List Place) → may_follow (spots_of site (One old)) (spots_of site (Two old new)) ≡ true
+  may_second old new =
+      let l : SpotLists = spots_of site (One old) in
+      let next : SpotLists = spots_of site (Two old new) in
+      or_right ((same_spots l.first next.first && same_second l.second next.second) && (is_one_more l.mediators next.mediators || is_one_more next.mediators l.mediators))
+      (moves_on l.first l.second next.first next.second && same_spots l.mediators next.mediators)
+      (and_from (same_spots (spots_in site old) (spots_in site old)) (same_spots [] []) (same_list (spots_in site old)) refl)
+
+  pub may_list_next : (set : Bool) (was next : Lists) → MayFollow was next → MayListAsNext set (spots_of site was) (spots_of site next)
+  may_list_next set was next (inl same) = subst (λ (l : Lists). MayListAsNext set (spots_of site was) (spots_of site l)) (sym same) (may_list_again set was)
+  may_list_next set was next (inr over) = subst (λ (l : Lists). MayListAsNext set (spots_of site was) (spots_of site l)) (sym over) (may_list_last set was)
 
   -- lists that name a place aren't empty
   named_some : (places : List Place) (p : Spot) → is_named (spots_of site (One places)) p ≡ true → is_none (spots_of site (One places)).first ≡ false
@@ -101,6 +116,19 @@ module _ (site : Site) where
   next_some was next p (inr over) some named =
       ap (λ (l : Lists). is_none (spots_of site l).first) over ∙ named_some (last_of was) p (ap (λ (l : Lists). is_named (spots_of site l) p) (sym over) ∙ named)
 
+  -- the last list stays
+  -- the lists of a second one are those that were, first
+  second_next : (set : Bool) (old new : List Place) → MayListAsNext set (spots_of site (One old)) (spots_of site (Two old new))
+  second_next set old new = ((may_list_again set (Two old new)).0, may_second old new, refl)
+
+  next_last : (was next : Lists) → MayFollow was next → last_list (spots_of site next) ≡ last_list (spots_of site was)
+  next_last was next (inl same) = ap (λ (l : Lists). last_list (spots_of site l)) same
+  next_last was next (inr over) = ap (λ (l : Lists). last_list (spots_of site l)) over ∙ last was
+    where
+      last : (l : Lists) → last_list (spots_of site (One (last_of l))) ≡ last_list (spots_of site l)
+      last (One places) = refl
+      last (Two old new) = refl
+
   -- their places are among those that were listed
   next_listed : (was next : Lists) (place : Place) → MayFollow was next → Contains (places_of next) place → Contains (places_of was) place
   next_listed was next place (inl same) listed = subst (λ (l : Lists). Contains (places_of l) place) same listed
@@ -114,10 +142,7 @@ module _ (Spells : List ℕ → Table → Type 0) (site : Site) (identity : Iden
   m = b.world.matches
 
   have : HavePlaces Spells site identity log image
-  have = ⊎_elim (λ places. places) (λ none. absurd (past_reading w (Ready None) b.known.stage (λ read same. cc (same)) none)) b.world.listed
-
-  its : (place : Place) → Contains (places_of table.plan.lists) place → HasPlace Spells site identity image place
-  its place listed = have v place (subst (λ (l : List Version). Contains l v) (sym b.newest) (0, omega arith, refl)) (next_listed site v.table.plan.lists table.plan.lists place b.follows listed)
+  have = ⊎_elim (λ places. places) (λ none. absurd (past_reading site w b.world.reached (Ready b.known.in_hand) b.known.stage (λ read same. cc (same)) none)) b.world.listed
 
   abbrev lists : SpotLists
   lists = spots_of site table.plan.lists
@@ -154,6 +179,33 @@ module _ (Spells : List ℕ → Table → Type 0) (site : Site) (identity : Iden
   none_newer x has written up = elim (at_most x has) [
     | inl same ↦ (let itself = subst (λ (k : Mark). IsBelow v.mark k) same up in never_below v.mark v.mark itself itself)
     | inr less ↦ never_below x.mark v.mark less up
+  ]
+
+  its : (place : Place) → Contains (places_of table.plan.lists) place → HasPlace Spells site identity image place
+  its place listed = elim b.follows [
+    | inl follows ↦ old (next_listed site v.table.plan.lists table.plan.lists place follows listed)
+    | inr (written, second) ↦ elim (Contains-append_cases second.old (beside second.old second.new) place (subst (λ (l : Lists). Contains (places_of l) place) second.two listed)) [
+      | inl before ↦ old (subst (λ (l : Lists). Contains (places_of l) place) (sym second.one) before)
+      | inr comes ↦ second.have place (of_filter _ second.new place comes)
+    ]
+  ]
+    where
+      old : Contains (places_of v.table.plan.lists) place → HasPlace Spells site identity image place
+      old was = have v place (subst (λ (l : List Version). Contains l v) (sym b.newest) (0, omega arith, refl)) (all_that (λ x. x.is_written ≡ true → IsBelow v.mark x.mark → ⊥) log.family none_newer) was
+
+  -- what the votes ask of the next lists
+  may_next : (set : Bool) → MayListAsNext site set (lists_of site v) lists
+  may_next set = elim b.follows [
+    | inl follows ↦ may_list_next site set v.table.plan.lists table.plan.lists follows
+    | inr (written, second) ↦
+        subst (λ (l : Lists). MayListAsNext site set (lists_of site v) (spots_of site l)) (sym second.two)
+        (subst (λ (l : Lists). MayListAsNext site set (spots_of site l) (spots_of site (Two second.old second.new))) (sym second.one) (second_next site set second.old second.new))
+  ]
+
+  some_next : is_none (lists_of site v).first ≡ false → is_none lists.first ≡ false
+  some_next some = elim b.follows [
+    | inl follows ↦ next_some site v.table.plan.lists table.plan.lists p follows some b.named
+    | inr (written, second) ↦ ap (λ (l : Lists). is_none (spots_of site l).first) second.two ∙ ap (λ (l : Lists). is_none (spots_of site l).first) (sym second.one) ∙ some
   ]
 
   pub may_commit_it : (g : Geometry) (asked : Option Change) → IsMade g asked v.table table → MayChangeLists v table → MayHappen g log (WritesLog (next_mark v) asked v.changes table)
@@ -214,6 +266,7 @@ module _ (Spells : List ℕ → Table → Type 0) (site : Site) (identity : Iden
       some = is.some;
       changes = is.changes ∙ ap reverse (sym (kept_same m.book book t.plan (λ n has. book_old n (is.numbered n has))));
       numbered = λ n has. omega (arith, is.numbered n has);
+      lie = is.lie;
     }
 
     listed_matches : Matches site log listed
@@ -224,8 +277,10 @@ module _ (Spells : List ℕ → Table → Type 0) (site : Site) (identity : Iden
       each = λ i known. booked (table_at w.family i) (version_at log.family i) (m.each i known);
       answered = m.answered;
       dropped = m.dropped;
+      steady = m.steady;
       reused = m.reused;
       there = m.there;
+      gone = m.gone;
     }
 
     last_was : IsVersionAt site m.book w.changes (last_table w) v
@@ -235,7 +290,7 @@ module _ (Spells : List ℕ → Table → Type 0) (site : Site) (identity : Iden
     next_is = record {
       mark = ap (λ (k : Mark). record { boot = k.boot; count = k.count + 1 }) last_mark;
       lists = refl;
-      some = next_some site v.table.plan.lists table.plan.lists p b.follows (ap (λ (l : SpotLists). is_none l.first) (sym last_was.lists) ∙ last_was.some) b.named;
+      some = some_next (ap (λ (l : SpotLists). is_none l.first) (sym last_was.lists) ∙ last_was.some);
       changes =
           ap (with_asked asked) (last_was.changes ∙ ap reverse (sym (kept_same m.book book (last_table w).plan (λ n has. book_old n (last_was.numbered n has)))))
           ∙ sym (longer_kept (filter_map book (last_table w).plan))
@@ -245,11 +300,12 @@ module _ (Spells : List ℕ → Table → Type 0) (site : Site) (identity : Iden
         | inl old ↦ omega (arith, last_was.numbered n old)
         | inr new ↦ omega (arith, new)
       ];
+      lie = λ place listed. has_lies Spells site identity image place (its place listed);
     }
 
     lists_fit : may w (NextLists lists) ≡ true
     lists_fit =
-        let again = may_list_next site w.set v.table.plan.lists table.plan.lists b.follows in
+        let again = may_next w.set in
         subst (λ (g : Stage). may_list w lists g ≡ true) (sym b.known.stage)
         (and_from (is_lists w.set lists) (may_follow (last_table w).lists lists && nat_lt ((last_table w).mark.count + 1) (2 ^ 63)) again.0
         (and_from (may_follow (last_table w).lists lists) (nat_lt ((last_table w).mark.count + 1) (2 ^ 63))
@@ -269,6 +325,20 @@ module _ (Spells : List ℕ → Table → Type 0) (site : Site) (identity : Iden
         and_from (place_at w.places p).holds (is_named lists p)
         (subst (λ (q : Spot). (place_at w.places q).holds ≡ true) (sym b.own.spot) (b.world.shows.each b.own.line b.own.number b.own.first b.own.head b.own.own).holds) b.named
 
+    -- the newest version is firm, and the next one has its last list, or the write of that one was answered
+    goes_on : GoesOn site log listed version
+    goes_on f firm unwritten =
+        let ready : IsLastFirm w = (standing site w b.world.reached).ready (subst IsReady (sym b.known.stage) tt) in
+        let same : f ≡ last_number w = some_is f (last_number w) (sym firm ∙ ready.1) in
+        let last : version_at log.family f ≡ v = ap (version_at log.family) same ∙ last_version site log w m v b.older b.newest in
+        elim b.follows [
+          | inl follows ↦ next_last site v.table.plan.lists table.plan.lists follows ∙ ap (λ (x : Version). last_list (lists_of site x)) (sym last)
+          | inr (written, second) ↦ absurd (false≢true (sym unwritten ∙ ap (λ (x : Version). x.is_written) last ∙ written))
+        ]
+
+    there : w.deleted ≡ None
+    there = subst (BootsAt w) b.known.stage (standing site w b.world.reached).boots
+
     leads : LeadsBy listed next None p
     leads = refl
 
@@ -276,13 +346,13 @@ module _ (Spells : List ℕ → Table → Type 0) (site : Site) (identity : Iden
     unfolding world_listed listed_matches
     commit_begins =
         let majority : next.by_majority ≡ false =
-        ap not (ap (λ (l : SpotLists). same_spots l.mediators lists.mediators) last_is ∙ (may_list_next site w.set v.table.plan.lists table.plan.lists b.follows).2) in
+        ap not (ap (λ (l : SpotLists). same_spots l.mediators lists.mediators) last_is ∙ (may_next w.set).2) in
         record {
           events = NextLists lists ∷ (Slotted p LeftClosed ∷ []);
           are = refl;
           may = (lists_fit, (subst (λ (x : Core). may x (Slotted p LeftClosed) ≡ true) (sym lists_by) slot_fits, tt));
           world = subst (λ (x : Core). IsWorld Spells site identity (log_after log (WritesLog (next_mark v) asked v.changes table)) (happens x (Slotted p LeftClosed)) image) (sym lists_by)
-              (begun_world Spells site identity log listed image world_listed next version next_is refl p None leads slot_fits have its);
+              (begun_world Spells site identity log listed image world_listed next version next_is refl goes_on there p None leads slot_fits have its);
           known = subst (λ (x : Core). IsTaking false (next_mark v) [] (happens x (Slotted p LeftClosed))) (sym lists_by)
-              (begun_taking Spells site identity log listed image world_listed next version next_is refl p None leads slot_fits false majority);
+              (begun_taking Spells site identity log listed image world_listed next version next_is refl goes_on there p None leads slot_fits false majority);
         }

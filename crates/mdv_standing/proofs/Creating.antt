@@ -12,6 +12,7 @@ use Rattle.mdv_votes.specs.declared.version.SpotState.{SpotState}
 use Rattle.mdv_votes.proofs.Meeting.{same_self}
 use Rattle.mdv_votes.proofs.PlacesAt.{put_cases, wipe_at, wiped_floor, wiped_since}
 use Rattle.mdv_quorum.specs.May.{is_firm_in, is_lists, is_new, may, may_format, may_slot}
+use Rattle.mdv_quorum.specs.Standing.{BootsAt}
 use Rattle.mdv_quorum.specs.World.{created, formatted_at, formatted_place, happens, slotted, wiped_at, without}
 use Rattle.mdv_shown.specs.Formats.{IsFormattable, lost_beside, lost_with, next_number}
 use Rattle.mdv_shown.specs.Shown.{NewestIs, ShowsPlaces}
@@ -22,15 +23,15 @@ use Rattle.mdv_shown.proofs.Wiped.{IsFrom, IsWiped, all_wiped, in_from}
 use Rattle.mdv_store_law.specs.Log.{HasOneList, IsAbove as IsAboveAll}
 use Rattle.mdv_standing.specs.Below.{Core, Creating, FamilyTable, FirstIs, Formatted, Formats, Geometry, HasFirst, Head, Identity, Image, IsBelow, IsInChain, LeftClosed, Lists, Log, Mark, Master, MayFormat, MayHappen, NextLists, Shows, Site, SliceLine, Slotted, Spot, SpotLists, Stage, Table, Version, WritesLog, after_all, is_in, is_named, is_none, log_after, master_on, place_at, place_on, spot_on, start}
 use Rattle.mdv_standing.specs.Laws.{HasNone}
-use Rattle.mdv_standing.specs.Matching.{IsVersionAt, Matches, is_set, spots_of, tables_of}
+use Rattle.mdv_standing.specs.Matching.{IsVersionAt, Matches, is_set, spot_floor, spots_of, tables_of}
 use Rattle.mdv_standing.specs.Worlds.{IsNoneOr, IsTaking, IsWorld, Turned}
 use Rattle.mdv_standing.specs.Creating.{AreAllPlaced, IsCreating, IsCreation, IsFormatting, MayBeFormatted, first_mark, issued_log}
 use Rattle.mdv_standing.proofs.Reaching.{reached_more, standing}
-use Rattle.mdv_standing.proofs.Following.{Follows, matches_follow, since_put}
+use Rattle.mdv_standing.proofs.Following.{Follows, GoesOn, matches_follow, since_put}
 use Rattle.mdv_standing.proofs.Beginning.{LeadsBy, begun_taking, begun_world}
 use Rattle.mdv_standing.proofs.Committing.{may_list_again}
 use Rattle.mdv_standing.proofs.Lawful.{matches_empty, world_none}
-use Rattle.mdv_standing.proofs.Listed.{places_none}
+use Rattle.mdv_standing.proofs.Listed.{has_lies, places_none}
 
 -- what an image shows of places is told by what is looked up there
 pub record IsSameAt (a b : SpotState) : Type 0 where
@@ -53,7 +54,7 @@ places_agree Spells site identity tables family places others image same shows =
   seats = λ p kind holds. shows.seats p kind (sym (same p).holds ∙ holds);
 }
 
-in_filtered : (test : Spot → Bool) (list : List Spot) (q : Spot) → is_in (filter test list) q ≡ true → is_in list q ≡ true
+pub in_filtered : (test : Spot → Bool) (list : List Spot) (q : Spot) → is_in (filter test list) q ≡ true → is_in list q ≡ true
 in_filtered test [] q e = e
 in_filtered test (x ∷ xs) q e =
     elim (cases_Bool (test x)) [
@@ -71,7 +72,7 @@ abbrev pub wipe_each : List SpotState → List Spot → List SpotState
 wipe_each xs [] = xs
 wipe_each xs (p ∷ ps) = wipe_each (change_at xs p wiped) ps
 
-wiped_is : (spots : List Spot) (w : Core) (next : FamilyTable) → w.stage ≡ Creating next → after_all w (wiped_all spots) ≡ record w { places = wipe_each w.places spots }
+pub wiped_is : (spots : List Spot) (w : Core) (next : FamilyTable) → w.stage ≡ Creating next → after_all w (wiped_all spots) ≡ record w { places = wipe_each w.places spots }
 wiped_is [] w next e = refl
 wiped_is (p ∷ ps) w next e = ap (λ (v : Core). after_all v (wiped_all ps)) (ap (wiped_at w p) e) ∙ wiped_is ps (without w p) next e
 
@@ -83,10 +84,10 @@ pub floor_wiped : (spots : List Spot) (xs : List SpotState) (q : Spot) → (plac
 floor_wiped [] xs q = refl
 floor_wiped (p ∷ ps) xs q = floor_wiped ps (change_at xs p wiped) q ∙ ap (λ (x : SpotState). x.floor) (wipe_at xs p q) ∙ wiped_floor p (place_at xs q)
 
-none_raised : (floor : ℕ) (s : Since) → floor ≡ 0 → ((i : ℕ) → s ≡ Dropped i → ⊥) → raised floor s ≡ 0
-none_raised floor Never e never = e
-none_raised floor Listed e never = e
-none_raised floor (Dropped i) e never = absurd (never i refl)
+none_raised : (floor : ℕ) (s : Since) → ((i : ℕ) → s ≡ Dropped i → ⊥) → raised floor s ≡ floor
+none_raised floor Never never = refl
+none_raised floor Listed never = refl
+none_raised floor (Dropped i) never = absurd (never i refl)
 
 -- A place is formatted while the creation is in hand, whatever was blanked before of what the world doesn't hold.
 module _ (Spells : List ℕ → Table → Type 0) (site : Site) (identity : Identity) (log : Log) (w : Core) (old : Image) (lists : Lists) (done : List Spot) (c : IsCreation Spells site identity log w old lists done)
@@ -193,13 +194,14 @@ module _ (Spells : List ℕ → Table → Type 0) (site : Site) (identity : Iden
     set = refl;
     family = refl;
     changes = refl;
-    floors = λ q. elim (put_cases w.places p q (formatted next.mark.boot None) (λ x. refl)) [
-      | inl a ↦ ap (λ (x : SpotState). x.floor) a.1 ∙ none_raised (place_at w.places q).floor (place_at w.places q).since (m.reused q) (undropped q) ∙ sym (m.reused q)
+    floors = λ q. subst (λ (f : ℕ). f ≤ spot_floor site log q) (sym (elim (put_cases w.places p q (formatted next.mark.boot None) (λ x. refl)) [
+      | inl a ↦ ap (λ (x : SpotState). x.floor) a.1 ∙ none_raised (place_at w.places q).floor (place_at w.places q).since (undropped q)
       | inr b ↦ ap (λ (x : SpotState). x.floor) b.1
-    ];
+    ])) (m.reused q);
     deleted = refl;
     firm = λ f e. (f, e, omega arith);
     dropped = λ q i e. absurd (undropped q i (sym (since_put w.places p q (formatted next.mark.boot None) (λ x. refl) (λ x. refl)) ∙ e));
+    steady = m.steady;
   }
 
   put_known : IsCreating (spots_of site lists) (p ∷ done) (formatted_place w p next)
@@ -348,14 +350,14 @@ module _ (Spells : List ℕ → Table → Type 0) (site : Site) (identity : Iden
 
   pub begins : Turned Spells site identity (issued_log identity) from image (λ es. es ≡ NextLists spots ∷ []) (IsCreating spots [])
   begins =
-      let world = world_none Spells site identity (issued_log identity) refl image none in
+      let world = world_none Spells site identity (issued_log identity) refl refl image none in
       record {
         events = NextLists spots ∷ [];
         are = refl;
         may = (lists_fit, tt);
         world = record {
           reached = reached_more site from (NextLists spots ∷ []) world.reached (lists_fit, tt);
-          matches = matches_empty site (issued_log identity) (created from spots) refl refl refl refl refl;
+          matches = matches_empty site (issued_log identity) (created from spots) refl refl refl refl refl refl;
           shows = record { each = λ line k first head own. absurd (none line k first head own); only = λ p place holds. absurd (false≢true holds); seats = λ p seat holds. false≢true holds };
           listed = inl (places_none Spells site identity (issued_log identity) image refl);
         };
@@ -403,8 +405,10 @@ module _ (Spells : List ℕ → Table → Type 0) (site : Site) (identity : Iden
       each = λ i known. absurd (omega (arith, known, none_yet));
       answered = c.world.matches.answered;
       dropped = c.world.matches.dropped;
+      steady = c.world.matches.steady;
       reused = c.world.matches.reused;
       there = c.world.matches.there;
+      gone = c.world.matches.gone;
     };
     shows = c.world.shows;
     listed = inl (places_none Spells site identity log image c.empty);
@@ -417,6 +421,7 @@ module _ (Spells : List ℕ → Table → Type 0) (site : Site) (identity : Iden
     some = ap (λ (l : SpotLists). is_none l.first) c.known.lists_are ∙ some;
     changes = ap (λ (l : List ℕ). reverse (filter_map (λ n. None) l)) (sym c.known.plan);
     numbered = λ n is. by n (subst (λ (l : List ℕ). Contains l n) c.known.plan is);
+    lie = λ place listed. has_lies Spells site identity image place (formed place listed);
   }
     where
       by : (n : ℕ) → Contains (c.known.number ∷ []) n → n < w.changes
@@ -427,6 +432,12 @@ module _ (Spells : List ℕ → Table → Type 0) (site : Site) (identity : Iden
   slot_fits = subst (λ (g : Stage). may_slot w p g ≡ true) (sym c.known.stage)
       (and_from (place_at w.places p).holds (is_named first.lists p) (c.known.there p has) (subst (λ (l : SpotLists). is_named l p ≡ true) (sym c.known.lists_are) named))
 
+  goes_on : GoesOn site log w version
+  goes_on f firm unwritten = (let known = (standing site w c.world.reached).descent.known f firm in absurd (omega (arith, known, none_yet)))
+
+  there : w.deleted ≡ None
+  there = subst (BootsAt w) c.known.stage (standing site w c.world.reached).boots
+
   slot_leads : LeadsBy w first None p
   slot_leads = ap (slotted w p LeftClosed) c.known.stage
 
@@ -435,6 +446,6 @@ module _ (Spells : List ℕ → Table → Type 0) (site : Site) (identity : Iden
     events = Slotted p LeftClosed ∷ [];
     are = refl;
     may = (slot_fits, tt);
-    world = begun_world Spells site identity log w image world first version first_is refl p None slot_leads slot_fits (places_none Spells site identity log image c.empty) formed;
-    known = begun_taking Spells site identity log w image world first version first_is refl p None slot_leads slot_fits false c.known.kind;
+    world = begun_world Spells site identity log w image world first version first_is refl goes_on there p None slot_leads slot_fits (places_none Spells site identity log image c.empty) formed;
+    known = begun_taking Spells site identity log w image world first version first_is refl goes_on there p None slot_leads slot_fits false c.known.kind;
   }

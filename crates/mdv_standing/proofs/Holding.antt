@@ -185,7 +185,7 @@ module _ (Spells : List ℕ → Table → Type 0) (g : Geometry) (all : List Dat
   pub begins_holding : Holds Spells g (with_creation key identity all) image
   begins_holding = record {
     worlds = λ d has. elim (contains_cases new (with_over key all) d has) [
-      | inl here ↦ subst (HasWorld Spells g image) here (start (is_set key), world_none Spells (site_of g key) identity (issued_log identity) refl image none_found)
+      | inl here ↦ subst (HasWorld Spells g image) here (start (is_set key), world_none Spells (site_of g key) identity (issued_log identity) refl refl image none_found)
       | inr rest ↦ closed (HasWorld Spells g image) (λ x is. is) holds.worlds d rest
     ];
     known = λ other line k first head found.

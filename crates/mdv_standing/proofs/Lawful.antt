@@ -8,6 +8,7 @@ use Rattle.mdv_votes.specs.Spots.{covers_second, is_half, same_spot}
 use Rattle.mdv_votes.specs.declared.version.Since.TheVariants.{Dropped}
 use Rattle.mdv_votes.specs.declared.version.SpotState.{SpotState}
 use Rattle.mdv_votes.proofs.Meeting.{meet, meet_counted, same_is, step_counted}
+use Rattle.mdv_quorum.specs.Standing.{BootsAt}
 use Rattle.mdv_quorum.specs.World.{happens}
 use Rattle.mdv_replica.specs.Form.{is_open}
 use Rattle.mdv_shelf.proofs.Everywhere.{everywhere_apart, everywhere_begun}
@@ -16,23 +17,24 @@ use Rattle.mdv_shown.proofs.Choice.{spot_of}
 use Rattle.mdv_shown.proofs.Framed.{shows_rest}
 use Rattle.mdv_store_law.specs.Laws.{restarted}
 use Rattle.mdv_store_law.specs.Log.{AreMade, IsLog, empty_log}
+use Rattle.mdv_store_law.proofs.Logs.{empty_is_log}
 use Rattle.mdv_store_law.proofs.Families.{extends_more, extends_written}
-use Rattle.mdv_standing.specs.Below.{Area, AreApart, Change, Core, First, Geometry, HaveRead, Head, Identity, Image, IsBelow, IsChosen, IsImage, IsSite, KeptOutside, Claimed, Lists, One, Two, Log, Mark, Open, Place, Second, Seen, Site, Slot, Spot, SpotLists, FamilyTable, Table, Tale, Version, covers, gate_of, greatest_seen, is_in, is_majority, is_none, is_written, place_at, place_on, shows, site_area, slice_at, spot_on, spot_seen, spots_seen, start, table_at}
+use Rattle.mdv_standing.specs.Below.{Again, Lives, Over, Area, AreApart, Change, Core, First, Geometry, HaveRead, Head, Identity, Image, IsBelow, IsChosen, IsImage, IsSite, KeptOutside, Claimed, Claiming, Lists, One, Two, Log, Mark, Open, Place, Second, Seen, Site, Slot, Spot, SpotLists, FamilyTable, Table, Tale, Version, covers, gate_of, greatest_seen, is_in, is_majority, is_none, is_written, place_at, place_on, shows, site_area, slice_at, spot_on, spot_seen, spots_seen, start, table_at}
 use Rattle.mdv_standing.specs.Listed.{HoldsNewest}
-use Rattle.mdv_standing.specs.Matching.{Matches, is_set, lists_of, spot_in, spots_of, tables_of, version_at}
+use Rattle.mdv_standing.specs.Matching.{HasStaleVote, Matches, is_set, lists_of, spot_in, spots_of, tables_of, version_at}
 use Rattle.mdv_standing.specs.Worlds.{IsWorld, HasClaimed}
 use Rattle.mdv_standing.specs.Standing.{Covers, Stands}
 use Rattle.mdv_standing.specs.Laws.{FoundHolds, HasNone, ShowsNoTable}
 use Rattle.mdv_standing.specs.Adopting.{IsClaim}
-use Rattle.mdv_standing.proofs.Listed.{frame_still, listed_still, places_none}
+use Rattle.mdv_standing.proofs.Listed.{frame_still, listed_still, live_at, places_none}
 use Rattle.mdv_standing.proofs.Reaching.{reached_more, standing}
 use Rattle.mdv_standing.proofs.Voting.{all_that, below, not_older, numbered}
 use Rattle.mdv_standing.proofs.Following.{matches_follow}
 use Rattle.mdv_standing.proofs.Adopting.{claim_is, draws}
 
 -- a database without a table, of which no place is known
-pub matches_empty : (site : Site) (log : Log) (w : Core) → log.family ≡ [] → w.set ≡ is_set site.key → w.family ≡ [] → w.places ≡ [] → w.deleted ≡ None → Matches site log w
-matches_empty site log w empty kind none places there =
+pub matches_empty : (site : Site) (log : Log) (w : Core) → log.family ≡ [] → w.set ≡ is_set site.key → w.family ≡ [] → w.places ≡ [] → w.deleted ≡ None → log.fate ≡ Lives → Matches site log w
+matches_empty site log w empty kind none places there lives =
     let long : length w.family ≡ 0 = ap length none in
     record {
       kind = kind;
@@ -41,10 +43,15 @@ matches_empty site log w empty kind none places there =
       each = λ i known. absurd (omega (arith, known, long));
       answered = λ i known written. absurd (omega (arith, known, long));
       dropped = λ p i e. absurd (never p i (ap (λ (xs : List SpotState). (place_at xs p).since) (sym places) ∙ e));
-      reused = λ p. ap (λ (xs : List SpotState). (place_at xs p).floor) places;
-      there = there;
+      steady = λ f k firm up known unwritten. absurd (omega (arith, known, long));
+      reused = λ p. (let floor : (place_at w.places p).floor ≡ 0 = ap (λ (xs : List SpotState). (place_at xs p).floor) places in omega (arith, floor));
+      there = λ is. there;
+      gone = λ over. absurd (lives_on (sym lives ∙ over));
     }
   where
+    lives_on : Lives ≡ Over → ⊥
+    lives_on e = cc
+
     never : (p : Spot) (i : ℕ) → (place_at [] p).since ≡ Dropped i → ⊥
     never p i e = cc
 
@@ -66,10 +73,10 @@ module _ (Spells : List ℕ → Table → Type 0) (site : Site) (identity : Iden
       everywhere_apart (λ image. (w : Core) × IsWorld Spells site identity log w image) (site_area site) area t m (world_same log) apart kept each
 
   -- nothing has happened, and no replica is found
-  pub world_none : (log : Log) → log.family ≡ [] → (image : Image) → HasNone Spells site identity image → IsWorld Spells site identity log (start (is_set site.key)) image
-  world_none log empty image none = record {
+  pub world_none : (log : Log) → log.family ≡ [] → log.fate ≡ Lives → (image : Image) → HasNone Spells site identity image → IsWorld Spells site identity log (start (is_set site.key)) image
+  world_none log empty lives image none = record {
     reached = ([], tt, refl);
-    matches = matches_empty site log (start (is_set site.key)) empty refl refl refl refl;
+    matches = matches_empty site log (start (is_set site.key)) empty refl refl refl refl lives;
     shows = record {
       each = λ line k first head own. absurd (none line k first head own);
       only = λ p place holds. absurd (false≢true holds);
@@ -88,8 +95,8 @@ crashes_stand Spells g site identity log m image told stands is = record {
 pub new_drives_stand : (Spells : List ℕ → Table → Type 0) (g : Geometry) (site : Site) (identity : Identity) (image : Image) (told : List ℕ) → HasNone Spells site identity image
     → Stands Spells g site identity empty_log (restarted image told)
 new_drives_stand Spells g site identity image told none = record {
-  is_log = record { rising = tt; made = All-nil (λ (v : Version). AreMade g v.changes v.table); descended = tt; held = λ told same. absurd (cc (same)) };
-  covers = everywhere_begun (λ other. (w : Core) × IsWorld Spells site identity empty_log w other) (record { block = image; told = told }) (start (is_set site.key), world_none Spells site identity empty_log refl image none);
+  is_log = empty_is_log g;
+  covers = everywhere_begun (λ other. (w : Core) × IsWorld Spells site identity empty_log w other) (record { block = image; told = told }) (start (is_set site.key), world_none Spells site identity empty_log refl refl image none);
 }
 
 -- a list's places are no seats
@@ -156,10 +163,10 @@ module _ (Spells : List ℕ → Table → Type 0) (site : Site) (identity : Iden
     | inr place ↦ no_newest p i place has.holds has.newest
   ]
 
-  pub not_firm : (f : ℕ) → w.firm ≡ Some f → ⊥
-  not_firm f e =
+  pub firm_shows : w.deleted ≡ None → (f : ℕ) → w.firm ≡ Some f → ⊥
+  firm_shows there f e =
       let s = standing site w world.reached in
-      let held = s.held f e world.matches.there in
+      let held = s.held f e there in
       let known = s.descent.known f e in
       let t = table_at w.family f in
       let v = world.matches.each f known in
@@ -168,22 +175,26 @@ module _ (Spells : List ℕ → Table → Type 0) (site : Site) (identity : Iden
       let place : p.0.mediator ≡ false = first_only site (version_at log.family f).table.plan.lists p.0 (subst (λ (l : SpotLists). is_in l.first p.0 ≡ true) v.lists p.2) in
       no_newest p.0 is.table place is.formed is.shows
 
-  pub unanswered : (x : Version) → Contains log.family x → x.is_written ≡ false
-  unanswered x has = false_from_ne_true x.is_written (λ written.
+  pub not_firm : log.fate ≡ Lives → (f : ℕ) → w.firm ≡ Some f → ⊥
+  not_firm lives = firm_shows (world.matches.there lives)
+
+  pub unanswered : log.fate ≡ Lives → (x : Version) → Contains log.family x → x.is_written ≡ false
+  unanswered lives x has = false_from_ne_true x.is_written (λ written.
       let i = numbered site log w world.reached world.matches x has in
       let f = world.matches.answered i.0 i.1 (ap (λ (y : Version). y.is_written) i.2 ∙ written) in
-      not_firm f.0 f.1)
+      not_firm lives f.0 f.1)
 
-  pub untold : (g : Geometry) → IsLog g log → log.acknowledged ≡ None
-  untold g is_log = by log.acknowledged refl
+  pub untold : log.fate ≡ Lives → (g : Geometry) → IsLog g log → log.acknowledged ≡ None
+  untold lives g is_log = by log.acknowledged refl
     where
       by : (o : Option (List Change)) → log.acknowledged ≡ o → log.acknowledged ≡ None
       by None e = e
-      by (Some told) e = (let held = is_log.held told e in absurd (false≢true (sym (unanswered held.by held.one_of) ∙ held.written)))
+      by (Some told) e = (let held = is_log.held told e in absurd (false≢true (sym (unanswered lives held.by held.one_of) ∙ held.written)))
 
 module _ (Spells : List ℕ → Table → Type 0) (g : Geometry) (site : Site) (identity : Identity) (log : Log) (w : Core) (image : Image) (seen : List Seen) (s : Seen) (slot : Slot) (v : Version)
     (site_is : IsSite site) (is_log : IsLog g log) (world : IsWorld Spells site identity log w image) (r : HaveRead Spells site identity (tables_of log.family) w image seen) (c : IsChosen seen s slot v.mark)
-    (has : Contains log.family v) (most : covers (is_majority (is_in (spots_seen seen))) (lists_of site v) ≡ true) (small : greatest_seen seen + 1 < 2 ^ 63) where
+    (has : Contains log.family v) (most : covers (is_majority (is_in (spots_seen seen))) (lists_of site v) ≡ true) (fair : HasStaleVote site log seen v.mark → ⊥)
+    (small : greatest_seen seen + 1 < 2 ^ 63) where
   -- a replica that was read at a place of the list
   at_list : (o : Seen) × Contains seen o × (is_in (lists_of site v).first (spot_seen o) ≡ true)
   at_list =
@@ -202,7 +213,7 @@ module _ (Spells : List ℕ → Table → Type 0) (g : Geometry) (site : Site) (
     one_of = has;
     named = or_left (is_in (lists_of site v).first (spot_seen at_list.0)) _ at_list.2;
     small = small;
-    known = draws Spells site identity log w image world seen r s slot v c has most;
+    known = draws Spells site identity log w image world seen r s slot v c has most fair;
   }
 
   abbrev p : Spot
@@ -213,6 +224,13 @@ module _ (Spells : List ℕ → Table → Type 0) (g : Geometry) (site : Site) (
 
   claimed : HasClaimed v.mark (greatest_seen seen + 1) (p ∷ []) then
   claimed = (claim_is Spells site identity log w image at_list.0.line at_list.0.number at_list.0.first at_list.0.head v (greatest_seen seen + 1) [] claims).known
+
+  -- so the database is there
+  pub is_there : w.deleted ≡ None
+  is_there =
+      let is = claim_is Spells site identity log w image at_list.0.line at_list.0.number at_list.0.first at_list.0.head v (greatest_seen seen + 1) [] claims in
+      let reached = reached_more site w (Claimed p ∷ []) world.reached (is.claimable.fits, tt) in
+      sym is.follows.deleted ∙ live_at then (Claiming is.known.table is.known.next is.known.claimed) (subst (BootsAt then) is.known.stage (standing site then reached).boots) (λ read same. cc (same))
 
   pub found_holds : FoundHolds g log v (greatest_seen seen + 1)
   found_holds =

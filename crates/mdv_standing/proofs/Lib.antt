@@ -15,6 +15,7 @@ pub mod Holding
 pub mod Others
 pub mod Turning
 pub mod Knowing
+pub mod Since
 pub mod Stores
 pub mod Rest
 pub mod Forming
@@ -22,3 +23,10 @@ pub mod Tracing
 pub mod Stretches
 pub mod Blanking
 pub mod Formed
+pub mod Noting
+pub mod Idle
+pub mod Unlisting
+pub mod Adding
+pub mod Deleting
+pub mod PlacesTracing
+pub mod Anew

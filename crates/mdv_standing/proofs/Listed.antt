@@ -1,5 +1,7 @@
 -- The replicas of a database stay where one is claimed or written, whosever it is, and where something is done elsewhere.
 use Rattle.std.proofs.Common.{◌≡◌, ◌⊎◌, inl, inr, ⊎_elim, ℕ, zero, suc, ◌+◌, ◌<◌, ◌^◌, true, List, [], ◌∷◌, refl, sym, ◌∙◌, ap, subst, Contains, None, arith}
+use Rattle.std.proofs.lemmas.List.Elements.{All-cons, All-head, All-tail}
+use Rattle.mdv_quorum.specs.Standing.{BootsAt}
 use Rattle.mdv_replica.specs.Images.{IsSame, SameOutside, closed, filled, untouched}
 use Rattle.mdv_replica.specs.Seen.{IsMasterAt}
 use Rattle.mdv_replica.proofs.Heads.{one_head}
@@ -10,15 +12,32 @@ use Rattle.mdv_shown.proofs.Elsewhere.{found_kept, one_master}
 use Rattle.mdv_shown.proofs.Framed.{found_same}
 use Rattle.mdv_shown.proofs.Kept.{IsRewrite, claim_rewrites, claims_still, closed_rewrites, filled_rewrites, slots_still}
 use Rattle.mdv_shown.proofs.Rewritten.{own_new}
-use Rattle.mdv_store_law.specs.Log.{answered}
+use Rattle.mdv_store_law.specs.Log.{IsNotOlder, answered}
 use Rattle.mdv_table.specs.Plan.{places_of}
-use Rattle.mdv_standing.specs.Below.{Core, Claims, FirstIs, Head, Identity, Image, IsOwn, IsSite, IsTable, Key, Log, Mark, Master, MayClaim, MayFill, Place, PlaceAt, Reading, Site, SliceLine, Slot, Spot, Stage, Table, Version, place_on, site_area}
-use Rattle.mdv_standing.specs.Listed.{HasPlace, HavePlaces, IsUnshown}
+use Rattle.mdv_standing.specs.Below.{Claiming, Core, Creating, IsBelow, Ready, Writing, Claims, FirstIs, Head, Identity, Image, IsOwn, IsSite, IsTable, Key, Log, Mark, Master, MayClaim, MayFill, Place, PlaceAt, Reading, Site, SliceLine, Slot, Spot, Stage, Table, Version, place_on, site_area}
+use Rattle.mdv_standing.specs.Listed.{HasPlace, HavePlaces, IsShut}
+use Rattle.mdv_standing.specs.Matching.{LiesOn, Reached}
+use Rattle.mdv_standing.proofs.Reaching.{standing}
 use Rattle.mdv_standing.proofs.Within.{line_still}
 
 -- where a boot has gone past reading
-pub past_reading : (w : Core) (s : Stage) → w.stage ≡ s → ((read : List Spot) → s ≡ Reading read → ⊥) → IsUnshown w → ⊥
-past_reading w s is past none = past none.read (sym is ∙ none.stage)
+pub live_at : (w : Core) (s : Stage) → BootsAt w s → ((read : List Spot) → s ≡ Reading read → ⊥) → w.deleted ≡ None
+live_at w (Reading read) boots past = absurd (past read refl)
+live_at w (Creating next) boots past = boots
+live_at w (Claiming i next claimed) boots past = boots.0.there
+live_at w (Writing boot took) boots past = boots.0
+live_at w (Ready next) boots past = boots
+
+pub past_reading : (site : Site) (w : Core) → Reached site w → (s : Stage) → w.stage ≡ s → ((read : List Spot) → s ≡ Reading read → ⊥) → IsShut w → ⊥
+past_reading site w reached s is past (inl none) = past none.read (sym is ∙ none.stage)
+past_reading site w reached s is past (inr (p, gone)) = (let live = live_at w s (subst (BootsAt w) is (standing site w reached).boots) past in cc (gone, live))
+
+-- a table that no answered one is above had none above it before the last one was answered
+unanswered_before : (mark : Mark) (family : List Version) → IsNotOlder mark (answered family) → IsNotOlder mark family
+unanswered_before mark [] none = none
+unanswered_before mark (v ∷ older) none =
+    let P = λ (x : Version). x.is_written ≡ true → IsBelow mark x.mark → ⊥ in
+    All-cons P v older (λ written. All-head P (record v { is_written = true }) older none refl) (All-tail P (record v { is_written = true }) older none)
 
 module _ (Spells : List ℕ → Table → Type 0) (site : Site) (identity : Identity) where
   -- each replica of the database is still found, under one head or another
@@ -26,17 +45,17 @@ module _ (Spells : List ℕ → Table → Type 0) (site : Site) (identity : Iden
   AreStill old new = (line : SliceLine) (k : ℕ) (first : Master) (head : Head) → IsOwn Spells site identity line k old first head → (now : Head) × IsOwn Spells site identity line k new first now
 
   pub places_still : (log : Log) (old new : Image) → AreStill old new → HavePlaces Spells site identity log old → HavePlaces Spells site identity log new
-  places_still log old new still have v place one_of listed =
-      let was = have v place one_of listed in
+  places_still log old new still have v place one_of found listed =
+      let was = have v place one_of found listed in
       let now = still was.line was.number was.first was.head was.own in
       record { line = was.line; number = was.number; first = was.first; head = now.0; own = now.1; is = was.is }
 
-  pub listed_still : (log : Log) (w : Core) (old new : Image) → AreStill old new → HavePlaces Spells site identity log old ⊎ IsUnshown w → HavePlaces Spells site identity log new ⊎ IsUnshown w
+  pub listed_still : (log : Log) (w : Core) (old new : Image) → AreStill old new → HavePlaces Spells site identity log old ⊎ IsShut w → HavePlaces Spells site identity log new ⊎ IsShut w
   listed_still log w old new still listed = ⊎_elim (λ have. inl (places_still log old new still have)) (λ none. inr none) listed
 
   -- a log without a table lists none
   pub places_none : (log : Log) (image : Image) → log.family ≡ [] → HavePlaces Spells site identity log image
-  places_none log image empty v place one_of listed = absurd (none (subst (λ (l : List Version). Contains l v) empty one_of))
+  places_none log image empty v place one_of found listed = absurd (none (subst (λ (l : List Version). Contains l v) empty one_of))
     where
       none : Contains [] v → ⊥
       none has = absurd (omega (arith, has.1))
@@ -44,18 +63,21 @@ module _ (Spells : List ℕ → Table → Type 0) (site : Site) (identity : Iden
   -- one table more
   pub places_more : (log : Log) (image : Image) (v : Version) → HavePlaces Spells site identity log image → ((place : Place) → Contains (places_of v.table.plan.lists) place → HasPlace Spells site identity image place)
       → HavePlaces Spells site identity (record log { family = v ∷ log.family }) image
-  places_more log image v have its x place (zero, lt, e) listed = its place (subst (λ (y : Version). Contains (places_of y.table.plan.lists) place) (sym e) listed)
-  places_more log image v have its x place (suc i, lt, e) listed = have x place (i, omega (arith, lt), e) listed
+  places_more log image v have its x place (zero, lt, e) found listed = its place (subst (λ (y : Version). Contains (places_of y.table.plan.lists) place) (sym e) listed)
+  places_more log image v have its x place (suc i, lt, e) found listed = have x place (i, omega (arith, lt), e) (All-tail (λ (y : Version). y.is_written ≡ true → IsBelow x.mark y.mark → ⊥) v log.family found) listed
 
   -- the newest one's write was answered
   pub places_answered : (log : Log) (image : Image) → HavePlaces Spells site identity log image → HavePlaces Spells site identity (record log { family = answered log.family }) image
   places_answered log image have = by log.family refl
     where
       by : (family : List Version) → log.family ≡ family → HavePlaces Spells site identity (record log { family = answered family }) image
-      by [] e x place one_of listed = places_none (record log { family = [] }) image refl x place one_of listed
-      by (v ∷ older) e x place (zero, lt, is) listed =
-          have v place (subst (λ (l : List Version). Contains l v) (sym e) (0, omega arith, refl)) (subst (λ (y : Version). Contains (places_of y.table.plan.lists) place) (sym is) listed)
-      by (v ∷ older) e x place (suc i, lt, is) listed = have x place (subst (λ (l : List Version). Contains l x) (sym e) (suc i, omega (arith, lt), is)) listed
+      by [] e x place one_of found listed = places_none (record log { family = [] }) image refl x place one_of found listed
+      by (v ∷ older) e x place (zero, lt, is) found listed =
+          have v place (subst (λ (l : List Version). Contains l v) (sym e) (0, omega arith, refl))
+          (subst (IsNotOlder v.mark) (sym e) (unanswered_before v.mark (v ∷ older) (subst (λ (y : Version). IsNotOlder y.mark (answered (v ∷ older))) (sym is) found)))
+          (subst (λ (y : Version). Contains (places_of y.table.plan.lists) place) (sym is) listed)
+      by (v ∷ older) e x place (suc i, lt, is) found listed =
+          have x place (subst (λ (l : List Version). Contains l x) (sym e) (suc i, omega (arith, lt), is)) (subst (IsNotOlder x.mark) (sym e) (unanswered_before x.mark (v ∷ older) found)) listed
 
   module _ (old new : Image) where
     -- what isn't on the site's slices changes
@@ -113,6 +135,17 @@ module _ (Spells : List ℕ → Table → Type 0) (site : Site) (identity : Iden
         slot_still (untouched same) = same_still same
         slot_still (closed others shut) = all_still (closed_rewrites Spells site line k first head old new its slot mark bytes body table others shut) (slots_still Spells site line k first head old new its ok slot mark bytes body table (closed others shut))
         slot_still (filled fills) = all_still (filled_rewrites Spells site line k first head old new its slot mark bytes body table fills) (slots_still Spells site line k first head old new its ok slot mark bytes body table (filled fills))
+
+-- a place that has a replica lies on its slice
+pub has_lies : (Spells : List ℕ → Table → Type 0) (site : Site) (identity : Identity) (image : Image) (place : Place) → HasPlace Spells site identity image place → LiesOn site place
+has_lies Spells site identity image place has = subst (LiesOn site) (sym has.is) (record {
+  line = has.line;
+  one_of = has.own.found.one_of;
+  slice = refl;
+  from = omega arith;
+  long = has.own.found.located.lies.least;
+  to = has.own.found.within;
+})
 
 -- the replica as one that a boot of its own key finds
 pub own_found : (Spells : List ℕ → Table → Type 0) (site : Site) (identity : Identity) (line : SliceLine) (k : ℕ) (image : Image) (first : Master) (head : Head) → IsOwn Spells site identity line k image first head

@@ -1,5 +1,5 @@
 -- A boot begins: it crashed, drives are back, and replicas are read.
-use Rattle.std.proofs.Common.{◌≡◌, inl, inr, ⊎_elim, ℕ, zero, suc, ◌<◌, ◌==◌, ◌||◌, Bool, true, false, List, [], ◌∷◌, ◌++◌, length, refl, sym, ◌∙◌, ap, subst, map, cond, Contains, None, append_assoc, append-nil, arith}
+use Rattle.std.proofs.Common.{◌≡◌, inl, inr, ℕ, zero, suc, ◌<◌, ◌==◌, ◌||◌, Bool, true, false, List, [], ◌∷◌, ◌++◌, length, refl, sym, ◌∙◌, ap, subst, map, cond, Contains, None, append_assoc, append-nil, arith}
 use Rattle.std.proofs.lemmas.Bool.{cases_Bool, and_from, or_left, or_parts, or_from, cond-true, cond-false, not_from_false}
 use Rattle.std.specs.Prelude.{not, slice_index_or}
 use Rattle.mdv_base.specs.declared.drive.DriveNo.{DriveNo}
@@ -8,7 +8,6 @@ use Rattle.mdv_quorum.specs.World.{crashed, without_drive}
 use Rattle.mdv_quorum.proofs.Events.{after_both, may_both}
 use Rattle.mdv_store_law.specs.Machine.{AreAll}
 use Rattle.mdv_standing.specs.Below.{Back, Core, Crash, Event, HaveRead, Identity, Image, Log, Read, Reading, Seen, Site, Spot, Table, after_all, place_at, spot_seen, spots_seen}
-use Rattle.mdv_standing.specs.Listed.{IsUnshown}
 use Rattle.mdv_standing.specs.Matching.{Matches, Reached, tables_of}
 use Rattle.mdv_standing.specs.Worlds.{IsWorld, Turned}
 use Rattle.mdv_standing.specs.Adopting.{AreOwn, IsLook, IsOfDrive}
@@ -153,14 +152,18 @@ module _ (Spells : List ℕ → Table → Type 0) (site : Site) (identity : Iden
   same_log : Matches site log looked
   same_log =
       let m = world.matches in
-      record { kind = m.kind; book = m.book; as_many = m.as_many; each = m.each; answered = m.answered; dropped = m.dropped; reused = m.reused; there = m.there }
+      record { kind = m.kind; book = m.book; as_many = m.as_many; each = m.each; answered = m.answered; dropped = m.dropped; steady = m.steady; reused = m.reused; there = m.there; gone = m.gone }
 
   world_looked : IsWorld Spells site identity log looked image
   world_looked = record {
     reached = subst (λ (v : Core). Reached site v) leads.1 (reached_more site w looks_by world.reached leads.0);
     matches = same_log;
     shows = record { each = world.shows.each; only = world.shows.only; seats = world.shows.seats };
-    listed = ⊎_elim (λ have. inl have) (λ (none : IsUnshown w). inr (record { read = spots_seen seen; stage = refl; none = λ p i has. none.none p i (record { holds = has.holds; newest = has.newest }) })) world.listed;
+    listed = elim world.listed [
+      | inl have ↦ inl have
+      | inr (inl none) ↦ inr (inl (record { read = spots_seen seen; stage = refl; none = λ p i has. none.none p i (record { holds = has.holds; newest = has.newest }) }))
+      | inr (inr gone) ↦ inr (inr gone)
+    ];
   }
 
   have_read : HaveRead Spells site identity (tables_of log.family) looked image seen

@@ -1,5 +1,5 @@
 -- What is written for another database.
-use Rattle.std.proofs.Common.{◌≡◌, ◌⊎◌, inl, inr, ℕ, zero, suc, ◌+◌, ◌-◌, ◌*◌, ◌<◌, ◌^◌, true, false, List, [], ◌∷◌, refl, sym, ◌∙◌, ap, subst, Contains, Option, None, Some, arith}
+use Rattle.std.proofs.Common.{◌≡◌, ◌⊎◌, inl, inr, ℕ, zero, suc, ◌+◌, ◌-◌, ◌*◌, ◌<◌, ◌≤◌, ◌^◌, true, false, List, [], ◌∷◌, refl, sym, ◌∙◌, ap, subst, Contains, Option, None, Some, arith}
 use Rattle.std.proofs.lemmas.Bool.{and_from, cases_Bool, cond-false, cond-true, false_from_ne_true, not_from_false}
 use Rattle.std.proofs.lemmas.List.Folds.{Any-from_list_any}
 use Rattle.std.specs.Prelude.{max, nat_le, not}
@@ -21,10 +21,10 @@ use Rattle.mdv_shown.proofs.Framed.{shows_rest}
 use Rattle.mdv_shown.proofs.Others.{other_claims, other_slots}
 use Rattle.mdv_shown.proofs.Sites.{lines_apart, site_is}
 use Rattle.mdv_shown.proofs.Wiped.{IsWiped, all_wiped}
-use Rattle.mdv_standing.specs.Below.{Core, Crash, FamilyTable, FirstIs, Geometry, HasFirst, Head, Identity, Image, IsFormat, IsTable, Key, Log, Mark, Master, MayClaim, MayFill, MayFormat, PlaceAt, Reading, Shows, Site, SliceLine, Slot, Spot, Stage, Table, after_all, is_in, master_on, place_at, place_on, site_area, spot_on}
+use Rattle.mdv_standing.specs.Below.{Lives, Core, Crash, FamilyTable, FirstIs, Geometry, HasFirst, Head, Identity, Image, IsFormat, IsTable, Key, Log, Mark, Master, MayClaim, MayFill, MayFormat, PlaceAt, Reading, Shows, Site, SliceLine, Slot, Spot, Stage, Table, after_all, is_in, master_on, place_at, place_on, site_area, spot_on}
 use Rattle.mdv_standing.specs.Laws.{ShowsNoTable}
 use Rattle.mdv_standing.specs.Listed.{IsUnshown}
-use Rattle.mdv_standing.specs.Matching.{Matches, tables_of}
+use Rattle.mdv_standing.specs.Matching.{Matches, spot_floor, tables_of}
 use Rattle.mdv_standing.specs.Others.{Anything, IsAnother, IsBeside, IsLoss}
 use Rattle.mdv_standing.specs.Worlds.{IsWorld, Turned}
 use Rattle.mdv_standing.proofs.Reaching.{reached_more}
@@ -87,7 +87,7 @@ module _ (Spells : List ℕ → Table → Type 0) (g : Geometry) (key : Key) (id
     ]
 
 -- Places of a slice are blanked in a world that has no firm table, behind a crash.
-cut_is : (spots : List Spot) (w : Core) → w.stage ≡ Reading [] → after_all w (wiped_all spots) ≡ record w { places = wipe_each w.places spots }
+pub cut_is : (spots : List Spot) (w : Core) → w.stage ≡ Reading [] → after_all w (wiped_all spots) ≡ record w { places = wipe_each w.places spots }
 cut_is [] w e = refl
 cut_is (p ∷ ps) w e = ap (λ (v : Core). after_all v (wiped_all ps)) (ap (wiped_at w p) e) ∙ cut_is ps (without w p) e
 
@@ -119,13 +119,13 @@ unfolding ArePlaces
 lost_places line None = tt
 lost_places line (Some first) = from_places line first.blocks 0 (max 1 first.count - 0)
 
-module _ (Spells : List ℕ → Table → Type 0) (site : Site) (identity : Identity) (log : Log) (w : Core) (old new : Image) (world : IsWorld Spells site identity log w old) (none : ShowsNoTable Spells site identity old) where
+module _ (Spells : List ℕ → Table → Type 0) (site : Site) (identity : Identity) (log : Log) (w : Core) (old new : Image) (world : IsWorld Spells site identity log w old) (lives : log.fate ≡ Lives) (none : ShowsNoTable Spells site identity old) where
   no_firm : w.firm ≡ None
   no_firm = by w.firm refl
     where
       by : (o : Option ℕ) → w.firm ≡ o → w.firm ≡ None
       by None e = e
-      by (Some f) e = absurd (not_firm Spells site identity log w old world none f e)
+      by (Some f) e = absurd (not_firm Spells site identity log w old world none lives f e)
 
   pub loses : (spots : List Spot) → ArePlaces spots → Shows Spells site identity (tables_of log.family) (after_all w (wiped_all spots)) new → Turned Spells site identity log w new IsLoss Anything
   loses spots are shows =
@@ -146,11 +146,13 @@ module _ (Spells : List ℕ → Table → Type 0) (site : Site) (identity : Iden
             each = m.each;
             answered = m.answered;
             dropped = λ p i e. m.dropped p i (sym (since_wiped spots w.places p) ∙ e);
-            reused = λ p. floor_wiped spots w.places p ∙ m.reused p;
+            steady = m.steady;
+            reused = λ p. subst (λ (f : ℕ). f ≤ spot_floor site log p) (sym (floor_wiped spots w.places p)) (m.reused p);
             there = m.there;
+            gone = m.gone;
           });
           shows = subst (λ (v : Core). Shows Spells site identity (tables_of log.family) v new) (sym leads) (cut_shows shows leads);
-          listed = inr (subst IsUnshown (sym leads) (cut_unshown leads));
+          listed = inr (inl (subst IsUnshown (sym leads) (cut_unshown leads)));
         };
         known = tt;
       }
@@ -188,14 +190,14 @@ module _ (Spells : List ℕ → Table → Type 0) (site : Site) (identity : Iden
   keeps shows = loses [] tt shows
 
 module _ (Spells : List ℕ → Table → Type 0) (g : Geometry) (key : Key) (identity : Identity) (log : Log) (w : Core) (old new : Image) (other : Key) (its : Identity) (line : SliceLine) (sound : IsSound g) (another : IsAnother key identity other its)
-    (world : IsWorld Spells (site_of g key) identity log w old) (none : ShowsNoTable Spells (site_of g key) identity old) where
+    (world : IsWorld Spells (site_of g key) identity log w old) (lives : log.fate ≡ Lives) (none : ShowsNoTable Spells (site_of g key) identity old) where
   abbrev mine : Site
   mine = site_of g key
 
   beside : (blocks count k number : ℕ) → IsFormat (site_of g other) its old line blocks count k number → ((b : SliceLine) → Contains mine.lines b → AreApart (line_area line) (line_area b))
       → MayFormat (place_on line blocks count k) (master_on (site_of g other) its line blocks count k) number old new → Turned Spells mine identity log w new IsLoss Anything
   beside blocks count k number f apart change =
-      keeps Spells mine identity log w old new world none
+      keeps Spells mine identity log w old new world lives none
       (world_apart Spells g key identity log w old new line apart (format_within line k blocks count old new f.within f.lies.least (master_on (site_of g other) its line blocks count k) number change) world).shows
 
   pub first_formats_take : (blocks count number : ℕ) (before : Option Master) → IsFormat (site_of g other) its old line blocks count 0 number → FirstIs (site_of g other) old line before
@@ -203,8 +205,8 @@ module _ (Spells : List ℕ → Table → Type 0) (g : Geometry) (key : Key) (id
   first_formats_take blocks count number before f known change = elim (apart_or_in mine.lines line (λ b has. lines_apart g sound other key line b f.one_of has)) [
     | inr apart ↦ beside blocks count 0 number f apart change
     | inl has ↦ elim (others_first Spells mine identity (tables_of log.family) w old new line world.shows other its (λ k i. another k i) blocks count number before (format_for g other key line has sound its old blocks count 0 number f) (first_mine before known) change) [
-      | inl same ↦ keeps Spells mine identity log w old new world none same
-      | inr lost ↦ loses Spells mine identity log w old new world none (lost_with line before) (lost_places line before) lost
+      | inl same ↦ keeps Spells mine identity log w old new world lives none same
+      | inr lost ↦ loses Spells mine identity log w old new world lives none (lost_with line before) (lost_places line before) lost
     ]
   ]
     where
@@ -218,7 +220,7 @@ module _ (Spells : List ℕ → Table → Type 0) (g : Geometry) (key : Key) (id
     | inr apart ↦ beside first.blocks first.count k number f apart change
     | inl has ↦ elim (others_later Spells mine identity (tables_of log.family) w old new line world.shows other its (λ c i. another c i) k number first some (format_for g other key line has sound its old first.blocks first.count k number f)
         (record { site_is = site_is g key sound; one_of = has; located = has_first.located }) change) [
-          | inl same ↦ keeps Spells mine identity log w old new world none same
-          | inr lost ↦ loses Spells mine identity log w old new world none (spots_behind line first k) (from_places line first.blocks k (max 1 first.count - k)) lost
+          | inl same ↦ keeps Spells mine identity log w old new world lives none same
+          | inr lost ↦ loses Spells mine identity log w old new world lives none (spots_behind line first k) (from_places line first.blocks k (max 1 first.count - k)) lost
         ]
   ]

@@ -54,7 +54,7 @@ module _ (Spells : List ℕ → Table → Type 0) (g : Geometry) (all : List Dat
     rest_first blocks count number before f located change = record {
       worlds = λ d is. (let w = rest.worlds d is in elim (taken d is) [
         | inl out ↦ away blocks count 0 number f change d out w
-        | inr none ↦ turned d w.0 (first_formats_take Spells g d.key d.identity d.log w.0 old new key identity line sound (other d is) w.1 none blocks count number before f located change)
+        | inr (lives, none) ↦ turned d w.0 (first_formats_take Spells g d.key d.identity d.log w.0 old new key identity line sound (other d is) w.1 lives none blocks count number before f located change)
       ]);
       known = known_first Spells g all old new sound rest.known key line identity one blocks count number before f located change;
       once = rest.once;
@@ -65,7 +65,7 @@ module _ (Spells : List ℕ → Table → Type 0) (g : Geometry) (all : List Dat
     rest_later k number first some f has change = record {
       worlds = λ d is. (let w = rest.worlds d is in elim (taken d is) [
         | inl out ↦ away first.blocks first.count k number f change d out w
-        | inr none ↦ turned d w.0 (later_formats_take Spells g d.key d.identity d.log w.0 old new key identity line sound (other d is) w.1 none k number first some f has change)
+        | inr (lives, none) ↦ turned d w.0 (later_formats_take Spells g d.key d.identity d.log w.0 old new key identity line sound (other d is) w.1 lives none k number first some f has change)
       ]);
       known = known_later Spells g all old new sound rest.known key line identity one k number first some f has change;
       once = rest.once;

@@ -1,5 +1,5 @@
 -- A log and the worlds of all images go on together while a store boots and commits.
-use Rattle.std.proofs.Common.{◌≡◌, inr, ℕ, ◌+◌, ◌<◌, ◌^◌, Bool, true, false, List, [], ◌∷◌, refl, sym, ap, subst, Option, None}
+use Rattle.std.proofs.Common.{◌≡◌, inl, inr, ℕ, ◌+◌, ◌<◌, ◌^◌, Bool, true, false, List, [], ◌∷◌, refl, sym, ap, subst, Option, None}
 use Rattle.mdv_shelf.proofs.Everywhere.{last_image}
 use Rattle.mdv_shelf.specs.Tale.{last}
 use Rattle.mdv_shown.proofs.Slots.{OneTable, shows_one}
@@ -7,7 +7,7 @@ use Rattle.mdv_store_law.specs.Log.{IsMade, answered}
 use Rattle.mdv_standing.specs.Below.{Change, Claims, Core, Fills, Geometry, Head, Identity, Image, IsAbove, IsBodyOf, IsChosen, IsImage, IsSpareSlot, Leaves, Log, Mark, Master, MayClaim, MayFill, MayHappen, Seen, Site, SliceLine, Slot, Spot, Table, Tale, WritesLog, Written, after_all, covers, greatest_seen, is_claimed, is_in, is_majority, is_named, is_written, log_after, place_on, spot_on, spots_seen}
 use Rattle.mdv_standing.specs.Adopting.{IsBeginning, IsClaim, IsSlotWrite, drawn}
 use Rattle.mdv_standing.specs.Committing.{IsCommit, MayFollow}
-use Rattle.mdv_standing.specs.Matching.{by_majority_on, is_set, spots_of, voted_table}
+use Rattle.mdv_standing.specs.Matching.{HasStaleVote, by_majority_on, is_set, spots_of, voted_table}
 use Rattle.mdv_standing.specs.Standing.{Covers, CoversWith}
 use Rattle.mdv_standing.specs.Turning.{Begins, IsBootRead, IsBooting, IsNewest, IsOpen, IsPlaceAt, IsWriting}
 use Rattle.mdv_standing.specs.Worlds.{IsReadyWith, IsTaking, IsWorld, MayBeClaimed}
@@ -18,7 +18,8 @@ use Rattle.mdv_standing.proofs.Taking.{answers, slot_taken, slotting}
 
 module _ (Spells : List ℕ → Table → Type 0) (site : Site) (identity : Identity) (log : Log) (t : Tale) where
   -- a boot read: the version is the same whatever a crash leaves
-  module _ (one : OneTable Spells) (seen : List Seen) (s : Seen) (slot : Slot) (mark : Mark) (table : Table) (r : IsBootRead Spells site identity t seen s slot mark table) (covered : Covers Spells site identity log t) where
+  module _ (one : OneTable Spells) (seen : List Seen) (s : Seen) (slot : Slot) (mark : Mark) (table : Table) (r : IsBootRead Spells site identity t seen s slot mark table) (covered : Covers Spells site identity log t)
+      (fair : HasStaleVote site log seen mark → ⊥) where
     pub all_read : IsBooting Spells site identity log t mark table (greatest_seen seen + 1) []
     all_read =
         let here = last t in
@@ -40,7 +41,8 @@ module _ (Spells : List ℕ → Table → Type 0) (site : Site) (identity : Iden
                 to.world,
                 subst (λ (k : Mark). MayBeClaimed k (greatest_seen seen + 1) [] (after_all x.0 to.events)) found.is.marked
                     (draws Spells site identity log (after_all x.0 to.events) image to.world seen to.known s slot v (subst (λ (k : Mark). IsChosen seen s slot k) (sym found.is.marked) r.chosen) found.is.one_of
-                    (subst (λ (u : Table). covers (is_majority (is_in (spots_seen seen))) (spots_of site u.plan.lists) ≡ true) (sym same) r.quorum)),
+                    (subst (λ (u : Table). covers (is_majority (is_in (spots_seen seen))) (spots_of site u.plan.lists) ≡ true) (sym same) r.quorum)
+                    (subst (λ (k : Mark). HasStaleVote site log seen k → ⊥) (sym found.is.marked) fair)),
               );
         }
 
@@ -176,7 +178,7 @@ module _ (Spells : List ℕ → Table → Type 0) (site : Site) (identity : Iden
         newest = n.family;
         named = at.named;
         small = subst (λ (x : Mark). x.count + 1 < 2 ^ 63) (sym n.marked) small;
-        follows = subst (λ (u : Table). MayFollow u.plan.lists next.plan.lists) (sym n.same) lists;
+        follows = inl (subst (λ (u : Table). MayFollow u.plan.lists next.plan.lists) (sym n.same) lists);
         known = known;
       }
 

@@ -3,13 +3,13 @@ use Rattle.std.proofs.Common.{◌≡◌, ℕ, ◌+◌, ◌<◌, ◌^◌, Bool, t
 use Rattle.mdv_shelf.proofs.Everywhere.{last_image}
 use Rattle.mdv_shelf.specs.Tale.{last}
 use Rattle.mdv_store_law.specs.Log.{IsMade}
-use Rattle.mdv_standing.specs.Below.{Change, Claimed, Claims, Core, Everywhere, Filled, Fills, FirstIs, Formatted, Formats, Geometry, Head, Identity, Image, IsAbove, IsBodyOf, IsChosen, IsImage, IsSpareSlot, LeftClosed, Leaves, Lists, Log, Mark, Master, MayClaim, MayFill, MayFormat, MayHappen, Seen, Site, SliceLine, Slot, Slotted, Spot, Table, Tale, Told, Version, WritesLog, Written, after_all, covers, greatest_seen, is_claimed, is_in, is_majority, is_named, is_none, is_written, log_after, master_on, place_on, spot_on, spots_seen}
+use Rattle.mdv_standing.specs.Below.{Change, Claimed, Claims, Core, Everywhere, Filled, Fills, FirstIs, Formatted, Formats, Geometry, Head, Identity, Image, IsAbove, IsBodyOf, IsChosen, IsImage, IsSpareSlot, LeftClosed, Leaves, Lists, Lives, Log, Mark, Master, MayClaim, MayFill, MayFormat, MayHappen, Seen, Site, SliceLine, Slot, Slotted, Spot, Table, Tale, Told, Version, WritesLog, Written, after_all, covers, greatest_seen, is_claimed, is_in, is_majority, is_named, is_none, is_written, log_after, master_on, place_on, spot_on, spots_seen}
 use Rattle.mdv_standing.specs.Adopting.{IsBeginning, IsClaim, IsLook, IsSlotWrite, drawn}
-use Rattle.mdv_standing.specs.Committing.{IsCommit, MayChangeLists, MayFollow}
+use Rattle.mdv_standing.specs.Committing.{IsCommit, MayChangeLists, MayListNext}
 use Rattle.mdv_standing.specs.Creating.{AreAllPlaced, IsCreating, IsFormatting, MayBeFormatted, first_mark, issued_log}
 use Rattle.mdv_standing.specs.Forming.{IsBehind, IsToFormat}
 use Rattle.mdv_standing.specs.Laws.{HasNone}
-use Rattle.mdv_standing.specs.Matching.{by_majority_on, is_set, spots_of, voted_table}
+use Rattle.mdv_standing.specs.Matching.{HasStaleVote, by_majority_on, is_set, spots_of, voted_table}
 use Rattle.mdv_standing.specs.Others.{Anything}
 use Rattle.mdv_standing.specs.Standing.{CoversWith}
 use Rattle.mdv_standing.specs.Tracing.{IsCommitBegin, IsCreationBegin, IsStart, IsVersionWith, Traces}
@@ -26,9 +26,9 @@ use Rattle.mdv_standing.proofs.Tracing.{trace_by, trace_here}
 
 module _ (Spells : List ℕ → Table → Type 0) (site : Site) (identity : Identity) (log : Log) (t : Tale) where
   -- a boot read
-  pub traced_look : (seen : List Seen) (s : Seen) (slot : Slot) (mark : Mark) (table : Table) (v : Version) → IsBootRead Spells site identity t seen s slot mark table → IsVersionWith log mark table v
+  pub traced_look : (seen : List Seen) (s : Seen) (slot : Slot) (mark : Mark) (table : Table) (v : Version) → IsBootRead Spells site identity t seen s slot mark table → IsVersionWith log mark table v → (HasStaleVote site log seen mark → ⊥)
       → Traces Spells site identity log log Anything (IsLook (spots_seen seen)) (MayBeClaimed mark (greatest_seen seen + 1) []) t t
-  traced_look seen s slot mark table v r a =
+  traced_look seen s slot mark table v r a fair =
       trace_here Spells site identity log log Anything (IsLook (spots_seen seen)) (MayBeClaimed mark (greatest_seen seen + 1) []) t (λ w image is world known.
       let to = looks Spells site identity log w image world seen (r.own image is) in
       record {
@@ -38,7 +38,8 @@ module _ (Spells : List ℕ → Table → Type 0) (site : Site) (identity : Iden
         world = to.world;
         known = subst (λ (n : Mark). MayBeClaimed n (greatest_seen seen + 1) [] (after_all w to.events)) a.is.marked
             (draws Spells site identity log (after_all w to.events) image to.world seen to.known s slot v (subst (λ (n : Mark). IsChosen seen s slot n) (sym a.is.marked) r.chosen) a.is.one_of
-            (subst (λ (u : Table). covers (is_majority (is_in (spots_seen seen))) (spots_of site u.plan.lists) ≡ true) (sym a.same) r.quorum));
+            (subst (λ (u : Table). covers (is_majority (is_in (spots_seen seen))) (spots_of site u.plan.lists) ≡ true) (sym a.same) r.quorum)
+            (subst (λ (n : Mark). HasStaleVote site log seen n → ⊥) (sym a.is.marked) fair));
       })
 
   module _ (line : SliceLine) (k : ℕ) (first : Master) (head : Head) (mark : Mark) (table : Table) where
@@ -128,7 +129,8 @@ module _ (Spells : List ℕ → Table → Type 0) (site : Site) (identity : Iden
           (subst (λ (x : Mark). Fills (place_on line first.blocks first.count k) slot x bytes body old new) (sym n.marked) fills)))
 
     -- a change's table begins to be written
-    module _ (next : Table) (asked : Option Change) (took : List Spot) (at : IsPlaceAt Spells site identity t next line k first head) (lists : MayFollow table.plan.lists next.plan.lists) (small : mark.count + 1 < 2 ^ 63) (n : IsNewest log mark table) where
+    module _ (next : Table) (asked : Option Change) (took : List Spot) (at : IsPlaceAt Spells site identity t next line k first head) (n : IsNewest log mark table)
+        (lists : Everywhere (MayListNext Spells site identity n.version next) t) (small : mark.count + 1 < 2 ^ 63) where
       commit : (w : Core) (image : Image) → IsImage t image → IsWorld Spells site identity log w image → IsReadyWith took w → IsCommit Spells site identity log w image p n.version next took
       commit w image is world known = record {
         world = world;
@@ -137,7 +139,7 @@ module _ (Spells : List ℕ → Table → Type 0) (site : Site) (identity : Iden
         newest = n.family;
         named = at.named;
         small = subst (λ (x : Mark). x.count + 1 < 2 ^ 63) (sym n.marked) small;
-        follows = subst (λ (u : Table). MayFollow u.plan.lists next.plan.lists) (sym n.same) lists;
+        follows = lists image is;
         known = known;
       }
 
@@ -176,8 +178,8 @@ module _ (Spells : List ℕ → Table → Type 0) (site : Site) (identity : Iden
 
   -- A creation.
   module _ (none : Everywhere (λ image. HasNone Spells site identity image) t) where
-    pub none_started : log.family ≡ [] → CoversWith Spells site identity (λ image w. IsStart site w) log t
-    none_started empty image is = (_, world_none Spells site identity log empty image (none image is), refl)
+    pub none_started : log.family ≡ [] → log.fate ≡ Lives → CoversWith Spells site identity (λ image w. IsStart site w) log t
+    none_started empty lives image is = (_, world_none Spells site identity log empty lives image (none image is), refl)
 
     pub traced_creation : (lists : Lists) → Traces Spells site identity log (issued_log identity) (IsStart site) (IsCreationBegin (spots_of site lists)) (IsCreating (spots_of site lists) []) t t
     traced_creation lists =
@@ -186,8 +188,8 @@ module _ (Spells : List ℕ → Table → Type 0) (site : Site) (identity : Iden
         (creating.begins Spells site identity image (none image is) lists))
 
   -- something is done, and none is found still
-  pub traced_clearing : (Change : Image → Image → Type 0) (m : Tale) → log.family ≡ [] → Everywhere (λ image. HasNone Spells site identity image) m → Leaves Change t m → Traces Spells site identity log log (IsStart site) (λ es. es ≡ []) (IsStart site) t m
-  traced_clearing Change m empty none leaves new is =
+  pub traced_clearing : (Change : Image → Image → Type 0) (m : Tale) → log.family ≡ [] → log.fate ≡ Lives → Everywhere (λ image. HasNone Spells site identity image) m → Leaves Change t m → Traces Spells site identity log log (IsStart site) (λ es. es ≡ []) (IsStart site) t m
+  traced_clearing Change m empty lives none leaves new is =
       let from = leaves new is in (
         from.0,
         from.1,
@@ -195,7 +197,7 @@ module _ (Spells : List ℕ → Table → Type 0) (site : Site) (identity : Iden
           events = [];
           are = refl;
           may = tt;
-          world = subst (λ (v : Core). IsWorld Spells site identity log v new) (sym known) (world_none Spells site identity log empty new (none new is));
+          world = subst (λ (v : Core). IsWorld Spells site identity log v new) (sym known) (world_none Spells site identity log empty lives new (none new is));
           known = known;
         },
       )

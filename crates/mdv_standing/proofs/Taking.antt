@@ -1,5 +1,5 @@
 -- The last table is taken by places, until enough of them have it.
-use Rattle.std.proofs.Common.{◌≡◌, inl, inr, ⊎_elim, ℕ, ◌+◌, ◌-◌, ◌<◌, Bool, true, false, List, [], ◌∷◌, ◌++◌, length, refl, sym, ◌∙◌, ap, subst, Option, None, Some, arith}
+use Rattle.std.proofs.Common.{◌≡◌, inl, inr, ⊎_elim, ℕ, ◌+◌, ◌-◌, ◌<◌, ◌≤◌, Bool, true, false, List, [], ◌∷◌, ◌++◌, length, refl, sym, ◌∙◌, ap, subst, Contains, Option, None, Some, arith}
 use Rattle.std.proofs.lemmas.Bool.{and_from, false≢true, or_cases, or_right}
 use Rattle.mdv_votes.specs.Family.{put_at, with_newest}
 use Rattle.mdv_votes.specs.Quorum.{is_written_list}
@@ -7,20 +7,22 @@ use Rattle.mdv_votes.specs.Spots.{same_spot}
 use Rattle.mdv_votes.specs.declared.version.SpotState.{SpotState}
 use Rattle.mdv_votes.proofs.Growing.{writes_grow}
 use Rattle.mdv_votes.proofs.PlacesAt.{put_cases}
+use Rattle.mdv_table.specs.Plan.{places_of}
 use Rattle.mdv_quorum.specs.May.{IsReady, may, may_slot, may_tell}
-use Rattle.mdv_quorum.specs.Standing.{IsLastFirm, Standing}
+use Rattle.mdv_quorum.specs.Standing.{ArePlaced, IsLastFirm, Standing}
 use Rattle.mdv_quorum.specs.World.{happens, settled, slotted, told_at, told_of}
 use Rattle.mdv_replica.specs.Images.{filled as is_filled}
 use Rattle.mdv_shown.proofs.Worlds.{slot_ends, slot_goes}
 use Rattle.mdv_standing.specs.Below.{Identity, Mark, SliceLine, Master, Head, Slot, Site, place_on, spot_on, IsAbove, IsBodyOf, IsSpareSlot, Fills, MayFill, Image, Core, Stage, Writing, Ready, Slotted, Told, Filled, Log, Version, Written, log_after, Table, FamilyTable, Spot, SpotLists, covers, is_in, is_named, is_written, last_list, last_number, last_table, place_at, table_at, Shows}
 use Rattle.mdv_standing.specs.Listed.{HavePlaces}
-use Rattle.mdv_standing.specs.Matching.{Matches, lists_of, spots_of, tables_of, version_at}
+use Rattle.mdv_standing.specs.Matching.{Matches, lists_of, spot_floor, spots_of, tables_of, version_at}
 use Rattle.mdv_standing.specs.Worlds.{IsWorld, Turned, IsNoneOr, HasLast, IsTaking, IsReadyWith}
 use Rattle.mdv_standing.specs.Adopting.{IsSlotWrite, IsTaken}
 use Rattle.mdv_standing.proofs.Listed.{own_found, past_reading, places_answered, places_still, slot_still}
+use Rattle.mdv_standing.proofs.Since.{answered_not_behind}
 use Rattle.mdv_standing.proofs.Versions.{answered_length, answered_same, version_newest}
 use Rattle.mdv_standing.proofs.Reaching.{reached_more, standing, tables_agree}
-use Rattle.mdv_standing.proofs.Following.{floor_put, matches_follow, one_more, settled_family, settled_follows, settled_place, settled_stage, since_put}
+use Rattle.mdv_standing.proofs.Following.{floor_put, matches_follow, one_more, settled_family, settled_follows, settled_place, settled_stage, since_put, steady_last}
 
 -- the last table of a world is the log's newest version
 module _ (site : Site) (log : Log) (w : Core) (m : Matches site log w) (v : Version) (older : List Version) (newest : log.family ≡ v ∷ older) where
@@ -70,15 +72,19 @@ module _ (Spells : List ℕ → Table → Type 0) (site : Site) (identity : Iden
     set = refl;
     family = refl;
     changes = refl;
-    floors = λ q. floor_put w.places p q (with_newest (last_number w)) (λ x. refl) (λ x. refl);
+    floors = λ q. subst (λ (f : ℕ). f ≤ spot_floor site log q) (sym (floor_put w.places p q (with_newest (last_number w)) (λ x. refl) (λ x. refl))) (s.world.matches.reused q);
     deleted = refl;
     firm = λ f e. (f, e, omega arith);
     dropped = λ q i e. s.world.matches.dropped q i (sym (since_put w.places p q (with_newest (last_number w)) (λ x. refl) (λ x. refl)) ∙ e);
+    steady = s.world.matches.steady;
   }) s.world.matches
+
+  taken_placed : ArePlaced taken_by
+  taken_placed q e = (standing site w s.world.reached).placed q (sym (since_put w.places p q (with_newest (last_number w)) (λ x. refl) (λ x. refl)) ∙ e)
 
   settled_matches : Matches site log (settled taken_by (last_table w) suffices)
   settled_matches = matches_follow site log taken_by (settled taken_by (last_table w) suffices)
-      (settled_follows site log taken_by suffices taken_matches (some_table site log w s.world.matches v s.older s.newest) (standing site w s.world.reached).descent.known) taken_matches
+      (settled_follows site log taken_by taken_matches (some_table site log w s.world.matches v s.older s.newest) (standing site w s.world.reached).descent.known taken_placed suffices) taken_matches
 
   -- a place that took the table has it as its newest
   took_last : (q : Spot) → is_in (p ∷ took) q ≡ true → HasLast taken_by q
@@ -128,7 +134,7 @@ module _ (Spells : List ℕ → Table → Type 0) (site : Site) (identity : Iden
   listed new slot change =
       places_still Spells site identity log old new
       (slot_still Spells site identity old new s.site_is line k first head (own_found Spells site identity line k old first head s.own) slot v.mark bytes body s.body_is.is change)
-      (⊎_elim (λ have. have) (λ none. absurd (past_reading w (Writing known.boot known.all) known.stage (λ read same. cc (same)) none)) s.world.listed)
+      (⊎_elim (λ have. have) (λ none. absurd (past_reading site w s.world.reached (Writing known.boot known.all) known.stage (λ read same. cc (same)) none)) s.world.listed)
 
   world_taken : (new : Image) → HavePlaces Spells site identity log new → Shows Spells site identity (tables_of log.family) (happens w (Slotted p Filled)) new → IsWorld Spells site identity log (happens w (Slotted p Filled)) new
   world_taken new have shows = record {
@@ -174,7 +180,7 @@ matches_answered site log w m firm = record {
   each = λ i known.
       let was = m.each i known in
       let same = answered_same log.family i (subst (λ (n : ℕ). i < n) m.as_many known) in
-      record { mark = was.mark ∙ sym same.mark; lists = was.lists ∙ ap (λ (t : Table). spots_of site t.plan.lists) (sym same.table); some = was.some; changes = same.changes ∙ was.changes; numbered = was.numbered };
+      record { mark = was.mark ∙ sym same.mark; lists = was.lists ∙ ap (λ (t : Table). spots_of site t.plan.lists) (sym same.table); some = was.some; changes = same.changes ∙ was.changes; numbered = was.numbered; lie = λ place listed. was.lie place (subst (λ (t : Table). Contains (places_of t.plan.lists) place) same.table listed) };
   answered = λ i known written. (last_number w, firm, omega (arith, known));
   dropped = λ p i e.
       let was = m.dropped p i e in
@@ -182,9 +188,12 @@ matches_answered site log w m firm = record {
       record {
         known = subst (λ (n : ℕ). i < n) (sym (answered_length log.family)) was.known;
         lacks = subst (λ (t : Table). is_in (last_list (spots_of site t.plan.lists)) p ≡ false) (sym same.table) was.lacks;
+        by = answered_not_behind site p log.family i was.known was.by;
       };
+  steady = steady_last site (log_after log Written) w firm;
   reused = m.reused;
   there = m.there;
+  gone = m.gone;
 }
 
 module _ (Spells : List ℕ → Table → Type 0) (site : Site) (identity : Identity) (log : Log) (w : Core) (image : Image) (v : Version) (by_majority : Bool) (took : List Spot)
@@ -214,19 +223,19 @@ module _ (Spells : List ℕ → Table → Type 0) (site : Site) (identity : Iden
   told_is : (boot : Option ℕ) → IsTold (told_of w boot)
   told_is None = record {
     stage = refl;
-    matches = λ firm. (let m = matches_answered site log w t.world.matches firm in record { kind = m.kind; book = m.book; as_many = m.as_many; each = m.each; answered = m.answered; dropped = m.dropped; reused = m.reused; there = m.there });
+    matches = λ firm. (let m = matches_answered site log w t.world.matches firm in record { kind = m.kind; book = m.book; as_many = m.as_many; each = m.each; answered = m.answered; dropped = m.dropped; steady = m.steady; reused = m.reused; there = m.there; gone = m.gone });
     shows = record { each = shows_answered.each; only = shows_answered.only; seats = shows_answered.seats };
     taken = λ p e. (let was = t.known.taken p e in record { holds = was.holds; newest = was.newest });
   }
   told_is (Some i) = record {
     stage = refl;
-    matches = λ firm. (let m = matches_answered site log w t.world.matches firm in record { kind = m.kind; book = m.book; as_many = m.as_many; each = m.each; answered = m.answered; dropped = m.dropped; reused = m.reused; there = m.there });
+    matches = λ firm. (let m = matches_answered site log w t.world.matches firm in record { kind = m.kind; book = m.book; as_many = m.as_many; each = m.each; answered = m.answered; dropped = m.dropped; steady = m.steady; reused = m.reused; there = m.there; gone = m.gone });
     shows = record { each = shows_answered.each; only = shows_answered.only; seats = shows_answered.seats };
     taken = λ p e. (let was = t.known.taken p e in record { holds = was.holds; newest = was.newest });
   }
 
   have : HavePlaces Spells site identity log image
-  have = ⊎_elim (λ places. places) (λ none. absurd (past_reading w (Writing t.known.boot t.known.all) t.known.stage (λ read same. cc (same)) none)) t.world.listed
+  have = ⊎_elim (λ places. places) (λ none. absurd (past_reading site w t.world.reached (Writing t.known.boot t.known.all) t.known.stage (λ read same. cc (same)) none)) t.world.listed
 
   is_told : IsTold (happens w Told)
   is_told = subst IsTold (sym told_by) (told_is t.known.boot)
@@ -241,5 +250,5 @@ module _ (Spells : List ℕ → Table → Type 0) (site : Site) (identity : Iden
         are = refl;
         may = (enough_took, tt);
         world = record { reached = reached; matches = is_told.matches firm.1; shows = is_told.shows; listed = inl (places_answered Spells site identity log image have) };
-        known = record { stage = is_told.stage; taken = is_told.taken };
+        known = record { in_hand = None; stage = is_told.stage; taken = is_told.taken };
       }

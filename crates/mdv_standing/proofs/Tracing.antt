@@ -71,7 +71,7 @@ fewer_taking by_majority mark took fewer w within t =
     record { boot = t.boot; all = t.all; stage = t.stage; marked = t.marked; kind = t.kind; within = λ q e. t.within q (within q e); taken = λ q e. t.taken q (within q e) }
 
 pub fewer_ready : (took fewer : List Spot) (w : Core) → IsWithin (is_in fewer) (is_in took) → IsReadyWith took w → IsReadyWith fewer w
-fewer_ready took fewer w within r = record { stage = r.stage; taken = λ q e. r.taken q (within q e) }
+fewer_ready took fewer w within r = record { in_hand = r.in_hand; stage = r.stage; taken = λ q e. r.taken q (within q e) }
 
 -- The newest version of a log behind an event.
 pub newest_begun : (log : Log) (mark : Mark) (asked : Option Change) (before : List Change) (table : Table) → IsNewest (log_after log (WritesLog mark asked before table)) mark table

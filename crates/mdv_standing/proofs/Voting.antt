@@ -1,13 +1,14 @@
 -- What the votes say of a boot that chose a version of the log.
-use Rattle.std.proofs.Common.{◌≡◌, inl, inr, ℕ, ◌<◌, ◌&&◌, true, List, [], ◌∷◌, length, refl, sym, ◌∙◌, ap, subst, not, All, Contains, arith}
-use Rattle.std.proofs.lemmas.Bool.{and_from, and_parts, cases_lt, false_from_ne_true, ltb-true, not_from_false}
+use Rattle.std.proofs.Common.{◌≡◌, inl, inr, ℕ, suc, ◌<◌, ◌&&◌, true, List, [], ◌∷◌, length, refl, sym, ◌∙◌, ap, subst, not, All, Contains, Option, None, Some, arith}
+use Rattle.std.proofs.lemmas.Bool.{and_from, and_parts, cases_lt, false≢true, false_from_ne_true, ltb-true, not_from_false}
 use Rattle.std.proofs.lemmas.List.Elements.{Contains-get_or}
 use Rattle.std.specs.Prelude.{nat_lt, slice_index_or}
 use Rattle.mdv_quorum.specs.May.{is_fair, is_stale_vote, shows_none}
 use Rattle.mdv_quorum.specs.Standing.{BootsAt, Standing}
+use Rattle.mdv_shown.proofs.Choice.{shows_nothing}
 use Rattle.mdv_shown.proofs.Slots.{never_below}
-use Rattle.mdv_standing.specs.Below.{IsBelow, Mark, Site, Core, Claiming, Log, Version, Spot, is_named, place_at, table_at}
-use Rattle.mdv_standing.specs.Matching.{Matches, Reached, lists_of, version_at}
+use Rattle.mdv_standing.specs.Below.{Again, Claiming, Core, HaveRead, Identity, Image, IsBelow, Log, Mark, Seen, Site, Spot, SpotLists, Table, Version, is_named, place_at, spot_seen, spots_seen, table_at}
+use Rattle.mdv_standing.specs.Matching.{HasStaleVote, Matches, Reached, floor_among, lists_of, spot_floor, tables_of, version_at}
 use Rattle.mdv_standing.specs.Worlds.{HasClaimed}
 use Rattle.mdv_standing.proofs.Versions.{has_version}
 use Rattle.mdv_standing.proofs.Reaching.{same_number, standing}
@@ -15,15 +16,48 @@ use Rattle.mdv_standing.proofs.Reaching.{same_number, standing}
 pub all_that : (P : Version → Type 0) (xs : List Version) → ((x : Version) → Contains xs x → P x) → All P xs
 all_that P xs each k d lt = each (slice_index_or xs k d) (Contains-get_or xs k d lt)
 
--- where no place was formatted again, no vote is stale
-pub none_stale : (w : Core) (i : ℕ) (places : List Spot) → ((p : Spot) → (place_at w.places p).floor ≡ 0) → is_fair w i places ≡ true
-none_stale w i [] reused = refl
-none_stale w i (q ∷ qs) reused =
-    let stale = is_stale_vote w i q in
-    let below : nat_lt i (place_at w.places q).floor ≡ true → ⊥ = λ e. (let h = ltb-true i (place_at w.places q).floor e in let none = reused q in absurd (omega (arith, h, none))) in
-    let never : stale ≡ true → ⊥ = λ e. below (and_parts (shows_none (place_at w.places q).newest) (nat_lt i (place_at w.places q).floor)
-    (and_parts (is_named (table_at w.family i).lists q) (shows_none (place_at w.places q).newest && nat_lt i (place_at w.places q).floor) e).1).1 in
-    and_from (not stale) (is_fair w i qs) (not_from_false stale (false_from_ne_true stale never)) (none_stale w i qs reused)
+-- what was read has no stale vote for this table, as the log knows places that were formatted again
+pub is_fair_in : (Spells : List ℕ → Table → Type 0) (site : Site) (identity : Identity) (log : Log) (w : Core) (image : Image) → Matches site log w → (seen : List Seen)
+    → HaveRead Spells site identity (tables_of log.family) w image seen → (i : ℕ) (mark : Mark) → i < length w.family → (table_at w.family i).mark ≡ mark → (HasStaleVote site log seen mark → ⊥)
+    → is_fair w i (spots_seen seen) ≡ true
+is_fair_in Spells site identity log w image m seen r i mark known marked never = all seen (λ s has. has)
+  where
+    is_stale : (s : Seen) → Contains seen s → is_stale_vote w i (spot_seen s) ≡ true → ⊥
+    is_stale s has e =
+        let q = spot_seen s in
+        let none = shows_none (place_at w.places q).newest in
+        let low = nat_lt i (place_at w.places q).floor in
+        let one = and_parts (is_named (table_at w.family i).lists q) (none && low) e in
+        let two = and_parts none low one.1 in
+        let below = ltb-true i (place_at w.places q).floor two.1 in
+        let floor = m.reused q in
+        never (record {
+          version = i;
+          marked = sym (m.each i known).mark ∙ marked;
+          replica = s;
+          one_of = has;
+          named = subst (λ (l : SpotLists). is_named l q ≡ true) (m.each i known).lists one.0;
+          empty = shows_nothing Spells site identity (tables_of log.family) w image seen r s has (is_none_at (place_at w.places q).newest two.0);
+          later = omega (arith, below, floor);
+        })
+      where
+        is_none_at : (o : Option ℕ) → shows_none o ≡ true → o ≡ None
+        is_none_at None shown = refl
+        is_none_at (Some j) shown = absurd (false≢true shown)
+
+    all : (some : List Seen) → ((s : Seen) → Contains some s → Contains seen s) → is_fair w i (spots_seen some) ≡ true
+    all [] among = refl
+    all (s ∷ some) among =
+        let stale = is_stale_vote w i (spot_seen s) in
+        and_from (not stale) (is_fair w i (spots_seen some)) (not_from_false stale (false_from_ne_true stale (is_stale s (among s (0, omega arith, refl)))))
+        (all some (λ x has. among x (suc has.0, omega (arith, has.1), has.2)))
+
+-- where no place was formatted again there is none
+pub none_stale : (site : Site) (log : Log) (seen : List Seen) (mark : Mark) → log.again ≡ [] → HasStaleVote site log seen mark → ⊥
+none_stale site log seen mark none stale =
+    let floor : spot_floor site log (spot_seen stale.replica) ≡ 0 = ap (λ (again : List Again). floor_among site again (spot_seen stale.replica)) none in
+    let later = stale.later in
+    absurd (omega (arith, later, floor))
 
 module _ (site : Site) (log : Log) (w : Core) (reached : Reached site w) (m : Matches site log w) where
   stands : Standing w

@@ -2,7 +2,7 @@
 use Rattle.std.specs.Prelude.{◌≡◌, ◌⊎◌, ℕ, ◌+◌, ◌<◌, ◌^◌, Bool, false, List, [], ◌∷◌, ◌++◌, map, Option, None, Contains, IsTrue}
 use Rattle.mdv_store_law.specs.Machine.{AreAll}
 use Rattle.mdv_standing.specs.Below.{Identity, Mark, Geometry, SliceLine, Master, Head, Slot, Seen, HaveRead, IsChosen, greatest_seen, spots_seen, IsOwn, IsOwnAt, IsSite, Site, SlotShows, place_on, spot_on, Reads, IsAbove, IsBodyOf, IsSpareSlot, Claims, Fills, MayClaim, MayFill, Image, Core, Event, Back, Claimed, Crash, Lose, Read, Slotted, Told, LeftClosed, Filled, Log, MayHappen, Version, WritesLog, Written, log_after, Table, Spot, covers, is_claimed, is_in, is_majority, is_named, is_written}
-use Rattle.mdv_standing.specs.Matching.{by_majority_of, is_set, lists_of, tables_of, voted_of}
+use Rattle.mdv_standing.specs.Matching.{HasStaleVote, by_majority_of, is_set, lists_of, tables_of, voted_of}
 use Rattle.mdv_standing.specs.Worlds.{IsWorld, Turned, IsNoneOr, MayBeClaimed, IsTaking, IsReadyWith}
 
 -- drives are lost or back
@@ -85,10 +85,10 @@ pub record AdoptionsGo : Type 0 where
   pub finds : (read : List ℕ → Option Table) (site : Site) (identity : Identity) (log : Log) (w : Core) (image : Image) (seen : List Seen) (s : Seen) (slot : Slot) (mark : Mark)
       → IsWorld (Reads read) site identity log w image → HaveRead (Reads read) site identity (tables_of log.family) w image seen → IsChosen seen s slot mark
       → IsFoundVersion (Reads read) log image s slot mark
-  -- where more than half of each of its lists was read, the boot may draw the next number for it
+  -- where more than half of each of its lists was read, and no stale vote for it, the boot may draw the next number for it
   pub draws : (read : List ℕ → Option Table) (site : Site) (identity : Identity) (log : Log) (w : Core) (image : Image) (seen : List Seen) (s : Seen) (slot : Slot) (v : Version)
       → IsWorld (Reads read) site identity log w image → HaveRead (Reads read) site identity (tables_of log.family) w image seen → IsChosen seen s slot v.mark → Contains log.family v
-      → IsTrue (covers (is_majority (is_in (spots_seen seen))) (lists_of site v)) → MayBeClaimed v.mark (greatest_seen seen + 1) [] w
+      → IsTrue (covers (is_majority (is_in (spots_seen seen))) (lists_of site v)) → (HasStaleVote site log seen v.mark → ⊥) → MayBeClaimed v.mark (greatest_seen seen + 1) [] w
   -- while a claim is written
   pub claiming : (read : List ℕ → Option Table) (site : Site) (identity : Identity) (log : Log) (w : Core) (old new : Image) (line : SliceLine) (k : ℕ) (first : Master) (head : Head) (v : Version) (number : ℕ) (ok : List Spot)
       → IsClaim (Reads read) site identity log w old line k first head v number ok → MayClaim (place_on line first.blocks first.count k) number old new

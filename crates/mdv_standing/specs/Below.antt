@@ -10,7 +10,7 @@ pub use Rattle.mdv_name.specs.SliceIndex.{slice_at}
 pub use Rattle.mdv_name.specs.declared.geometry.Geometry.{Geometry}
 pub use Rattle.mdv_name.specs.declared.slice_lines.SliceAt.{SliceAt}
 pub use Rattle.mdv_name.specs.declared.slice_lines.SliceLine.{SliceLine}
-pub use Rattle.mdv_quorum.specs.May.{MayAll}
+pub use Rattle.mdv_quorum.specs.May.{MayAll, is_fair}
 pub use Rattle.mdv_quorum.specs.World.{after_all, last_table, start}
 pub use Rattle.mdv_quorum.specs.declared.event.Event.{Event}
 pub use Rattle.mdv_quorum.specs.declared.event.Event.TheVariants.{Back, Claimed, Crash, Formatted, Lists as NextLists, Lose, Read, Slotted, Told}
@@ -38,17 +38,18 @@ pub use Rattle.mdv_shown.specs.Site.{IsSite, place_on, site_area, spot_on}
 pub use Rattle.mdv_shown.specs.Wipes.{FirstIs, HasFirst}
 pub use Rattle.mdv_shown.specs.declared.site.Site.{Site}
 pub use Rattle.mdv_shown.specs.Steps.{IsAbove, IsBodyOf, last_number}
-pub use Rattle.mdv_store_law.specs.Log.{Log, MayHappen, Version, Writing as WritesLog, Written, log_after}
+pub use Rattle.mdv_store_law.specs.Log.{Again, Ends, Lives, Log, MayHappen, Over, Version, Writing as WritesLog, Written, log_after}
 pub use Rattle.mdv_table.specs.Plan.{last_of}
 pub use Rattle.mdv_table.specs.declared.change.Change.{Change}
 pub use Rattle.mdv_table.specs.declared.plan.Lists.{Lists}
 pub use Rattle.mdv_table.specs.declared.plan.Lists.TheVariants.{One, Two}
 pub use Rattle.mdv_table.specs.declared.table.Table.{Table}
-pub use Rattle.mdv_votes.specs.Family.{greatest_of, knows_above, newest_of, no_table, place_at, table_at}
+pub use Rattle.mdv_votes.specs.Family.{greatest_of, knows_above, newest_of, no_table, place_at, raised, since_after, table_at}
 pub use Rattle.mdv_votes.specs.Laws.{IsWithin}
 pub use Rattle.mdv_votes.specs.Quorum.{is_claimed, is_read, is_written}
-pub use Rattle.mdv_votes.specs.Spots.{covers, is_half, is_in, is_majority, is_named, is_none, last_list}
+pub use Rattle.mdv_votes.specs.Spots.{covers, is_half, is_in, is_majority, is_named, is_none, last_list, same_spot}
 pub use Rattle.mdv_votes.specs.declared.spot.Spot.{Spot}
 pub use Rattle.mdv_votes.specs.declared.spot.SpotLists.{SpotLists}
-pub use Rattle.mdv_votes.specs.declared.version.Since.TheVariants.{Dropped}
+pub use Rattle.mdv_votes.specs.declared.version.Since.{Since}
+pub use Rattle.mdv_votes.specs.declared.version.Since.TheVariants.{Dropped, Listed, Never}
 pub use Rattle.mdv_votes.specs.declared.version.Version.{Version as FamilyTable}

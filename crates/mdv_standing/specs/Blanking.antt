@@ -7,7 +7,7 @@ use Rattle.mdv_replica.specs.Images.{Wipes}
 use Rattle.mdv_replica.specs.Replica.{LiesAt}
 use Rattle.mdv_shown.specs.Site.{line_area, size_on}
 use Rattle.mdv_shown.specs.Sites.{site_of}
-use Rattle.mdv_standing.specs.Below.{AreApart, Everywhere, FirstIs, Geometry, HasFirst, Identity, Image, IsFormat, IsSite, Key, Leaves, Master, MayFormat, MayWipe, PlaceAt, Reads, Site, SliceLine, Table, Tale, master_on, place_on}
+use Rattle.mdv_standing.specs.Below.{Lives, AreApart, Everywhere, FirstIs, Geometry, HasFirst, Identity, Image, IsFormat, IsSite, Key, Leaves, Master, MayFormat, MayWipe, PlaceAt, Reads, Site, SliceLine, Table, Tale, master_on, place_on}
 use Rattle.mdv_standing.specs.Databases.{Database}
 use Rattle.mdv_standing.specs.Holding.{AllStand}
 use Rattle.mdv_standing.specs.Laws.{HasNone}
@@ -51,7 +51,7 @@ pub record ClearsTurn : Type 0 where
   -- a place of whatever slice is blanked, which leaves the slice without one
   pub still : (site : Site) (t m : Tale) (line : SliceLine) (at : PlaceAt) → HasNoFirst site line t → Leaves (MayWipe at) t m → HasNoFirst site line m
   -- meanwhile all databases stand, one of which is that of the creation, without a table
-  pub stands : (read : List ℕ → Option Table) (g : Geometry) (all : List Database) (d : Database) (lines : List SliceLine) (t : Tale) → Contains all d → d.log.family ≡ [] → MayClear (Reads read) g all d.key d.identity lines t
+  pub stands : (read : List ℕ → Option Table) (g : Geometry) (all : List Database) (d : Database) (lines : List SliceLine) (t : Tale) → Contains all d → d.log.family ≡ [] → d.log.fate ≡ Lives → MayClear (Reads read) g all d.key d.identity lines t
       → AllStand (Reads read) g all t
 
 -- What was blanked is blank where a format starts from it, and the rest may be taken.

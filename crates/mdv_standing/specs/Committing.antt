@@ -1,7 +1,8 @@
 -- How a database's worlds and its log go on while a change of its table begins to be written.
-use Rattle.std.specs.Prelude.{◌≡◌, ◌⊎◌, ℕ, ◌+◌, ◌<◌, ◌^◌, true, false, List, [], ◌∷◌, Option, IsTrue}
+use Rattle.std.specs.Prelude.{◌≡◌, ◌⊎◌, ℕ, ◌+◌, ◌<◌, ◌^◌, true, false, List, [], ◌∷◌, Option, Contains, IsTrue}
 use Rattle.mdv_store_law.specs.Log.{IsMade}
-use Rattle.mdv_standing.specs.Below.{Change, Core, Geometry, Identity, Image, IsOwnAt, LeftClosed, Lists, Log, Mark, MayHappen, NextLists, One, Reads, Site, Slotted, Spot, Table, Version, WritesLog, is_named, last_of, log_after}
+use Rattle.mdv_standing.specs.Below.{Change, Core, Geometry, Identity, Image, IsOwnAt, LeftClosed, Lists, Log, Mark, MayHappen, NextLists, One, Place, Two, Reads, Site, Slotted, Spot, Table, Version, WritesLog, is_named, last_of, log_after}
+use Rattle.mdv_standing.specs.Listed.{HasPlace}
 use Rattle.mdv_standing.specs.Matching.{spots_of}
 use Rattle.mdv_standing.specs.Worlds.{IsReadyWith, IsTaking, IsWorld, Turned}
 
@@ -12,11 +13,23 @@ next_mark v = record v.mark { count = v.mark.count + 1 }
 abbrev pub MayFollow : Lists → Lists → Type 0
 MayFollow was next = (next ≡ was) ⊎ (next ≡ One (last_of was))
 
+-- a second list comes beside the only one, and the image has its places
+pub record IsSecond (Spells : List ℕ → Table → Type 0) (site : Site) (identity : Identity) (was next : Lists) (image : Image) : Type 0 where
+  pub old : List Place
+  pub new : List Place
+  pub one : was ≡ One old
+  pub two : next ≡ Two old new
+  pub have : (place : Place) → Contains new place → HasPlace Spells site identity image place
+
+-- the lists may follow those of this version, or a second one comes, whose write was answered
+abbrev pub MayListNext : (List ℕ → Table → Type 0) → Site → Identity → Version → Table → Image → Type 0
+MayListNext Spells site identity v next image = MayFollow v.table.plan.lists next.plan.lists ⊎ ((v.is_written ≡ true) × IsSecond Spells site identity v.table.plan.lists next.plan.lists image)
+
 -- they change only once the write of that version was answered
 abbrev pub MayChangeLists : Version → Table → Type 0
 MayChangeLists v next = (next.plan.lists ≡ v.table.plan.lists) ⊎ (v.is_written ≡ true)
 
--- The next table is to be written, with lists that may follow those of the newest one, first at this place. Nothing is in work.
+-- The next table is to be written, with lists that may come behind those of the newest one, first at this place. Nothing is in work.
 pub record IsCommit (Spells : List ℕ → Table → Type 0) (site : Site) (identity : Identity) (log : Log) (w : Core) (image : Image) (p : Spot) (v : Version) (table : Table) (took : List Spot) : Type 0 where
   pub world : IsWorld Spells site identity log w image
   pub own : IsOwnAt Spells site identity image p
@@ -24,7 +37,7 @@ pub record IsCommit (Spells : List ℕ → Table → Type 0) (site : Site) (iden
   pub newest : log.family ≡ v ∷ older
   pub named : IsTrue (is_named (spots_of site table.plan.lists) p)
   pub small : v.mark.count + 1 < 2 ^ 63
-  pub follows : MayFollow v.table.plan.lists table.plan.lists
+  pub follows : MayListNext Spells site identity v table image
   pub known : IsReadyWith took w
 
 -- From then on slots take the table, and it is answered, as a boot's does.

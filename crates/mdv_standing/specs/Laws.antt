@@ -2,8 +2,8 @@
 use Rattle.std.specs.Prelude.{◌≡◌, ℕ, ◌+◌, ◌<◌, ◌^◌, false, List, Option, Some, None, All, Contains, IsTrue}
 use Rattle.mdv_store_law.specs.Laws.{restarted}
 use Rattle.mdv_store_law.specs.Log.{AreMade, Extends, IsLog, IsNotOlder, empty_log}
-use Rattle.mdv_standing.specs.Below.{Area, AreApart, Change, Core, Geometry, HaveRead, Head, Identity, Image, IsChosen, IsImage, IsOwn, IsSite, KeptOutside, Log, Master, Reads, Seen, Site, SliceLine, Slot, Table, Tale, Version, covers, greatest_seen, is_in, is_majority, shows, site_area, spots_seen}
-use Rattle.mdv_standing.specs.Matching.{lists_of, tables_of}
+use Rattle.mdv_standing.specs.Below.{Area, AreApart, Change, Core, Geometry, HaveRead, Head, Identity, Image, IsChosen, IsImage, IsOwn, IsSite, KeptOutside, Lives, Log, Master, Reads, Seen, Site, SliceLine, Slot, Table, Tale, Version, covers, greatest_seen, is_in, is_majority, shows, site_area, spots_seen}
+use Rattle.mdv_standing.specs.Matching.{HasStaleVote, lists_of, tables_of}
 use Rattle.mdv_standing.specs.Worlds.{IsWorld}
 use Rattle.mdv_standing.specs.Standing.{Covers, Stands}
 
@@ -36,20 +36,20 @@ pub record FoundHolds (g : Geometry) (log : Log) (v : Version) (number : ℕ) : 
   pub not_older : IsNotOlder v.mark log.family
   pub below : All (λ x. x.mark.boot < number) log.family
 
--- the newest table of what was read, where more than half of each of its lists was, and one more may be drawn
+-- the newest table of what was read, where more than half of each of its lists was, and no stale vote for it, and one more may be drawn
 abbrev pub FindsHold : Type 0
 FindsHold =
     (read : List ℕ → Option Table) (g : Geometry) (site : Site) (identity : Identity) (log : Log) (w : Core) (image : Image) (seen : List Seen) (s : Seen) (slot : Slot) (v : Version)
     → IsSite site → IsLog g log → IsWorld (Reads read) site identity log w image → HaveRead (Reads read) site identity (tables_of log.family) w image seen → IsChosen seen s slot v.mark
-    → Contains log.family v → IsTrue (covers (is_majority (is_in (spots_seen seen))) (lists_of site v)) → greatest_seen seen + 1 < 2 ^ 63 → FoundHolds g log v (greatest_seen seen + 1)
+    → Contains log.family v → IsTrue (covers (is_majority (is_in (spots_seen seen))) (lists_of site v)) → (HasStaleVote site log seen v.mark → ⊥) → greatest_seen seen + 1 < 2 ^ 63 → FoundHolds g log v (greatest_seen seen + 1)
 
 -- no replica of the database shows a table
 abbrev pub ShowsNoTable : (List ℕ → Table → Type 0) → Site → Identity → Image → Type 0
 ShowsNoTable Spells site identity image = (line : SliceLine) (k : ℕ) (first : Master) (head : Head) → IsOwn Spells site identity line k image first head → shows head ≡ false
 
--- where none does, no write was answered, and nothing was told
+-- where none does, and the database wasn't about to be deleted, no write was answered, and nothing was told
 pub record NothingHolds : Type 0 where
   pub answered : (read : List ℕ → Option Table) (site : Site) (identity : Identity) (log : Log) (w : Core) (image : Image) → IsWorld (Reads read) site identity log w image
-      → ShowsNoTable (Reads read) site identity image → All (λ x. x.is_written ≡ false) log.family
+      → log.fate ≡ Lives → ShowsNoTable (Reads read) site identity image → All (λ x. x.is_written ≡ false) log.family
   pub told : (read : List ℕ → Option Table) (g : Geometry) (site : Site) (identity : Identity) (log : Log) (w : Core) (image : Image) → IsLog g log → IsWorld (Reads read) site identity log w image
-      → ShowsNoTable (Reads read) site identity image → log.acknowledged ≡ None
+      → log.fate ≡ Lives → ShowsNoTable (Reads read) site identity image → log.acknowledged ≡ None

@@ -16,3 +16,5 @@ pub mod Forming
 pub mod Tracing
 pub mod Blanking
 pub mod Formed
+pub mod Placing
+pub mod PlacesTracing

@@ -4,7 +4,7 @@ use Rattle.mdv_name.specs.Sound.{IsSound}
 use Rattle.mdv_shown.specs.Found.{Counts, IsFound}
 use Rattle.mdv_shown.specs.Sites.{site_of}
 use Rattle.mdv_shown.specs.Wipes.{wiped_all}
-use Rattle.mdv_standing.specs.Below.{Core, Crash, Event, FirstIs, Geometry, HasFirst, Head, Identity, Image, IsFormat, IsTable, Key, Log, Mark, Master, MayClaim, MayFill, MayFormat, Reads, SliceLine, Slot, Spot, Table, master_on, place_on}
+use Rattle.mdv_standing.specs.Below.{Lives, Core, Crash, Event, FirstIs, Geometry, HasFirst, Head, Identity, Image, IsFormat, IsTable, Key, Log, Mark, Master, MayClaim, MayFill, MayFormat, Reads, SliceLine, Slot, Spot, Table, master_on, place_on}
 use Rattle.mdv_standing.specs.Laws.{ShowsNoTable}
 use Rattle.mdv_standing.specs.Worlds.{IsWorld, Turned}
 
@@ -33,12 +33,12 @@ pub record OthersGo : Type 0 where
   pub slots : (read : List ℕ → Option Table) (g : Geometry) (key : Key) (identity : Identity) (log : Log) (w : Core) (old new : Image) (other : Key) (line : SliceLine) (k : ℕ) (first : Master) (head : Head) (slot : Slot) (mark : Mark) (bytes : ℕ) (body : List (List ℕ))
       → IsBeside (Reads read) g key identity other old line k first head → IsTable (Counts (Reads read)) (place_on line first.blocks first.count k) mark bytes body → IsWorld (Reads read) (site_of g key) identity log w old
       → MayFill (place_on line first.blocks first.count k) slot mark bytes body old new → IsWorld (Reads read) (site_of g key) identity log w new
-  -- while a place is formatted for another database, where this one shows no table: the world stays, or loses what lay there and behind it
+  -- while a place is formatted for another database, where this one shows no table and lives: the world stays, or loses what lay there and behind it
   pub first_formats : (read : List ℕ → Option Table) (g : Geometry) (key : Key) (identity : Identity) (log : Log) (w : Core) (old new : Image) (other : Key) (its : Identity) (line : SliceLine) (blocks count number : ℕ) (before : Option Master)
       → IsSound g → IsAnother key identity other its → IsFormat (site_of g other) its old line blocks count 0 number → FirstIs (site_of g other) old line before
-      → IsWorld (Reads read) (site_of g key) identity log w old → ShowsNoTable (Reads read) (site_of g key) identity old → MayFormat (place_on line blocks count 0) (master_on (site_of g other) its line blocks count 0) number old new
+      → IsWorld (Reads read) (site_of g key) identity log w old → log.fate ≡ Lives → ShowsNoTable (Reads read) (site_of g key) identity old → MayFormat (place_on line blocks count 0) (master_on (site_of g other) its line blocks count 0) number old new
       → Turned (Reads read) (site_of g key) identity log w new IsLoss Anything
   pub later_formats : (read : List ℕ → Option Table) (g : Geometry) (key : Key) (identity : Identity) (log : Log) (w : Core) (old new : Image) (other : Key) (its : Identity) (line : SliceLine) (k number : ℕ) (first : Master)
       → IsSound g → IsAnother key identity other its → 0 < k → IsFormat (site_of g other) its old line first.blocks first.count k number → HasFirst (site_of g other) old line first
-      → IsWorld (Reads read) (site_of g key) identity log w old → ShowsNoTable (Reads read) (site_of g key) identity old → MayFormat (place_on line first.blocks first.count k) (master_on (site_of g other) its line first.blocks first.count k) number old new
+      → IsWorld (Reads read) (site_of g key) identity log w old → log.fate ≡ Lives → ShowsNoTable (Reads read) (site_of g key) identity old → MayFormat (place_on line first.blocks first.count k) (master_on (site_of g other) its line first.blocks first.count k) number old new
       → Turned (Reads read) (site_of g key) identity log w new IsLoss Anything

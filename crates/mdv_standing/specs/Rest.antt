@@ -4,7 +4,7 @@ use Rattle.mdv_name.specs.Sound.{IsSound}
 use Rattle.mdv_shown.specs.Found.{Counts}
 use Rattle.mdv_shown.specs.Sites.{site_of}
 use Rattle.mdv_store_law.specs.Log as log
-use Rattle.mdv_standing.specs.Below.{Everywhere, FirstIs, Geometry, HasFirst, Head, Identity, Image, IsFormat, IsOwn, IsTable, Key, Leaves, Mark, Master, MayClaim, MayFill, MayFormat, Reads, SliceLine, Slot, Table, Tale, master_on, place_on}
+use Rattle.mdv_standing.specs.Below.{Lives, Everywhere, FirstIs, Geometry, HasFirst, Head, Identity, Image, IsFormat, IsOwn, IsTable, Key, Leaves, Mark, Master, MayClaim, MayFill, MayFormat, Reads, SliceLine, Slot, Table, Tale, master_on, place_on}
 use Rattle.mdv_standing.specs.Databases.{Database, current_of, with_event}
 use Rattle.mdv_standing.specs.Holding.{AllStand, AreKnown, AreOnce, HasWorld, IsOneOf}
 use Rattle.mdv_standing.specs.Laws.{ShowsNoTable}
@@ -23,9 +23,9 @@ pub record HoldsRest (Spells : List ℕ → Table → Type 0) (g : Geometry) (al
 abbrev pub RestStands : (List ℕ → Table → Type 0) → Geometry → List Database → Identity → Tale → Type 0
 RestStands Spells g all identity = Everywhere (HoldsRest Spells g all identity)
 
--- the database's boots don't look on that slice, or none of its replicas shows a table
+-- the database's boots don't look on that slice, or it wasn't about to be deleted and none of its replicas shows a table
 abbrev pub MayBeTaken : (List ℕ → Table → Type 0) → Geometry → SliceLine → Image → Database → Type 0
-MayBeTaken Spells g line image d = (Contains (site_of g d.key).lines line → ⊥) ⊎ ShowsNoTable Spells (site_of g d.key) d.identity image
+MayBeTaken Spells g line image d = (Contains (site_of g d.key).lines line → ⊥) ⊎ ((d.log.fate ≡ Lives) × ShowsNoTable Spells (site_of g d.key) d.identity image)
 
 -- so it is of each of the rest
 abbrev pub RestMayBeTaken : (List ℕ → Table → Type 0) → Geometry → List Database → Identity → SliceLine → Tale → Type 0

@@ -2,13 +2,13 @@
 use Rattle.std.specs.Prelude.{◌≡◌, ℕ, ◌+◌, ◌<◌, ◌^◌, Bool, false, List, [], ◌∷◌, ◌++◌, map, Option, None, Some, IsTrue}
 use Rattle.mdv_store_law.specs.Log.{Adds, Event as LogEvent, HasOneList, IsCourse, IsMade, NoCreation, log_after_all}
 use Rattle.mdv_store_law.specs.Part.{IsPart}
-use Rattle.mdv_standing.specs.Below.{Change, Claimed, Claims, Core, Event, Everywhere, Filled, Fills, FirstIs, Formatted, Formats, Geometry, Head, Identity, IsAbove, IsBodyOf, IsSpareSlot, LeftClosed, Leaves, Lists, Log, Mark, Master, MayClaim, MayFill, MayFormat, MayHappen, MayWipe, NextLists, PlaceAt, Reads, Seen, Site, SliceLine, Slot, Slotted, Spot, SpotLists, Table, Tale, Told, Version, WritesLog, Written, greatest_seen, is_claimed, is_in, is_named, is_none, is_written, log_after, master_on, place_on, spot_on, spots_seen, start}
+use Rattle.mdv_standing.specs.Below.{Lives, Change, Claimed, Claims, Core, Event, Everywhere, Filled, Fills, FirstIs, Formatted, Formats, Geometry, Head, Identity, IsAbove, IsBodyOf, IsSpareSlot, LeftClosed, Leaves, Lists, Log, Mark, Master, MayClaim, MayFill, MayFormat, MayHappen, MayWipe, NextLists, PlaceAt, Reads, Seen, Site, SliceLine, Slot, Slotted, Spot, SpotLists, Table, Tale, Told, Version, WritesLog, Written, greatest_seen, is_claimed, is_in, is_named, is_none, is_written, log_after, master_on, place_on, spot_on, spots_seen, start}
 use Rattle.mdv_standing.specs.Adopting.{IsLook, IsMarked, drawn}
-use Rattle.mdv_standing.specs.Committing.{MayChangeLists, MayFollow}
+use Rattle.mdv_standing.specs.Committing.{MayChangeLists, MayListNext}
 use Rattle.mdv_standing.specs.Creating.{AreAllPlaced, IsCreating, MayBeFormatted, first_mark, issued_log}
 use Rattle.mdv_standing.specs.Forming.{IsBehind, IsToFormat}
 use Rattle.mdv_standing.specs.Laws.{HasNone}
-use Rattle.mdv_standing.specs.Matching.{by_majority_on, is_set, spots_of, voted_table}
+use Rattle.mdv_standing.specs.Matching.{HasStaleVote, by_majority_on, is_set, spots_of, voted_table}
 use Rattle.mdv_standing.specs.Others.{Anything}
 use Rattle.mdv_standing.specs.Standing.{CoversWith}
 use Rattle.mdv_standing.specs.Turning.{IsBootRead, IsNewest, IsPlaceAt}
@@ -83,9 +83,9 @@ pub record IsVersionWith (log : Log) (mark : Mark) (table : Table) (v : Version)
   pub same : v.table ≡ table
 
 pub record BootsTrace : Type 0 where
-  -- a boot read
+  -- a boot read, and no stale vote for the table
   pub looks : (read : List ℕ → Option Table) (site : Site) (identity : Identity) (log : Log) (t : Tale) (seen : List Seen) (s : Seen) (slot : Slot) (mark : Mark) (table : Table) (v : Version)
-      → IsBootRead (Reads read) site identity t seen s slot mark table → IsVersionWith log mark table v
+      → IsBootRead (Reads read) site identity t seen s slot mark table → IsVersionWith log mark table v → (HasStaleVote site log seen mark → ⊥)
       → Traces (Reads read) site identity log log Anything (IsLook (spots_seen seen)) (MayBeClaimed mark (greatest_seen seen + 1) []) t t
   -- while it claims a place, and once it has
   pub claiming : (read : List ℕ → Option Table) (site : Site) (identity : Identity) (log : Log) (t m : Tale) (line : SliceLine) (k : ℕ) (first : Master) (head : Head) (mark : Mark) (table : Table) (v : Version) (number : ℕ) (ok : List Spot)
@@ -119,10 +119,10 @@ pub record WritesTrace : Type 0 where
       → Traces (Reads read) site identity log (log_after log Written) (IsTaking by_majority mark took) (λ es. es ≡ Told ∷ []) (IsReadyWith took) t t
   -- and what a change makes of it may be written, or it itself with its change of places over, and begins to be
   pub may : (read : List ℕ → Option Table) (g : Geometry) (site : Site) (identity : Identity) (log : Log) (t : Tale) (line : SliceLine) (k : ℕ) (first : Master) (head : Head) (mark : Mark) (table next : Table) (n : IsNewest log mark table) (asked : Option Change) (took : List Spot)
-      → IsPlaceAt (Reads read) site identity t next line k first head → IsMade g asked table next → MayFollow table.plan.lists next.plan.lists → MayChangeLists n.version next → mark.count + 1 < 2 ^ 63
+      → IsPlaceAt (Reads read) site identity t next line k first head → IsMade g asked table next → Everywhere (MayListNext (Reads read) site identity n.version next) t → MayChangeLists n.version next → mark.count + 1 < 2 ^ 63
       → CoversWith (Reads read) site identity (λ image w. IsReadyWith took w) log t → MayHappen g log (WritesLog (record mark { count = mark.count + 1 }) asked n.version.changes next)
   pub changes : (read : List ℕ → Option Table) (site : Site) (identity : Identity) (log : Log) (t : Tale) (line : SliceLine) (k : ℕ) (first : Master) (head : Head) (mark : Mark) (table next : Table) (n : IsNewest log mark table) (asked : Option Change) (took : List Spot)
-      → IsPlaceAt (Reads read) site identity t next line k first head → MayFollow table.plan.lists next.plan.lists → mark.count + 1 < 2 ^ 63
+      → IsPlaceAt (Reads read) site identity t next line k first head → Everywhere (MayListNext (Reads read) site identity n.version next) t → mark.count + 1 < 2 ^ 63
       → Traces (Reads read) site identity log (log_after log (WritesLog (record mark { count = mark.count + 1 }) asked n.version.changes next)) (IsReadyWith took) (IsCommitBegin (spots_of site next.plan.lists) (spot_on line first.blocks k))
       (IsTaking false (record mark { count = mark.count + 1 }) []) t t
 
@@ -133,10 +133,10 @@ IsStart site w = w ≡ start (is_set site.key)
 -- The same while a database is created.
 pub record CreationsTrace : Type 0 where
   -- where no replica of it is found nothing has happened
-  pub none : (read : List ℕ → Option Table) (site : Site) (identity : Identity) (log : Log) (t : Tale) → Everywhere (λ image. HasNone (Reads read) site identity image) t → log.family ≡ []
+  pub none : (read : List ℕ → Option Table) (site : Site) (identity : Identity) (log : Log) (t : Tale) → Everywhere (λ image. HasNone (Reads read) site identity image) t → log.family ≡ [] → log.fate ≡ Lives
       → CoversWith (Reads read) site identity (λ image w. IsStart site w) log t
   -- so it is while a place is blanked, and none is found still
-  pub clearing : (read : List ℕ → Option Table) (site : Site) (identity : Identity) (log : Log) (t m : Tale) (at : PlaceAt) → log.family ≡ [] → Everywhere (λ image. HasNone (Reads read) site identity image) m → Leaves (MayWipe at) t m
+  pub clearing : (read : List ℕ → Option Table) (site : Site) (identity : Identity) (log : Log) (t m : Tale) (at : PlaceAt) → log.family ≡ [] → log.fate ≡ Lives → Everywhere (λ image. HasNone (Reads read) site identity image) m → Leaves (MayWipe at) t m
       → Traces (Reads read) site identity log log (IsStart site) (λ es. es ≡ []) (IsStart site) t m
   -- then its first table may be in hand
   pub begins : (read : List ℕ → Option Table) (site : Site) (identity : Identity) (log : Log) (t : Tale) (lists : Lists) → Everywhere (λ image. HasNone (Reads read) site identity image) t

@@ -4,7 +4,7 @@ use Rattle.mdv_store_law.specs.Log.{IsMade}
 use Rattle.mdv_standing.specs.Below.{Change, Claims, Everywhere, Fills, Geometry, Head, Identity, IsAbove, IsBodyOf, IsChosen, IsOwn, IsSite, IsSpareSlot, Leaves, Log, Mark, Master, MayClaim, MayFill, MayHappen, Reads, Seen, Site, SliceLine, Slot, SlotShows, Spot, Table, Tale, Version, WritesLog, Written, covers, greatest_seen, is_claimed, is_in, is_majority, is_named, is_written, log_after, place_on, spot_on, spots_seen}
 use Rattle.mdv_standing.specs.Adopting.{AreOwn, IsMarked, drawn}
 use Rattle.mdv_standing.specs.Committing.{MayFollow}
-use Rattle.mdv_standing.specs.Matching.{by_majority_on, is_set, spots_of, voted_table}
+use Rattle.mdv_standing.specs.Matching.{HasStaleVote, by_majority_on, is_set, spots_of, voted_table}
 use Rattle.mdv_standing.specs.Standing.{Covers, CoversWith}
 use Rattle.mdv_standing.specs.Worlds.{IsReadyWith, IsTaking, MayBeClaimed}
 
@@ -55,9 +55,10 @@ pub record IsPlaceAt (Spells : List ℕ → Table → Type 0) (site : Site) (ide
   pub named : IsTrue (is_named (spots_of site table.plan.lists) (spot_on line first.blocks k))
 
 pub record BootsTurn : Type 0 where
-  -- a boot read
+  -- a boot read, and no stale vote for the table
   pub reads : (read : List ℕ → Option Table) (site : Site) (identity : Identity) (log : Log) (t : Tale) (seen : List Seen) (s : Seen) (slot : Slot) (mark : Mark) (table : Table)
-      → IsBootRead (Reads read) site identity t seen s slot mark table → Covers (Reads read) site identity log t → IsBooting (Reads read) site identity log t mark table (greatest_seen seen + 1) []
+      → IsBootRead (Reads read) site identity t seen s slot mark table → Covers (Reads read) site identity log t → (HasStaleVote site log seen mark → ⊥)
+      → IsBooting (Reads read) site identity log t mark table (greatest_seen seen + 1) []
   -- while it claims a place, and once it has
   pub claiming : (read : List ℕ → Option Table) (site : Site) (identity : Identity) (log : Log) (t m : Tale) (line : SliceLine) (k : ℕ) (first : Master) (head : Head) (mark : Mark) (table : Table) (number : ℕ) (ok : List Spot)
       → IsPlaceAt (Reads read) site identity t table line k first head → number < 2 ^ 63 → IsBooting (Reads read) site identity log t mark table number ok

@@ -1,15 +1,16 @@
 -- Which worlds an image shows, what is known of them, and how they go on.
 use Rattle.std.specs.Prelude.{◌≡◌, ◌⊎◌, ◌&&◌, ℕ, ◌+◌, ◌<◌, Bool, List, [], ◌∷◌, length, Option, None, Some, IsTrue}
-use Rattle.mdv_standing.specs.Below.{Identity, Mark, Site, Image, Core, Reading, Claiming, Writing, Ready, MayAll, after_all, last_table, last_number, Event, Log, Table, FamilyTable, Spot, Shows, IsWithin, is_in, is_none, is_read, greatest_of, knows_above, newest_of, table_at}
-use Rattle.mdv_standing.specs.Listed.{HoldsNewest, HavePlaces, IsUnshown}
+use Rattle.mdv_standing.specs.Below.{is_fair, Identity, Mark, Site, Image, Core, Reading, Claiming, Writing, Ready, MayAll, after_all, last_table, last_number, Event, Log, Table, FamilyTable, Spot, Shows, IsWithin, is_in, is_none, is_read, greatest_of, knows_above, newest_of, table_at}
+use Rattle.mdv_standing.specs.Listed.{HoldsNewest, HavePlaces, IsShut}
 use Rattle.mdv_standing.specs.Matching.{Matches, Reached, tables_of}
 
--- events led to the world, it is one of the log, the image shows it, and has each place that a table of the log lists, or no replica shows a table
+-- Events led to the world, it is one of the log, and the image shows it; and the image has each place of the tables that a boot may find, or no boot goes
+-- past reading.
 pub record IsWorld (Spells : List ℕ → Table → Type 0) (site : Site) (identity : Identity) (log : Log) (w : Core) (image : Image) : Type 0 where
   pub reached : Reached site w
   pub matches : Matches site log w
   pub shows : Shows Spells site identity (tables_of log.family) w image
-  pub listed : HavePlaces Spells site identity log image ⊎ IsUnshown w
+  pub listed : HavePlaces Spells site identity log image ⊎ IsShut w
 
 -- The world goes on by such events to one of that log which the new image shows, and of which this is known.
 pub record Turned (Spells : List ℕ → Table → Type 0) (site : Site) (identity : Identity) (log : Log) (w : Core) (new : Image) (Are : List Event → Type 0) (Known : Core → Type 0) : Type 0 where
@@ -35,6 +36,7 @@ pub record WillAdopt (mark : Mark) (number : ℕ) (w : Core) : Type 0 where
   pub marked : (table_at w.family table).mark ≡ mark
   pub quorum : IsTrue (is_read (table_at w.family table) (is_in read) (knows_above w.family w.places (table_at w.family table)))
   pub drawn : greatest_of w.family w.places 0 read + 1 ≡ number
+  pub fair : IsTrue (is_fair w table read)
 
 -- It has claimed this number, at these places and maybe at more.
 pub record HasClaimed (mark : Mark) (number : ℕ) (ok : List Spot) (w : Core) : Type 0 where
@@ -68,7 +70,8 @@ pub record IsTaking (by_majority : Bool) (mark : Mark) (took : List Spot) (w : C
   pub within : IsWithin (is_in took) (is_in all)
   pub taken : (p : Spot) → IsTrue (is_in took p) → HasLast w p
 
--- nothing is in work, and these places have the last table
+-- nothing is in work but maybe a table of which nothing was written, and these places have the last table
 pub record IsReadyWith (took : List Spot) (w : Core) : Type 0 where
-  pub stage : w.stage ≡ Ready None
+  pub in_hand : Option FamilyTable
+  pub stage : w.stage ≡ Ready in_hand
   pub taken : (p : Spot) → IsTrue (is_in took p) → HasLast w p

@@ -1,5 +1,7 @@
 ghost use Rattle.mdv_standing.specs.Forming.{CreationsTurn};
 ghost use Rattle.mdv_standing.specs.Rest.{DatabasesTurn};
+ghost use Rattle.mdv_standing.specs.Placing.{AddingGo, EndingGo, NotesGo, UnlistedGo};
+ghost use Rattle.mdv_standing.specs.PlacesTracing.{AddingTrace, EndingTrace, NotesTrace, UnlistedTrace};
 ghost use Rattle.mdv_standing.specs.Blanking.{BlanksStay, ClearsTurn};
 ghost use Rattle.mdv_standing.specs.Formed.{FormedStay};
 ghost use Rattle.mdv_standing.specs.Tracing.{BootsTrace, CreationsTrace, WritesTrace};
@@ -99,4 +101,21 @@ pub fn slices_clear()
 /// A place that was formatted has a replica, which stays while a creation formats the places behind it, and those of other slices.
 pub fn formed_stay()
     ensures { FormedStay }
+{}
+
+/// Where nothing is in work, places that the newest table doesn't list are blanked and formatted again, which its log notes; and the master
+/// of its only place is blanked, and then no boot goes past reading: each image goes on showing a world of the log.
+pub fn places_go()
+    ensures notes { NotesGo }
+    ensures unlisted { UnlistedGo }
+    ensures adding { AddingGo }
+    ensures ending { EndingGo }
+{}
+
+/// The same in each world, with the events of each call.
+pub fn places_trace()
+    ensures notes { NotesTrace }
+    ensures unlisted { UnlistedTrace }
+    ensures adding { AddingTrace }
+    ensures ending { EndingTrace }
 {}

@@ -6,5 +6,5 @@ mod law;
 pub use law::{
     adoptions_go, calls_trace, commits_go, crashes_stand, creations_go, databases_stand,
     databases_turn, finds_hold, formed_stay, frames, known_stay, new_drives_stand, nothing_holds,
-    others_go, slices_clear, stores_turn,
+    others_go, places_go, places_trace, slices_clear, stores_turn,
 };

@@ -1,68 +1,19 @@
--- How many calls the acts of a creation take, and that they touch only its places.
-use Rattle.std.proofs.Common.{◌≡◌, inl, inr, ℕ, zero, suc, ◌+◌, ◌-◌, ◌*◌, ◌<◌, ◌≤◌, Bool, true, false, if◌then◌else◌, List, [], ◌∷◌, ◌++◌, length, Contains, refl, sym, ◌∙◌, ap, subst, arith}
+-- What is done at the places of a creation touches only these.
+use Rattle.std.proofs.Common.{◌≡◌, inl, inr, ℕ, zero, suc, ◌+◌, ◌-◌, ◌*◌, ◌<◌, ◌≤◌, Bool, true, false, if◌then◌else◌, List, [], ◌∷◌, ◌++◌, Contains, refl, sym, ◌∙◌, ap, subst, arith}
 use Rattle.std.specs.Prelude.{flat_map, nat_lt}
 use Rattle.std.specs.List.{list_any}
 use Rattle.std.proofs.lemmas.Bool.{false_from_ne_true, false≢true}
 use Rattle.std.proofs.lemmas.List.Folds.{list_any_at}
 use Rattle.mdv_replica.specs.declared.replica.PlaceAt.{PlaceAt}
 use Rattle.mdv_shelf.proofs.Frame.{kept_outside_more, kept_outside_same, kept_outside_wider, within_range}
-use Rattle.mdv_store.specs.Acts.{Act, AreDoing, AreDone, Blanks, Forms, IsDoing, IsDone, blanks_asked, blanks_behind, blanks_on, blocks_of, calls_of, forms_asked, forms_from, forms_on}
+use Rattle.mdv_acts.specs.Acts.{Act, AreDoing, AreDone, Blanks, Forms, IsDoing, IsDone, blanks_asked, blanks_behind, blanks_on, forms_asked, forms_from, forms_on}
 use Rattle.mdv_store.specs.Below.{Area, Identity, Key, Replica, SliceLine, Tale, place_on, range}
-use Rattle.mdv_store.specs.Create.{blanked_asked, replica_on, seats_asked}
+use Rattle.mdv_store.specs.Create.{replica_on, seats_asked}
 use Rattle.mdv_look.specs.Quiet.{IsQuiet}
 use Rattle.mdv_store.specs.Seats.{replica_area, replicas_of, seats_area}
 use Rattle.mdv_store.specs.declared.seats.Seat.{Seat}
-use Rattle.mdv_store.proofs.Acting.{blocks_more, calls_more}
 use Rattle.mdv_store.proofs.Seated.{replicas_have}
 use Rattle.mdv_store.proofs.Sitting.{contains_behind, contains_first}
-
--- How many.
-module _ (count blocks : ℕ) where
-  behind_calls : (line : SliceLine) (n : ℕ) → calls_of (blanks_behind line count blocks n) ≡ 2 * n
-  behind_calls line zero = refl
-  behind_calls line (suc n) = omega (arith, behind_calls line n)
-
-  behind_blocks : (line : SliceLine) (n : ℕ) → blocks_of (blanks_behind line count blocks n) ≡ n
-  behind_blocks line zero = refl
-  behind_blocks line (suc n) = omega (arith, behind_blocks line n)
-
-  module _ (some : 1 ≤ count) where
-    all_calls : (lines : List SliceLine) → calls_of (flat_map (blanks_on count blocks) lines) ≡ 2 * (length lines * count)
-    all_calls [] = omega arith
-    all_calls (line ∷ lines) = omega (arith, calls_more (blanks_on count blocks line) (flat_map (blanks_on count blocks) lines), behind_calls line (count - 1), all_calls lines, some)
-
-    all_blocks : (lines : List SliceLine) → blocks_of (flat_map (blanks_on count blocks) lines) ≡ length lines * count
-    all_blocks [] = omega arith
-    all_blocks (line ∷ lines) = omega (arith, blocks_more (blanks_on count blocks line) (flat_map (blanks_on count blocks) lines), behind_blocks line (count - 1), all_blocks lines, some)
-
-    pub blanks_calls : (lines : List SliceLine) → calls_of (blanks_asked lines count blocks) ≡ 2 * blanked_asked lines count
-    blanks_calls lines = by (nat_lt 1 count) where
-      by : (b : Bool) → calls_of (if b then flat_map (blanks_on count blocks) lines else []) ≡ 2 * (if b then length lines * count else 0)
-      by true = all_calls lines
-      by false = omega arith
-
-    pub blanks_blocks : (lines : List SliceLine) → blocks_of (blanks_asked lines count blocks) ≡ blanked_asked lines count
-    blanks_blocks lines = by (nat_lt 1 count) where
-      by : (b : Bool) → blocks_of (if b then flat_map (blanks_on count blocks) lines else []) ≡ (if b then length lines * count else 0)
-      by true = all_blocks lines
-      by false = refl
-
-  module _ (key : Key) (identity : Identity) where
-    from_calls : (line : SliceLine) (k n : ℕ) → calls_of (forms_from key identity line count blocks k n) ≡ 6 * n
-    from_calls line k zero = refl
-    from_calls line k (suc n) = omega (arith, from_calls line (k + 1) n)
-
-    from_blocks : (line : SliceLine) (k n : ℕ) → blocks_of (forms_from key identity line count blocks k n) ≡ 5 * n
-    from_blocks line k zero = refl
-    from_blocks line k (suc n) = omega (arith, from_blocks line (k + 1) n)
-
-    pub forms_calls : (lines : List SliceLine) → calls_of (forms_asked key identity lines count blocks) ≡ 6 * (length lines * count)
-    forms_calls [] = omega arith
-    forms_calls (line ∷ lines) = omega (arith, calls_more (forms_on key identity count blocks line) (forms_asked key identity lines count blocks), from_calls line 0 count, forms_calls lines)
-
-    pub forms_blocks : (lines : List SliceLine) → blocks_of (forms_asked key identity lines count blocks) ≡ 5 * (length lines * count)
-    forms_blocks [] = omega arith
-    forms_blocks (line ∷ lines) = omega (arith, blocks_more (forms_on key identity count blocks line) (forms_asked key identity lines count blocks), from_blocks line 0 count, forms_blocks lines)
 
 -- Only these places are touched.
 pub quiet_same : (area : Area) (t : Tale) → IsQuiet area t t
@@ -84,7 +35,7 @@ module _ (key : Key) (identity : Identity) (lines : List SliceLine) (count block
 
   abbrev IsOn : Act → Type 0
   IsOn (Blanks at) = IsPlace at
-  IsOn (Forms at master) = IsPlace at
+  IsOn (Forms at master claim) = IsPlace at
 
   abbrev AreOn : List Act → Type 0
   AreOn [] = Unit {0}
@@ -112,11 +63,11 @@ module _ (key : Key) (identity : Identity) (lines : List SliceLine) (count block
 
   one_quiet : (a : Act) (t m : Tale) → IsOn a → IsDoing a t m → IsQuiet (seats_area seats) t m
   one_quiet (Blanks at) t m place doing = record { outside = kept_outside_wider (range at.drive.0 at.first 1) (seats_area seats) t m (outside_master at place) doing.outside; quiet = doing.quiet }
-  one_quiet (Forms at master) t m place doing = record { outside = kept_outside_wider (range at.drive.0 at.first 4) (seats_area seats) t m (outside_head at place) doing.outside; quiet = doing.quiet }
+  one_quiet (Forms at master claim) t m place doing = record { outside = kept_outside_wider (range at.drive.0 at.first 4) (seats_area seats) t m (outside_head at place) doing.outside; quiet = doing.quiet }
 
   while_done : (a : Act) (t u : Tale) → IsDone a t u → IsDoing a t u
   while_done (Blanks at) t u done = done.0
-  while_done (Forms at master) t u done = done.0
+  while_done (Forms at master claim) t u done = done.0
 
   doing_on : (acts : List Act) (t m : Tale) → AreOn acts → AreDoing acts t m → IsQuiet (seats_area seats) t m
   doing_on [] t m on is = subst (λ (w : Tale). IsQuiet (seats_area seats) t w) (sym is) (quiet_same (seats_area seats) t)
@@ -137,7 +88,7 @@ module _ (key : Key) (identity : Identity) (lines : List SliceLine) (count block
     behind_on zero lt = tt
     behind_on (suc n) lt = (at_place (n + 1) (omega (arith, lt)), behind_on n (omega (arith, lt)))
 
-    from_on : (k n : ℕ) → k + n ≤ count → AreOn (forms_from key identity line count blocks k n)
+    from_on : (k n : ℕ) → k + n ≤ count → AreOn (forms_from key identity 1 line count blocks k n)
     from_on k zero within = tt
     from_on k (suc n) within = (at_place k (omega (arith, within)), from_on (k + 1) n (omega (arith, within)))
 
@@ -147,19 +98,19 @@ module _ (key : Key) (identity : Identity) (lines : List SliceLine) (count block
       on_more (blanks_on count blocks l) (flat_map (blanks_on count blocks) rest) (at_place l (within l (contains_first l rest)) 0 (omega (arith, some)), behind_on l (within l (contains_first l rest)) (count - 1) (omega (arith, some)))
       (all_blanks_on some rest (λ x has. within x (contains_behind l x rest has)))
 
-  all_forms_on : (rest : List SliceLine) → ((l : SliceLine) → Contains rest l → Contains lines l) → AreOn (forms_asked key identity rest count blocks)
+  all_forms_on : (rest : List SliceLine) → ((l : SliceLine) → Contains rest l → Contains lines l) → AreOn (forms_asked key identity 1 rest count blocks)
   all_forms_on [] within = tt
   all_forms_on (l ∷ rest) within =
-      on_more (forms_on key identity count blocks l) (forms_asked key identity rest count blocks) (from_on l (within l (contains_first l rest)) 0 count (omega arith)) (all_forms_on rest (λ x has. within x (contains_behind l x rest has)))
+      on_more (forms_on key identity 1 count blocks l) (forms_asked key identity 1 rest count blocks) (from_on l (within l (contains_first l rest)) 0 count (omega arith)) (all_forms_on rest (λ x has. within x (contains_behind l x rest has)))
 
-  acts_on : 1 ≤ count → AreOn (blanks_asked lines count blocks ++ forms_asked key identity lines count blocks)
-  acts_on some = on_more (blanks_asked lines count blocks) (forms_asked key identity lines count blocks) (by (nat_lt 1 count)) (all_forms_on lines (λ l has. has)) where
+  acts_on : 1 ≤ count → AreOn (blanks_asked lines count blocks ++ forms_asked key identity 1 lines count blocks)
+  acts_on some = on_more (blanks_asked lines count blocks) (forms_asked key identity 1 lines count blocks) (by (nat_lt 1 count)) (all_forms_on lines (λ l has. has)) where
     by : (b : Bool) → AreOn (if b then flat_map (blanks_on count blocks) lines else [])
     by true = all_blanks_on some lines (λ l has. has)
     by false = tt
 
-  pub acts_quiet : 1 ≤ count → (t m : Tale) → AreDoing (blanks_asked lines count blocks ++ forms_asked key identity lines count blocks) t m → IsQuiet (seats_area seats) t m
-  acts_quiet some t m is = doing_on (blanks_asked lines count blocks ++ forms_asked key identity lines count blocks) t m (acts_on some) is
+  pub acts_quiet : 1 ≤ count → (t m : Tale) → AreDoing (blanks_asked lines count blocks ++ forms_asked key identity 1 lines count blocks) t m → IsQuiet (seats_area seats) t m
+  acts_quiet some t m is = doing_on (blanks_asked lines count blocks ++ forms_asked key identity 1 lines count blocks) t m (acts_on some) is
 
-  pub acts_done_quiet : 1 ≤ count → (t v : Tale) → AreDone (blanks_asked lines count blocks ++ forms_asked key identity lines count blocks) t v → IsQuiet (seats_area seats) t v
-  acts_done_quiet some t v is = done_on (blanks_asked lines count blocks ++ forms_asked key identity lines count blocks) t v (acts_on some) is
+  pub acts_done_quiet : 1 ≤ count → (t v : Tale) → AreDone (blanks_asked lines count blocks ++ forms_asked key identity 1 lines count blocks) t v → IsQuiet (seats_area seats) t v
+  acts_done_quiet some t v is = done_on (blanks_asked lines count blocks ++ forms_asked key identity 1 lines count blocks) t v (acts_on some) is

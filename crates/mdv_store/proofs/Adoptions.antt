@@ -1,5 +1,5 @@
 -- What a boot makes of the newest table: what follows for its moments, its end and its answer.
-use Rattle.std.proofs.Common.{◌≡◌, inl, inr, ◌<◌, ◌+◌, ◌-◌, ◌*◌, ◌^◌, ℕ, zero, suc, Bool, true, false, List, [], ◌∷◌, Option, Some, Contains, length, slice_get, refl, sym, ◌∙◌, subst, ap, arith, None}
+use Rattle.std.proofs.Common.{◌≡◌, ◌⊎◌, inl, inr, ◌<◌, ◌+◌, ◌-◌, ◌^◌, ℕ, zero, suc, Bool, true, false, List, [], ◌∷◌, Option, Some, Contains, length, slice_get, refl, sym, ◌∙◌, subst, ap, arith, None}
 use Rattle.std.specs.List.{list_any}
 use Rattle.std.proofs.lemmas.Bool.{or_left, or_right}
 use Rattle.std.proofs.lemmas.Bool.Decides.{nat_tests}
@@ -24,30 +24,42 @@ use Rattle.mdv_survey.specs.Newest.{IsGreatest}
 use Rattle.mdv_survey.specs.Replica.{IsOnShelf, IsSeated}
 use Rattle.mdv_survey.specs.declared.replica.Newest.{Newest}
 use Rattle.mdv_survey.specs.declared.replica.Survey.{Survey}
-use Rattle.mdv_store.specs.Adopting.{AdoptEnds, AdoptMoment, IsAdoptAnswer, WasReadOf}
-use Rattle.mdv_store.specs.Below.{DriveNo, Failures, Geometry, Ghosts, Identity, IsReadyWith, Replica, Site, SliceLine, Table, Tale, at_of, greatest, places_of, record_text, range, site_area, site_of}
-use Rattle.mdv_store.specs.Boot.{IfAdopted, IsDrawn, IsEndBy, IsInHand, IsOnce, IsWrittenTo, TakesBoth, TakesClaimOrBoth, greatest_number, seats_of}
-use Rattle.mdv_store.specs.BootCounts.{most_blocks}
+use Rattle.mdv_store.specs.Adopting.{AdoptEnds, AdoptMoment, IsAdoptAnswer, WasReadOf, WroteOf}
+use Rattle.mdv_store.specs.Below.{DriveNo, Failures, Geometry, Ghosts, Identity, IsReadyWith, Lists, One, Place, Replica, Site, SliceLine, Table, Tale, Two, at_of, greatest, last_of, places_of, record_text, range, settled, site_area, site_of}
+use Rattle.mdv_store.specs.Boot.{IfAdopted, IsDrawn, IsEndBy, IsInHand, IsShortAgain, IsShortBy, IsWrittenTo, TakesAll, TakesBoth, TakesBy, TakesClaimOrBoth, greatest_number, last_found, seats_of}
+use Rattle.mdv_store.specs.BootCounts.{most_blocks, most_calls}
 use Rattle.mdv_store.specs.Booting.{BootGoes, BootMoment, HasShown, Writes, WritesFor, boot_area, has_written}
 use Rattle.mdv_store.specs.Commit.{AnyLog, AnyWorld, IsNewestWritten}
 use Rattle.mdv_store.specs.Opened.{Opened}
-use Rattle.mdv_store.specs.Seats.{AreLaid, IsLaid, drives_of, replica_area, replicas_of, seats_area, spots_of}
-use Rattle.mdv_store.specs.Taking.{IsCalmOver, IsHandOf, IsRewriteAnswer, IsRewriteEnd, IsTakingCounted, IsToAdopt, RewriteEnds, RewriteMoment, Rewrites, StaySynced, drives_read}
+use Rattle.mdv_store.specs.Settled.{seats_now, settles}
+use Rattle.mdv_store.specs.Seats.{AreLaid, AreLeft, IsLaid, drives_of, replica_area, replicas_of, seats_area, spots_of}
+use Rattle.mdv_store.specs.Taking.{IsCalmOver, IsHandOf, IsLostWith, IsRewriteAnswer, IsRewriteEnd, IsTakingCounted, IsToAdopt, RewriteEnds, RewriteMoment, Rewrites, StaySynced, drives_read, last_in}
 use Rattle.mdv_store.specs.Text.{blocks_for}
 use Rattle.mdv_store.specs.declared.booting.BootEnd.{BootEnd}
 use Rattle.mdv_store.specs.declared.booting.BootEnd.TheVariants as end
 use Rattle.mdv_store.specs.declared.booting.Hand.{Hand}
 use Rattle.mdv_store.specs.declared.booting.Taken.{Taken}
 use Rattle.mdv_store.specs.declared.seats.Seat.{Seat}
-use Rattle.mdv_store.proofs.Once.{pass_once}
+use Rattle.mdv_store.proofs.Again.{now_in}
 use Rattle.mdv_store.proofs.Passes.{mapped, unmapped}
 use Rattle.mdv_look.proofs.Quiet.{quiet_same, quiet_wider}
 use Rattle.mdv_store.proofs.Reading.{in_hand_is, seated_laid, seated_own, to_adopt}
 use Rattle.mdv_look.specs.Quiet.{IsQuiet}
 use Rattle.mdv_store.proofs.Seating.{or_yes}
 use Rattle.mdv_store.proofs.Sitting.{contains_behind, contains_first, first_or_behind, left_replica}
+use Rattle.mdv_store.proofs.Told.{gone_is, last_is}
 use Rattle.mdv_store.specs.Shares.{short_of}
 use Rattle.mdv_store.specs.declared.seats.Need.TheVariants.{More}
+
+-- a replica that took all that a boot writes lies where it lay
+pub takes_stay : (number : ℕ) (table : Table) (r n : Replica) → TakesAll number table r n → n ≡ record r { head = n.head }
+takes_stay number table r n took = by table.plan.lists took where
+  headed : (x m : Replica) (h : Head) → m ≡ record x { head = h } → m ≡ record x { head = m.head }
+  headed x m h is = is ∙ ap (λ (k : Head). record x { head = k }) (sym (ap (λ (y : Replica). y.head) is))
+
+  by : (l : Lists) → TakesBy l number table r n → n ≡ record r { head = n.head }
+  by (One list) (slot, spare, is) = headed r n _ is
+  by (Two old new) (m, (slot, spare, first), (other, again, second)) = headed m n _ second ∙ ap (λ (x : Replica). record x { head = n.head }) (headed r m _ first)
 
 -- An end of which nothing was written.
 pub not_adopted : (answer : BootEnd) (P : Opened → Type 0) → has_written answer ≡ false → IfAdopted answer P
@@ -73,7 +85,7 @@ still_moment g site answer t still = record { quiet = quiet_same (boot_area site
 
 module _ {S : Type 0} (shelf : Ghosts S) (now : S) (taken : Taken) (still : has_written taken.end ≡ false) where
   pub still_counted : IsTakingCounted shelf now now taken
-  still_counted = record { most = between_none shelf.calls shelf.written now now (8 * 100) most_blocks refl; calm = λ so. not_adopted taken.end _ still }
+  still_counted = record { most = between_none shelf.calls shelf.written now now most_calls most_blocks refl; calm = λ so. not_adopted taken.end _ still }
 
   pub still_kept : (drives : List DriveNo) → KeptAmong shelf now now drives
   still_kept drives = among_none shelf now drives
@@ -161,27 +173,34 @@ module _ (site : Site) (replicas : List Replica) (newest : Newest) (hand : Hand)
       drawn_of : IsDrawn survey newest replica hand.seats hand.number
       drawn_of = record { hand = in_hand_of; enough = enough; number_is = number_of; small = small }
 
-      pub written_of : (Wrote : Hand → Table → Type 0) → Wrote hand newest.table → IsWrittenTo Wrote newest replica hand.seats hand.number
-      written_of Wrote wrote = record { hand = hand; identity_is = identity_is; number_is = refl; seats_are = refl; wrote = wrote }
+      lost_by : (failed : ℕ → Failures) (active listed : ℕ) → IsLostWith failed site.key hand newest.table active listed
+          → IsShortBy failed (TakesClaimOrBoth hand.number (length (record_text newest.table))) site.key newest.table.plan.lists hand.seats active listed ⊎ IsShortAgain failed site.key hand.number newest.table (last_found survey newest replica) active listed
+      lost_by failed active listed (inl first) = inl first
+      lost_by failed active listed (inr again) = inr (subst (λ (ss : List Seat). IsShortAgain failed site.key hand.number newest.table ss active listed) (last_is survey newest replica hand.seats in_hand_of) again)
 
-      pub end_of : (failed : ℕ → Failures) (Wrote : Hand → Table → Type 0) → Wrote hand newest.table → (answer : BootEnd) → IsRewriteEnd failed site.key hand newest.table answer → IsEndBy failed Wrote site survey answer
-      end_of failed Wrote wrote (end.Adopted o) by = record {
+      pub written_of : (Wrote : Hand → Table → List Seat → Type 0) (gone : List Seat) → Wrote hand newest.table gone → IsWrittenTo Wrote newest replica hand.seats hand.number gone
+      written_of Wrote gone wrote = record { hand = hand; identity_is = identity_is; number_is = refl; seats_are = refl; wrote = wrote }
+
+      pub end_of : (failed : ℕ → Failures) (Wrote : Hand → Table → List Seat → Type 0) (gone : List Seat) → Wrote hand newest.table gone → (answer : BootEnd) → IsRewriteEnd failed site.key hand newest.table gone answer → IsEndBy failed Wrote site survey answer
+      end_of failed Wrote gone wrote (end.Adopted o) by = record {
         newest = newest;
         replica = replica;
         seats = hand.seats;
         number = hand.number;
         drawn = drawn_of;
-        written = written_of Wrote wrote;
-        left = by.left;
+        gone = gone;
+        over = subst (λ (ss : List Seat). AreLeft failed (TakesBoth hand.number (length (record_text newest.table))) ss gone) (gone_is survey newest replica hand.seats in_hand_of) by.over;
+        written = written_of Wrote gone wrote;
+        left = subst (λ (ss : List Seat). AreLeft failed (TakesAll hand.number newest.table) ss o.seats) (last_is survey newest replica hand.seats in_hand_of) by.left;
         enough = by.enough;
-        is = by.is ∙ ap (λ (i : Identity). record { key = site.key; identity = i; mark = record { boot = hand.number; count = 0 }; table = newest.table; seats = o.seats }) identity_is;
+        is = by.is ∙ ap (λ (i : Identity). record { key = site.key; identity = i; mark = record { boot = hand.number; count = settles newest.table.plan.lists }; table = settled newest.table; seats = o.seats }) identity_is;
       }
-      end_of failed Wrote wrote end.Empty by = absurd by
-      end_of failed Wrote wrote (end.TwoDatabases a b) by = absurd by
-      end_of failed Wrote wrote (end.NoQuorum readable needed) by = absurd by
-      end_of failed Wrote wrote (end.Lost active listed) by = record { newest = newest; replica = replica; seats = hand.seats; number = hand.number; drawn = drawn_of; written = written_of Wrote wrote; now = by.now; left = by.left; few = by.few }
-      end_of failed Wrote wrote end.Spent by = absurd by
-      end_of failed Wrote wrote end.Memory by = absurd by
+      end_of failed Wrote gone wrote end.Empty by = absurd by
+      end_of failed Wrote gone wrote (end.TwoDatabases a b) by = absurd by
+      end_of failed Wrote gone wrote (end.NoQuorum readable needed) by = absurd by
+      end_of failed Wrote gone wrote (end.Lost active listed) by = record { newest = newest; replica = replica; seats = hand.seats; number = hand.number; drawn = drawn_of; written = written_of Wrote [] (subst (Wrote hand newest.table) by.0 wrote); short = lost_by failed active listed by.1 }
+      end_of failed Wrote gone wrote end.Spent by = absurd by
+      end_of failed Wrote gone wrote end.Memory by = absurd by
 
   module _ (enough : short_of More hand.seats newest.table.plan.lists ≡ None) where
     pub hand_laid : (sizes : List ℕ) → IsOnShelf sizes site → AreLaid sizes hand.seats
@@ -204,7 +223,7 @@ module _ (site : Site) (replicas : List Replica) (newest : Newest) (hand : Hand)
     has_shown : (g : Geometry) (t : Tale) → WasReadOf g site replicas newest t → HasShown g site hand.identity t
     has_shown g t was = record { replica = is.replica; found = was.each is.replica (got_contains replicas newest.replica is.replica is.one_of); its = is_own; shown = is_shown }
 
-    writes_of : (g : Geometry) (t m : Tale) → WasReadOf g site replicas newest t → RewriteMoment site.key hand newest.table t m → Writes g site hand.identity t m
+    writes_of : (g : Geometry) (t m : Tale) → WasReadOf g site replicas newest t → RewriteMoment site.key hand newest.table t m → Writes g site hand.identity newest.table.plan.lists t m
     writes_of g t m was moment =
         let to = to_be g t was in
         record {
@@ -213,7 +232,7 @@ module _ (site : Site) (replicas : List Replica) (newest : Newest) (hand : Hand)
           found = λ r has. (let one = in_hand_is site replicas newest hand is seated enough r has in (was.each r one.1, seated_own hand.identity one.0 _ r one.2));
           shown = inr (has_shown g t was);
           within = moment.quiet;
-          goes = subst (λ (s : Site). BootGoes g s hand.identity (spots_seen to.seen) (spots_of hand.seats) AnyWorld AnyLog t m) (sym was.site_is) (moment.goes g to);
+          goes = subst (λ (s : Site). BootGoes g s hand.identity newest.table.plan.lists (spots_seen to.seen) (spots_of hand.seats) AnyWorld AnyLog t m) (sym was.site_is) (moment.goes g to);
           rest = λ all. moment.rest g all to;
           blank = moment.blank g to;
         }
@@ -221,45 +240,47 @@ module _ (site : Site) (replicas : List Replica) (newest : Newest) (hand : Hand)
     quiet_of : (t m : Tale) → RewriteMoment site.key hand newest.table t m → IsQuiet (site_area site) t m
     quiet_of t m moment = quiet_wider (seats_area hand.seats) (site_area site) t m (seats_within site hand.seats (λ r has. seated r (of_hand r has))) moment.quiet
 
-    adopt_moment : (failed : ℕ → Failures) (answer : BootEnd) → IsRewriteEnd failed site.key hand newest.table answer → (t m : Tale) → RewriteMoment site.key hand newest.table t m → AdoptMoment site replicas newest answer t m
-    adopt_moment failed (end.Adopted o) by t m moment = λ g replica the was. record { quiet = quiet_of t m moment; writes = subst (λ (i : Identity). Writes g site i t m) (sym (ap (λ (x : Opened). x.identity) by.is)) (writes_of g t m was moment) }
-    adopt_moment failed end.Empty by t m moment = absurd by
-    adopt_moment failed (end.TwoDatabases a b) by t m moment = absurd by
-    adopt_moment failed (end.NoQuorum readable needed) by t m moment = absurd by
-    adopt_moment failed (end.Lost active listed) by t m moment = λ g replica the was. record { quiet = quiet_of t m moment; writes = (hand.identity, writes_of g t m was moment) }
-    adopt_moment failed end.Spent by t m moment = absurd by
-    adopt_moment failed end.Memory by t m moment = absurd by
+    adopt_moment : (failed : ℕ → Failures) (gone : List Seat) (answer : BootEnd) → IsRewriteEnd failed site.key hand newest.table gone answer → (t m : Tale) → RewriteMoment site.key hand newest.table t m → AdoptMoment site replicas newest answer t m
+    adopt_moment failed gone (end.Adopted o) by t m moment = λ g replica the was. record { quiet = quiet_of t m moment; writes = (newest.table.plan.lists, (let same = ap (λ (x : Opened). x.mark.count) by.is in omega (arith, same)), subst (λ (i : Identity). Writes g site i newest.table.plan.lists t m) (sym (ap (λ (x : Opened). x.identity) by.is)) (writes_of g t m was moment)) }
+    adopt_moment failed gone end.Empty by t m moment = absurd by
+    adopt_moment failed gone (end.TwoDatabases a b) by t m moment = absurd by
+    adopt_moment failed gone (end.NoQuorum readable needed) by t m moment = absurd by
+    adopt_moment failed gone (end.Lost active listed) by t m moment = λ g replica the was. record { quiet = quiet_of t m moment; writes = (hand.identity, newest.table.plan.lists, writes_of g t m was moment) }
+    adopt_moment failed gone end.Spent by t m moment = absurd by
+    adopt_moment failed gone end.Memory by t m moment = absurd by
 
-    adopt_end : (failed : ℕ → Failures) (answer : BootEnd) → IsRewriteEnd failed site.key hand newest.table answer → (t u : Tale) → IfAdopted answer (λ o. RewriteEnds site.key hand newest.table o t u) → AdoptEnds site replicas newest answer t u
-    adopt_end failed (end.Adopted o) by t u ends = λ g replica the was.
+    adopt_end : (failed : ℕ → Failures) (gone : List Seat) (answer : BootEnd) → IsRewriteEnd failed site.key hand newest.table gone answer → (t u : Tale) → IfAdopted answer (λ o. RewriteEnds site.key hand newest.table o t u) → AdoptEnds site replicas newest answer t u
+    adopt_end failed gone (end.Adopted o) by t u ends = λ g replica the was.
         let to = to_be g t was in
         record {
           shown = subst (λ (i : Identity). HasShown g site i t) (sym (ap (λ (x : Opened). x.identity) by.is)) (has_shown g t was);
           opened = ends.opened g to;
+          lists = newest.table.plan.lists;
+          marked = ap (λ (x : Opened). x.mark.count) by.is;
           read = spots_seen to.seen;
           seated = spots_of hand.seats;
-          goes = subst (λ (s : Site). BootGoes g s o.identity (spots_seen to.seen) (spots_of hand.seats) (IsReadyWith (spots_of o.seats)) (λ log. IsNewestWritten log o.mark o.table) t u) (sym was.site_is)
-              (subst (λ (i : Identity). BootGoes g (site_of g site.key) i (spots_seen to.seen) (spots_of hand.seats) (IsReadyWith (spots_of o.seats)) (λ log. IsNewestWritten log o.mark o.table) t u) (sym (ap (λ (x : Opened). x.identity) by.is)) (ends.goes g to));
+          goes = subst (λ (s : Site). BootGoes g s o.identity newest.table.plan.lists (spots_seen to.seen) (spots_of hand.seats) (IsReadyWith (spots_of o.seats)) (λ log. IsNewestWritten log o.mark o.table) t u) (sym was.site_is)
+              (subst (λ (i : Identity). BootGoes g (site_of g site.key) i newest.table.plan.lists (spots_seen to.seen) (spots_of hand.seats) (IsReadyWith (spots_of o.seats)) (λ log. IsNewestWritten log o.mark o.table) t u) (sym (ap (λ (x : Opened). x.identity) by.is)) (ends.goes g to));
         }
-    adopt_end failed end.Empty by t u ends = absurd by
-    adopt_end failed (end.TwoDatabases a b) by t u ends = absurd by
-    adopt_end failed (end.NoQuorum readable needed) by t u ends = absurd by
-    adopt_end failed (end.Lost active listed) by t u ends = λ g replica the was. tt
-    adopt_end failed end.Spent by t u ends = absurd by
-    adopt_end failed end.Memory by t u ends = absurd by
+    adopt_end failed gone end.Empty by t u ends = absurd by
+    adopt_end failed gone (end.TwoDatabases a b) by t u ends = absurd by
+    adopt_end failed gone (end.NoQuorum readable needed) by t u ends = absurd by
+    adopt_end failed gone (end.Lost active listed) by t u ends = λ g replica the was. tt
+    adopt_end failed gone end.Spent by t u ends = absurd by
+    adopt_end failed gone end.Memory by t u ends = absurd by
 
     module _ {S : Type 0} (shelf : Ghosts S) (old new : S) (taken : Taken) (answer : IsRewriteAnswer shelf old new site.key hand newest.table taken) where
       pub adopted_moments : AtEachTale shelf (RewriteMoment site.key hand newest.table) old new → AtEachTale shelf (AdoptMoment site replicas newest taken.end) old new
-      adopted_moments = moments_weaker (RewriteMoment site.key hand newest.table) (AdoptMoment site replicas newest taken.end) (shelf.tale old) (shelf.tale new) (adopt_moment (DriveFailures shelf old new) taken.end answer.ended)
+      adopted_moments = moments_weaker (RewriteMoment site.key hand newest.table) (AdoptMoment site replicas newest taken.end) (shelf.tale old) (shelf.tale new) (adopt_moment (DriveFailures shelf old new) answer.gone taken.end answer.ended)
 
       pub adopted_ends : AtEnd shelf (λ t u. IfAdopted taken.end (λ o. RewriteEnds site.key hand newest.table o t u)) old new → AtEnd shelf (AdoptEnds site replicas newest taken.end) old new
-      adopted_ends ends t told = (let e = ends t told in (e.0, e.1, adopt_end (DriveFailures shelf old new) taken.end answer.ended t e.0 e.2))
+      adopted_ends ends t told = (let e = ends t told in (e.0, e.1, adopt_end (DriveFailures shelf old new) answer.gone taken.end answer.ended t e.0 e.2))
 
       adopted_calm : (b : Bool) → IsCalmOver shelf old new (replicas_of hand.seats) b → IsCalmOver shelf old new replicas b
       adopted_calm true calm = calm
       adopted_calm false lost = (lost.0, of_hand lost.0 lost.1, lost.2)
 
-      wrote : (failed : ℕ → Failures) (e : BootEnd) → IsRewriteEnd failed site.key hand newest.table e → has_written e ≡ false → ⊥
+      wrote : (failed : ℕ → Failures) (e : BootEnd) → IsRewriteEnd failed site.key hand newest.table answer.gone e → has_written e ≡ false → ⊥
       wrote failed (end.Adopted o) by still = cc (still)
       wrote failed end.Empty by still = by
       wrote failed (end.TwoDatabases a b) by still = by
@@ -268,11 +289,15 @@ module _ (site : Site) (replicas : List Replica) (newest : Newest) (hand : Hand)
       wrote failed end.Spent by still = by
       wrote failed end.Memory by still = by
 
-      laid_by : (failed : ℕ → Failures) (sizes : List ℕ) → AreLaid sizes hand.seats → (e : BootEnd) → IsRewriteEnd failed site.key hand newest.table e → IfAdopted e (λ o. AreLaid sizes o.seats)
+      laid_by : (failed : ℕ → Failures) (sizes : List ℕ) → AreLaid sizes hand.seats → (e : BootEnd) → IsRewriteEnd failed site.key hand newest.table answer.gone e → IfAdopted e (λ o. AreLaid sizes o.seats)
       laid_by failed sizes laid (end.Adopted o) by = λ n has.
-          let one = left_replica failed (TakesBoth hand.number (length (record_text newest.table))) hand.seats o.seats n by.left has in
-          let was = laid one.0 one.1 in
-          subst (λ (x : Replica). IsLaid sizes x) (sym one.2.2) (record { placed = was.placed; short = was.short })
+          let one = left_replica failed (TakesAll hand.number newest.table) (last_in hand.seats newest.table.plan.lists) o.seats n by.left has in
+          let was = laid one.0 (last_has newest.table.plan.lists one.0 one.1) in
+          subst (λ (x : Replica). IsLaid sizes x) (sym (takes_stay hand.number newest.table one.0 n one.2)) (record { placed = was.placed; short = was.short })
+        where
+          last_has : (l : Lists) (r : Replica) → Contains (replicas_of (last_in hand.seats l)) r → Contains (replicas_of hand.seats) r
+          last_has (One list) r there = there
+          last_has (Two old new) r there = now_in hand.seats new r there
       laid_by failed sizes laid end.Empty by = tt
       laid_by failed sizes laid (end.TwoDatabases a b) by = tt
       laid_by failed sizes laid (end.NoQuorum readable needed) by = tt
@@ -280,20 +305,11 @@ module _ (site : Site) (replicas : List Replica) (newest : Newest) (hand : Hand)
       laid_by failed sizes laid end.Spent by = tt
       laid_by failed sizes laid end.Memory by = tt
 
-      once_by : KeptAmong shelf old new (drives_of hand.seats) → (e : BootEnd) → IsRewriteEnd (DriveFailures shelf old new) site.key hand newest.table e → (drive : DriveNo) → IsOnce (DriveFailures shelf old new drive.0)
-      once_by kept (end.Adopted o) by = pass_once shelf old new hand.seats o.seats (TakesBoth hand.number (length (record_text newest.table))) kept by.left
-      once_by kept end.Empty by = absurd by
-      once_by kept (end.TwoDatabases a b) by = absurd by
-      once_by kept (end.NoQuorum readable needed) by = absurd by
-      once_by kept (end.Lost active listed) by = pass_once shelf old new hand.seats by.now (TakesClaimOrBoth hand.number (length (record_text newest.table))) kept by.left
-      once_by kept end.Spent by = absurd by
-      once_by kept end.Memory by = absurd by
-
       pub adopted_answer : KeptAmong shelf old new (drives_of hand.seats) → AtEachTale shelf (RewriteMoment site.key hand newest.table) old new → hand.number < 2 ^ 63 → AreLaid (shelf.sizes old) hand.seats → IsAdoptAnswer shelf old new site replicas newest taken
       adopted_answer kept moments small laid = record {
-        ended = inr (λ survey replica reps newest_is the chosen. end_of survey replica reps newest_is the enough small (DriveFailures shelf old new) (Rewrites shelf old new site.key) (record { moments = moments; wrote = answer.wrote; made = answer.made; passed = answer.passed }) taken.end answer.ended);
+        ended = inr (λ survey replica reps newest_is the chosen. end_of survey replica reps newest_is the enough small (DriveFailures shelf old new) (WroteOf shelf old new site replicas newest) answer.gone (record { rewrites = record { moments = moments; wrote = answer.wrote; made = answer.made; passed = answer.passed }; shows = λ t told. (let e = answer.shows t told in (e.0, e.1, λ g was. e.2 g (to_be g t was))) }) taken.end answer.ended);
         calm = adopted_calm taken.calm answer.calm;
-        once = once_by kept taken.end answer.ended;
+        once = answer.once;
         still = λ still. absurd (wrote (DriveFailures shelf old new) taken.end answer.ended still);
         laid = laid_by (DriveFailures shelf old new) (shelf.sizes old) laid taken.end answer.ended;
       }

@@ -1,5 +1,5 @@
 -- A database that shows no table shows none while a replica of another one is claimed or written, or a place is blanked or formatted for it.
-use Rattle.std.proofs.Common.{◌≡◌, inl, inr, ℕ, false, ◌+◌, ◌<◌, ◌^◌, List, Contains, sym, ◌∙◌, ap, subst, arith}
+use Rattle.std.proofs.Common.{refl, ◌≡◌, inl, inr, ℕ, false, ◌+◌, ◌<◌, ◌^◌, List, Contains, sym, ◌∙◌, ap, subst, arith}
 use Rattle.std.proofs.lemmas.Bool.{false_from_ne_true}
 use Rattle.mdv_name.specs.Sound.{IsSound}
 use Rattle.mdv_replica.specs.Form.{IsTable, shows}
@@ -105,9 +105,9 @@ module _ (g : Geometry) (old new : Image) where
 
   pub blank_taken : (ask : Key) (other : Identity) → ((l : SliceLine) → MayBeTaken (Spells g) g l old (as_database ask other) → MayBeTaken (Spells g) g l new (as_database ask other))
       → ShowsNoTable (Spells g) (site_of g ask) other old → ShowsNoTable (Spells g) (site_of g ask) other new
-  blank_taken ask other taken blank l j m h own = elim (taken l (inr blank)) [
+  blank_taken ask other taken blank l j m h own = elim (taken l (inr (refl, blank))) [
     | inl out ↦ absurd (out own.found.one_of)
-    | inr none ↦ none l j m h own
+    | inr (lives, none) ↦ none l j m h own
   ]
 
 -- no step, and one behind another

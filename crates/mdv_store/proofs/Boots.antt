@@ -32,12 +32,12 @@ use Rattle.mdv_survey.specs.Survey.{IsSurveyOf}
 use Rattle.mdv_survey.specs.declared.replica.Newest.{Newest}
 use Rattle.mdv_survey.specs.declared.replica.Survey.{Survey}
 use Rattle.mdv_store.specs.Adopting.{AreAllIn}
-use Rattle.mdv_store.specs.Below.{Core, CoversWith, Database, DriveNo, Drives, Event, Failures, Geometry, Ghosts, Identity, IsSound, IsSynced, Log, Replica, RestStands, Site, Spot, Table, Tale, has_drive, last, places_of, record_text, site_of}
+use Rattle.mdv_store.specs.Below.{Core, CoversWith, Database, DriveNo, Drives, Event, Failures, Geometry, Ghosts, Identity, IsSound, IsSynced, Lists, Log, One, Place, Replica, RestStands, Site, Spot, Table, Tale, has_drive, last, last_of, places_of, record_text, site_of}
 use Rattle.mdv_shown.specs.Found.{IsFound}
 use Rattle.mdv_store.specs.Blank.{StayBlank}
-use Rattle.mdv_store.specs.Boot.{IfAdopted, IsEndBy, IsOnce, TakesBoth, TakesClaimOrBoth, is_memory}
-use Rattle.mdv_store.specs.Booted.{IsBooted, IsReadAt, WasBroughtUp}
-use Rattle.mdv_store.specs.BootCounts.{IsBootCounted, IsEndCounted, most_blocks, most_reads}
+use Rattle.mdv_store.specs.Boot.{IfAdopted, IsEndBy, IsOnce, IsShortBy, TakesAll, TakesBoth, TakesClaimOrBoth, gone_found, is_memory, last_found, seats_of}
+use Rattle.mdv_store.specs.Booted.{IsBooted, IsReadAt, WasBroughtUp, WroteFor}
+use Rattle.mdv_store.specs.BootCounts.{IsAnewCounted, IsBootCounted, IsEndCounted, most_blocks, most_calls, most_reads}
 use Rattle.mdv_store.specs.Booting.{AreOfBoot, BootEnds, BootGoes, BootMoment, HasShown, IsBootedTo, Writes, WritesFor, boot_area, has_written}
 use Rattle.mdv_look.specs.Bringing.{AreSynced, AreUpBy, BringingEnds, IsBringingCounted}
 use Rattle.mdv_store.specs.Commit.{AnyLog, AnyWorld}
@@ -46,8 +46,9 @@ use Rattle.mdv_look.specs.Looking.{AreCalmBy, AreAllCalm, IsLookedAt, reads_by}
 use Rattle.mdv_look.specs.Quiet.{WritesNothing}
 use Rattle.mdv_store.specs.Letters.{AreLettersOf, places_seen}
 use Rattle.mdv_store.specs.Records.{Spells}
+use Rattle.mdv_store.specs.Settled.{gone_of, settles}
 use Rattle.mdv_store.specs.Seats.{AreLaid, active_of, drive_of, replicas_of, seats_area, spots_of}
-use Rattle.mdv_store.specs.Taking.{IsCalmOver, IsTaken, Rewrites, IsTakingCounted, StaySynced, TakingEnds, TakingMoment, WasRead, drives_read}
+use Rattle.mdv_store.specs.Taking.{IsCalmOver, IsTaken, IsTakingCounted, StaySynced, TakingEnds, TakingMoment, WasRead, WroteBy, drives_read}
 use Rattle.mdv_store.specs.Text.{blocks_for}
 use Rattle.mdv_store.specs.declared.booting.BootEnd.{BootEnd}
 use Rattle.mdv_store.specs.declared.booting.BootEnd.TheVariants as end
@@ -68,6 +69,7 @@ use Rattle.mdv_look.proofs.Quiet.{quiet_more, unwritten_quiet}
 use Rattle.mdv_store.proofs.Seating.{seated_at}
 use Rattle.mdv_store.proofs.Sitting.{contains_behind, contains_first}
 use Rattle.mdv_store.proofs.Takes.{none_newest}
+use Rattle.mdv_store.proofs.Told.{wrote_more}
 
 pub at_true : (A B : Type 0) (b : Bool) → b ≡ true → MatchBool b A B → A
 at_true A B b is m = subst (λ (c : Bool). MatchBool c A B) is m
@@ -83,12 +85,12 @@ pub last_same : (t m : Tale) → WritesNothing t m → last m ≡ last t
 last_same t m unwritten = λ i drive block. (unwritten.outside drive block refl).last i
 
 module _ (g : Geometry) (site : Site) (identity : Identity) where
-  nothing_goes : (t m : Tale) → WritesNothing t m → BootGoes g site identity [] [] AnyWorld AnyLog t m
+  nothing_goes : (t m : Tale) → WritesNothing t m → BootGoes g site identity (One []) [] [] AnyWorld AnyLog t m
   nothing_goes t m unwritten log covers known = record {
     es = [];
     course = tt;
     come = adds_none;
-    traces = trace_weaker (Spells g) site identity log log Anything Anything Anything AnyWorld (λ es. es ≡ []) (AreOfBoot [] []) t m (λ w k. k) (λ es none. inl none) (λ w k. tt) (trace_same (Spells g) site identity log Anything t m (leaves_same t m unwritten));
+    traces = trace_weaker (Spells g) site identity log log Anything Anything Anything AnyWorld (λ es. es ≡ []) (AreOfBoot site (One []) [] []) t m (λ w k. k) (λ es none. inl none) (λ w k. tt) (trace_same (Spells g) site identity log Anything t m (leaves_same t m unwritten));
     after = tt;
   }
 
@@ -98,7 +100,7 @@ module _ (g : Geometry) (site : Site) (identity : Identity) where
   blank_kept : (t m : Tale) → WritesNothing t m → StayBlank g identity t m
   blank_kept t m unwritten key other another = everywhere_kept (ShowsNoTable (Spells g) (site_of g key) other) t m unwritten.outside
 
-  pub nothing_written : (t m : Tale) → WritesNothing t m → Writes g site identity t m
+  pub nothing_written : (t m : Tale) → WritesNothing t m → Writes g site identity (One []) t m
   nothing_written t m unwritten = record {
     read = [];
     seats = [];
@@ -111,8 +113,8 @@ module _ (g : Geometry) (site : Site) (identity : Identity) where
   }
 
   -- a boot goes on so behind calls that wrote nothing
-  pub goes_then : (read seated : List Spot) (Then : Core → Type 0) (After : Log → Type 0) (t u m : Tale) → WritesNothing t u → BootGoes g site identity read seated Then After u m → BootGoes g site identity read seated Then After t m
-  goes_then read seated Then After t u m unwritten goes log covers known =
+  pub goes_then : (lists : Lists) (read seated : List Spot) (Then : Core → Type 0) (After : Log → Type 0) (t u m : Tale) → WritesNothing t u → BootGoes g site identity lists read seated Then After u m → BootGoes g site identity lists read seated Then After t m
+  goes_then lists read seated Then After t u m unwritten goes log covers known =
       let covers_u : CoversWith (Spells g) site identity (λ image w. Anything w) log u = everywhere_kept (λ image. (w : Core) × IsWorld (Spells g) site identity log w image × Anything w) t u unwritten.outside covers in
       let to = goes log covers_u known in
       record {
@@ -120,8 +122,8 @@ module _ (g : Geometry) (site : Site) (identity : Identity) where
         course = to.course;
         come = to.come;
         traces =
-            trace_more (Spells g) site identity log log (log_after_all log to.es) Anything Anything Then (λ es. es ≡ []) (AreOfBoot read seated) (AreOfBoot read seated) t u m
-            (λ es fs none are. subst (AreOfBoot read seated) (sym (ap (λ (l : List Event). l ++ fs) none)) are) (trace_same (Spells g) site identity log Anything t u (leaves_same t u unwritten)) to.traces;
+            trace_more (Spells g) site identity log log (log_after_all log to.es) Anything Anything Then (λ es. es ≡ []) (AreOfBoot site lists read seated) (AreOfBoot site lists read seated) t u m
+            (λ es fs none are. subst (AreOfBoot site lists read seated) (sym (ap (λ (l : List Event). l ++ fs) none)) are) (trace_same (Spells g) site identity log Anything t u (leaves_same t u unwritten)) to.traces;
         after = to.after;
       }
 
@@ -132,14 +134,14 @@ module _ (g : Geometry) (site : Site) (identity : Identity) where
   shown_then t u unwritten seats (inl none) = inl none
   shown_then t u unwritten seats (inr is) = inr (shown_before t u unwritten is)
 
-  pub writes_then : (t u m : Tale) → WritesNothing t u → Writes g site identity u m → Writes g site identity t m
-  writes_then t u m unwritten w = record {
+  pub writes_then : (lists : Lists) (t u m : Tale) → WritesNothing t u → Writes g site identity lists u m → Writes g site identity lists t m
+  writes_then lists t u m unwritten w = record {
     read = w.read;
     seats = w.seats;
     found = λ r has. (let one = w.found r has in (subst (λ (c : Contents). IsFoundIn g site c r) (last_same t u unwritten) one.0, one.1));
     shown = shown_then t u unwritten w.seats w.shown;
     within = quiet_more (seats_area w.seats) t u m (unwritten_quiet (seats_area w.seats) t u unwritten) w.within;
-    goes = goes_then w.read (spots_of w.seats) AnyWorld AnyLog t u m unwritten w.goes;
+    goes = goes_then lists w.read (spots_of w.seats) AnyWorld AnyLog t u m unwritten w.goes;
     rest = λ all was. w.rest all (rest_kept all t u unwritten was);
     blank = λ key other another was. w.blank key other another (blank_kept t u unwritten key other another was);
   }
@@ -147,11 +149,11 @@ module _ (g : Geometry) (site : Site) (identity : Identity) where
 pub boot_before : (g : Geometry) (site : Site) (answer : BootEnd) (t m : Tale) → WritesNothing t m → BootMoment g site answer t m
 boot_before g site answer t m unwritten = record { quiet = unwritten_quiet (boot_area site (has_written answer)) t m unwritten; writes = by answer } where
   by : (a : BootEnd) → WritesFor g site a t m
-  by (end.Adopted o) = nothing_written g site o.identity t m unwritten
+  by (end.Adopted o) = (One [], omega arith, nothing_written g site o.identity t m unwritten)
   by end.Empty = tt
   by (end.TwoDatabases a b) = tt
   by (end.NoQuorum readable needed) = tt
-  by (end.Lost active listed) = (record { fresh = 0; number = 0 }, nothing_written g site (record { fresh = 0; number = 0 }) t m unwritten)
+  by (end.Lost active listed) = (record { fresh = 0; number = 0 }, One [], nothing_written g site (record { fresh = 0; number = 0 }) t m unwritten)
   by end.Spent = tt
   by end.Memory = tt
 
@@ -160,16 +162,16 @@ boot_then g site answer t u m unwritten moment =
     record { quiet = quiet_more (boot_area site (has_written answer)) t u m (unwritten_quiet (boot_area site (has_written answer)) t u unwritten) moment.quiet; writes = by answer moment.writes }
   where
     by : (a : BootEnd) → WritesFor g site a u m → WritesFor g site a t m
-    by (end.Adopted o) w = writes_then g site o.identity t u m unwritten w
+    by (end.Adopted o) w = (w.0, w.1, writes_then g site o.identity w.0 t u m unwritten w.2)
     by end.Empty w = tt
     by (end.TwoDatabases a b) w = tt
     by (end.NoQuorum readable needed) w = tt
-    by (end.Lost active listed) w = (w.0, writes_then g site w.0 t u m unwritten w.1)
+    by (end.Lost active listed) w = (w.0, w.1, writes_then g site w.0 w.1 t u m unwritten w.2)
     by end.Spent w = tt
     by end.Memory w = tt
 
 booted_then : (g : Geometry) (site : Site) (answer : BootEnd) (t u w : Tale) → WritesNothing t u → IfAdopted answer (λ o. IsBootedTo g site o u w) → IfAdopted answer (λ o. IsBootedTo g site o t w)
-booted_then g site (end.Adopted o) t u w unwritten is = record { shown = shown_before g site o.identity t u unwritten is.shown; opened = is.opened; read = is.read; seated = is.seated; goes = goes_then g site o.identity is.read is.seated _ _ t u w unwritten is.goes }
+booted_then g site (end.Adopted o) t u w unwritten is = record { shown = shown_before g site o.identity t u unwritten is.shown; opened = is.opened; lists = is.lists; marked = is.marked; read = is.read; seated = is.seated; goes = goes_then g site o.identity is.lists is.read is.seated _ _ t u w unwritten is.goes }
 booted_then g site end.Empty t u w unwritten is = tt
 booted_then g site (end.TwoDatabases a b) t u w unwritten is = tt
 booted_then g site (end.NoQuorum readable needed) t u w unwritten is = tt
@@ -177,20 +179,26 @@ booted_then g site (end.Lost active listed) t u w unwritten is = tt
 booted_then g site end.Spent t u w unwritten is = tt
 booted_then g site end.Memory t u w unwritten is = tt
 
+-- what was found of some places was read
+was_found : (survey : Survey) (newest : Newest) (replica : Replica) (places : List Place) (r : Replica) → Contains (replicas_of (seats_of survey.replicas replica.head.master.identity (blocks_for (length (record_text newest.table))) places)) r → Contains survey.replicas r
+was_found survey newest replica places r has = (seated_at survey.replicas replica.head.master.identity (blocks_for (length (record_text newest.table))) places r has).1
+
 -- an end that follows, as the failures are told from earlier on
-end_as : (failed told : ℕ → Failures) (Wrote : Hand → Table → Type 0) (site : Site) (survey : Survey) → ((r : Replica) → Contains survey.replicas r → (failed (drive_of r)).some → (told (drive_of r)).some) → ((r : Replica) → Contains survey.replicas r → (failed (drive_of r)).none → (told (drive_of r)).none)
+end_as : (failed told : ℕ → Failures) (Wrote : Hand → Table → List Seat → Type 0) (site : Site) (survey : Survey) → ((r : Replica) → Contains survey.replicas r → (failed (drive_of r)).some → (told (drive_of r)).some) → ((r : Replica) → Contains survey.replicas r → (failed (drive_of r)).none → (told (drive_of r)).none)
     → (answer : BootEnd) → IsEndBy failed Wrote site survey answer → IsEndBy told Wrote site survey answer
 end_as failed told Wrote site survey some none (end.Adopted o) by =
-    let has : (r : Replica) → Contains (replicas_of by.seats) r → Contains survey.replicas r =
-    λ r in_seats. (seated_at survey.replicas by.replica.head.master.identity (blocks_for (length (record_text by.newest.table))) (places_of by.newest.table.plan.lists) r (subst (λ (ss : List Seat). Contains (replicas_of ss) r) by.drawn.hand.seats_are in_seats)).1 in
     record {
       newest = by.newest;
       replica = by.replica;
       seats = by.seats;
       number = by.number;
       drawn = by.drawn;
+      gone = by.gone;
+      over = left_as failed told (TakesBoth by.number (length (record_text by.newest.table))) (TakesBoth by.number (length (record_text by.newest.table))) (gone_found survey by.newest by.replica) by.gone (λ r has. some r (was_found survey by.newest by.replica (gone_of by.newest.table.plan.lists) r has))
+          (λ r has. none r (was_found survey by.newest by.replica (gone_of by.newest.table.plan.lists) r has)) (λ r m took. took) by.over;
       written = by.written;
-      left = left_as failed told (TakesBoth by.number (length (record_text by.newest.table))) (TakesBoth by.number (length (record_text by.newest.table))) by.seats o.seats (λ r in_seats. some r (has r in_seats)) (λ r in_seats. none r (has r in_seats)) (λ r m took. took) by.left;
+      left = left_as failed told (TakesAll by.number by.newest.table) (TakesAll by.number by.newest.table) (last_found survey by.newest by.replica) o.seats (λ r has. some r (was_found survey by.newest by.replica (last_of by.newest.table.plan.lists) r has))
+          (λ r has. none r (was_found survey by.newest by.replica (last_of by.newest.table.plan.lists) r has)) (λ r m took. took) by.left;
       enough = by.enough;
       is = by.is;
     }
@@ -198,8 +206,6 @@ end_as failed told Wrote site survey some none end.Empty by = by
 end_as failed told Wrote site survey some none (end.TwoDatabases a b) by = by
 end_as failed told Wrote site survey some none (end.NoQuorum readable needed) by = by
 end_as failed told Wrote site survey some none (end.Lost active listed) by =
-    let has : (r : Replica) → Contains (replicas_of by.seats) r → Contains survey.replicas r =
-    λ r in_seats. (seated_at survey.replicas by.replica.head.master.identity (blocks_for (length (record_text by.newest.table))) (places_of by.newest.table.plan.lists) r (subst (λ (ss : List Seat). Contains (replicas_of ss) r) by.drawn.hand.seats_are in_seats)).1 in
     record {
       newest = by.newest;
       replica = by.replica;
@@ -207,9 +213,18 @@ end_as failed told Wrote site survey some none (end.Lost active listed) by =
       number = by.number;
       drawn = by.drawn;
       written = by.written;
-      now = by.now;
-      left = left_as failed told (TakesClaimOrBoth by.number (length (record_text by.newest.table))) (TakesClaimOrBoth by.number (length (record_text by.newest.table))) by.seats by.now (λ r in_seats. some r (has r in_seats)) (λ r in_seats. none r (has r in_seats)) (λ r m took. took) by.left;
-      few = by.few;
+      short = elim by.short [
+        | inl first ↦ inl (short_as (TakesClaimOrBoth by.number (length (record_text by.newest.table))) by.newest.table.plan.lists by.seats
+            (λ r has. was_found survey by.newest by.replica (places_of by.newest.table.plan.lists) r (subst (λ (ss : List Seat). Contains (replicas_of ss) r) by.drawn.hand.seats_are has)) first)
+        | inr again ↦ inr (again.0, short_as (TakesAll by.number by.newest.table) (One (last_of by.newest.table.plan.lists)) (last_found survey by.newest by.replica) (was_found survey by.newest by.replica (last_of by.newest.table.plan.lists)) again.1)
+      ];
+    }
+  where
+    short_as : (Took : Replica → Replica → Type 0) (lists : Lists) (seats : List Seat) → ((r : Replica) → Contains (replicas_of seats) r → Contains survey.replicas r) → IsShortBy failed Took site.key lists seats active listed → IsShortBy told Took site.key lists seats active listed
+    short_as Took lists seats has short = record {
+      now = short.now;
+      left = left_as failed told Took Took seats short.now (λ r in_seats. some r (has r in_seats)) (λ r in_seats. none r (has r in_seats)) (λ r m took. took) short.left;
+      few = short.few;
     }
 end_as failed told Wrote site survey some none end.Spent by = by
 end_as failed told Wrote site survey some none end.Memory by = tt
@@ -295,7 +310,7 @@ module _ {S : Type 0} (shelf : Ghosts S) (site : Site) (old m1 : S) (up : Drives
 
       pub wanting_counted : IsBootCounted shelf old m2 g site answer
       wanting_counted = record {
-        most = between_wider shelf.calls shelf.written old m2 0 (2 * length site.drives + most_reads site) 0 0 (2 * length site.drives + most_reads site + 8 * 100) most_blocks (omega arith) (omega arith) (omega arith) looks_most;
+        most = between_wider shelf.calls shelf.written old m2 0 (2 * length site.drives + most_reads site) 0 0 (2 * length site.drives + most_reads site + most_calls) most_blocks (omega arith) (omega arith) (omega arith) looks_most;
         still = λ unwritten. looks_most;
         clean = λ so. absurd (cc (so, clean_is));
       }
@@ -354,9 +369,17 @@ module _ {S : Type 0} (shelf : Ghosts S) (site : Site) (old m1 : S) (up : Drives
       out_once : (drive : DriveNo) → Contains site.drives drive → has_drive looked.calm drive ≡ false → (DriveFailures shelf old new drive.0).some
       out_once drive one_of out = subst (λ (n : ℕ). RoseOnce (faults_at old drive) n) (sym (kept_out drive out)) (once_by m2 at.calm drive one_of out)
 
-      told_end : IsEndBy (DriveFailures shelf m2 new) (Rewrites shelf m2 new site.key) site looked.survey taken.end → IsEndBy (DriveFailures shelf old new) (Rewrites shelf m2 new site.key) site looked.survey taken.end
-      told_end = end_as (DriveFailures shelf m2 new) (DriveFailures shelf old new) (Rewrites shelf m2 new site.key) site looked.survey
-          (λ r has some. subst (λ (n : ℕ). RoseOnce n (shelf.faults new (OnDrive (drive_of r)))) (read_faults r has) some) (λ r has none. none ∙ read_faults r has) taken.end
+      -- what was read, as the looks ended
+      was_read : (t u : Tale) → IsUp t u → WasRead g site looked u
+      was_read t u is = record { sound = sound; site_is = of_site; of = at.of u is.is; synced = λ r has. is.synced r.line.at.drive (calm_up r.line.at.drive (read_calm r has)) }
+
+      -- so what was written of it is told from the beginning
+      wrote_told : (hand : Hand) (table : Table) (gone : List Seat) → WroteBy shelf m2 new site looked hand table gone → WroteFor shelf old m2 new g site hand table gone
+      wrote_told hand table gone wrote = record { rewrites = wrote.rewrites; shows = λ t told. (let u = brought t told in let e = wrote.shows u.0 (l_same ∙ u.1) in (e.0, e.1, e.2 g (was_read t u.0 u.2))) }
+
+      told_end : IsEndBy (DriveFailures shelf m2 new) (WroteBy shelf m2 new site looked) site looked.survey taken.end → IsEndBy (DriveFailures shelf old new) (WroteFor shelf old m2 new g site) site looked.survey taken.end
+      told_end by = wrote_more (DriveFailures shelf old new) (WroteBy shelf m2 new site looked) (WroteFor shelf old m2 new g site) wrote_told site looked.survey taken.end (end_as (DriveFailures shelf m2 new) (DriveFailures shelf old new) (WroteBy shelf m2 new site looked) site looked.survey
+          (λ r has some. subst (λ (n : ℕ). RoseOnce n (shelf.faults new (OnDrive (drive_of r)))) (read_faults r has) some) (λ r has none. none ∙ read_faults r has) taken.end by)
 
       all_calm : calm ≡ true → (drive : DriveNo) → Contains site.drives drive → has_drive looked.calm drive ≡ true
       all_calm so drive one_of = All-contains (λ (d : DriveNo). has_drive looked.calm d ≡ true) site.drives drive (at_true _ _ calm so all) one_of
@@ -411,8 +434,8 @@ module _ {S : Type 0} (shelf : Ghosts S) (site : Site) (old m1 : S) (up : Drives
         none = at.none;
       }
 
-      ended_by : (is_memory taken.end ≡ true) ⊎ IsEndBy (DriveFailures shelf m2 new) (Rewrites shelf m2 new site.key) site looked.survey taken.end
-          → (is_memory taken.end ≡ true) ⊎ ((survey : Survey) × (at_look : IsReadAt shelf old new g site made survey) × IsEndBy (DriveFailures shelf old new) (Rewrites shelf at_look.looked new site.key) site survey taken.end × AreLettersOf site survey at_look.calm letters)
+      ended_by : (is_memory taken.end ≡ true) ⊎ IsEndBy (DriveFailures shelf m2 new) (WroteBy shelf m2 new site looked) site looked.survey taken.end
+          → (is_memory taken.end ≡ true) ⊎ ((survey : Survey) × (at_look : IsReadAt shelf old new g site made survey) × IsEndBy (DriveFailures shelf old new) (WroteFor shelf old at_look.looked new g site) site survey taken.end × AreLettersOf site survey at_look.calm letters)
       ended_by (inl memory) = inl memory
       ended_by (inr by) = inr (looked.survey, read_at, told_end by, letters_are)
 
@@ -433,12 +456,8 @@ module _ {S : Type 0} (shelf : Ghosts S) (site : Site) (old m1 : S) (up : Drives
         clean = subst (λ (b : Bool). MatchBool b ((is_memory taken.end ≡ false) × ((drive : DriveNo) → Contains site.drives drive → (DriveFailures shelf old new drive.0).none)) ((is_memory taken.end ≡ true) ⊎ ((drive : DriveNo) × Contains site.drives drive × (DriveFailures shelf old new drive.0).some)))
             (sym clean_is) (clean_by calm taken.calm (is_memory taken.end) all answer.calm refl);
         laid = subst (λ (sizes : List ℕ). IfAdopted taken.end (λ o. AreLaid sizes o.seats)) look_kept.keeps.same_sizes answer.laid;
-        lettered = of_ended (DriveFailures shelf m2 new) (Rewrites shelf m2 new site.key) site looked.survey looked.calm letters letters_are taken.end answer.ended;
+        lettered = of_ended (DriveFailures shelf m2 new) (WroteBy shelf m2 new site looked) site looked.survey looked.calm letters letters_are taken.end answer.ended;
       }
-
-      -- what was read, as the looks ended
-      was_read : (t u : Tale) → IsUp t u → WasRead g site looked u
-      was_read t u is = record { sound = sound; site_is = of_site; of = at.of u is.is; synced = λ r has. is.synced r.line.at.drive (calm_up r.line.at.drive (read_calm r has)) }
 
       pub all_moments : AtEachTale shelf (TakingMoment site looked taken.end) m2 new → AtEachTale shelf (BootMoment g site taken.end) old new
       all_moments taking =
@@ -455,9 +474,9 @@ module _ {S : Type 0} (shelf : Ghosts S) (site : Site) (old m1 : S) (up : Drives
           let has = (at.of u is.is).all r found (yes_not (has_drive looked.calm drive) (has_drive looked.survey.failed drive) here (at.none drive here)) in
           subst (λ (o : Option Newest). IsMarked looked.survey.replicas o) none at.survey.marked r has
 
-      empty_by : (is_memory taken.end ≡ true) ⊎ IsEndBy (DriveFailures shelf m2 new) (Rewrites shelf m2 new site.key) site looked.survey taken.end → taken.end ≡ end.Empty → looked.survey.newest ≡ None
+      empty_by : (is_memory taken.end ≡ true) ⊎ IsEndBy (DriveFailures shelf m2 new) (WroteBy shelf m2 new site looked) site looked.survey taken.end → taken.end ≡ end.Empty → looked.survey.newest ≡ None
       empty_by (inl memory) is = absurd (cc (memory, ap is_memory is))
-      empty_by (inr by) is = none_newest looked.survey (subst (λ (e : BootEnd). IsEndBy (DriveFailures shelf m2 new) (Rewrites shelf m2 new site.key) site looked.survey e) is by)
+      empty_by (inr by) is = none_newest looked.survey (subst (λ (e : BootEnd). IsEndBy (DriveFailures shelf m2 new) (WroteBy shelf m2 new site looked) site looked.survey e) is by)
 
       calm_of : clean ≡ true → calm ≡ true
       calm_of so = and_first calm (taken.calm && not (is_memory taken.end)) (sym clean_is ∙ so)
@@ -503,8 +522,11 @@ module _ {S : Type 0} (shelf : Ghosts S) (site : Site) (old m1 : S) (up : Drives
       reads_then a b c zero k l same took = subst (λ (s : S). MadeCalls shelf s c (0 + k) l) same (subst (λ (n : ℕ). MadeCalls shelf b c n l) (omega arith) took)
       reads_then a b c (suc j) k l read took = took_more shelf.calls shelf.written a b c (suc j) k 0 l (suc j + k) l refl (omega arith) read took
 
-      counted_by : (e : BootEnd) → (n : ℕ) → MadeReads shelf old m2 n → (has_written e ≡ false → new ≡ m2) → IfAdopted e (λ o. MadeCalls shelf m2 new (8 * active_of o.seats) ((3 + blocks_for (length (record_text o.table))) * active_of o.seats)) → IsEndCounted shelf old new n e
-      counted_by (end.Adopted o) n read still took = reads_then old m2 new n (8 * active_of o.seats) ((3 + blocks_for (length (record_text o.table))) * active_of o.seats) read took
+      zero_more : (k : ℕ) → 0 + k ≡ k
+      zero_more k = omega arith
+
+      counted_by : (e : BootEnd) → (n : ℕ) → MadeReads shelf old m2 n → (has_written e ≡ false → new ≡ m2) → IfAdopted e (IsAnewCounted (MadeCalls shelf m2 new) 0) → IsEndCounted shelf old new n e
+      counted_by (end.Adopted o) n read still took = record { table = took.table; found = took.found; is = took.is; marked = took.marked; one = took.one; made = reads_then old m2 new n _ _ read (subst (λ (k : ℕ). MadeCalls shelf m2 new k ((3 + blocks_for (length (record_text took.table))) * took.found + (2 + blocks_for (length (record_text o.table))) * (settles took.table.plan.lists * active_of o.seats))) (zero_more (8 * took.found + 6 * (settles took.table.plan.lists * active_of o.seats))) took.made) }
       counted_by end.Empty n read still took = subst (λ (s : S). MadeReads shelf old s n) (sym (still refl)) read
       counted_by (end.TwoDatabases a b) n read still took = subst (λ (s : S). MadeReads shelf old s n) (sym (still refl)) read
       counted_by (end.NoQuorum readable needed) n read still took = subst (λ (s : S). MadeReads shelf old s n) (sym (still refl)) read
@@ -514,7 +536,7 @@ module _ {S : Type 0} (shelf : Ghosts S) (site : Site) (old m1 : S) (up : Drives
 
       pub all_counted : IsTakingCounted shelf m2 new taken → (AreAllCalm site up looked.calm → (t : Tale) → shelf.tale m1 ≡ Some t → (n : ℕ) × MadeReads shelf m1 m2 n × AreLinesBy g site up no_drives (last t) site.lines n) → IsBootCounted shelf old new g site made
       all_counted counted once = record {
-        most = between_then shelf.calls shelf.written old m2 new 0 (2 * length site.drives + most_reads site) 0 0 (8 * 100) most_blocks 0 (2 * length site.drives + most_reads site + 8 * 100) most_blocks (omega arith) (omega arith) (omega arith) looks_most counted.most;
+        most = between_then shelf.calls shelf.written old m2 new 0 (2 * length site.drives + most_reads site) 0 0 most_calls most_blocks 0 (2 * length site.drives + most_reads site + most_calls) most_blocks (omega arith) (omega arith) (omega arith) looks_most counted.most;
         still = λ unwritten. subst (λ (s : S). MadeCallsBetween shelf old s 0 (2 * length site.drives + most_reads site) 0) (sym (answer.still unwritten)) looks_most;
         clean = λ so t told. (
             let is_calm = calm_of so in

@@ -17,12 +17,12 @@ use Rattle.mdv_standing.specs.Tracing.{IsCreationBegin, IsStart, Traces}
 use Rattle.mdv_standing.proofs.Blanking.{AreAllBefore, blank_more, blank_wiping, clears_later, first_place_before, no_first_now, no_first_still, none_before, rest_first_place, taken_before, unled_before}
 use Rattle.mdv_standing.proofs.Stretches.{traced_clearing, traced_creation}
 use Rattle.mdv_standing.proofs.Tracing.{run_traced, trace_more}
-use Rattle.mdv_store.specs.Acts.{AreDoing, AreDone, blanks_asked, blanks_behind, blanks_on}
+use Rattle.mdv_acts.specs.Acts.{AreDoing, AreDone, blanks_asked, blanks_behind, blanks_on}
 use Rattle.mdv_store.specs.Below.{Database, Geometry, Identity, Image, Key, Log, Site, SliceLine, Tale, place_on, site_of}
 use Rattle.mdv_store.specs.Blank.{IsBlank}
 use Rattle.mdv_store.specs.Records.{Spells}
 use Rattle.mdv_store.specs.Seats.{spots_of}
-use Rattle.mdv_store.proofs.Acting.{done_split, doing_split}
+use Rattle.mdv_acts.proofs.Acting.{done_split, doing_split}
 use Rattle.mdv_store.proofs.Blanks.{StayDark, blank_before, stay_dark}
 use Rattle.mdv_store.proofs.Forming.{IsFormedTo}
 use Rattle.mdv_store.proofs.Locating.{first_of}
@@ -251,7 +251,7 @@ module _ (g : Geometry) (key : Key) (identity : Identity) (lines : List SliceLin
       clear = after;
       traces =
           trace_more (Spells g) site identity log log log (IsStart site) (IsStart site) (IsStart site) (λ es. es ≡ []) (λ es. es ≡ []) (λ es. es ≡ []) t u m (λ es fs a b i. a i ++ b i) s.traces
-          (traced_clearing (Spells g) site identity log u (MayWipe at) m refl after.none leaves);
+          (traced_clearing (Spells g) site identity log u (MayWipe at) m refl refl after.none leaves);
     }
 
     -- the first place of a slice is blanked, whatever first master it has

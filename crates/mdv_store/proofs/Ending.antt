@@ -11,10 +11,11 @@ use Rattle.mdv_standing.specs.Tracing.{IsCreationBegin, IsRun, IsStart, Traces, 
 use Rattle.mdv_standing.proofs.Creating.{may_write_first}
 use Rattle.mdv_standing.proofs.Stretches.{traced_answer, traced_first_write}
 use Rattle.mdv_standing.proofs.Tracing.{adds_begun, adds_none, adds_written, course_one, course_written, more, newest_begun, part_one, run_within, trace_weaker}
-use Rattle.mdv_store.specs.Acts.{Act, AreDoing, AreDone, blanks_asked, forms_asked}
+use Rattle.mdv_acts.specs.Acts.{Act, AreDoing, AreDone, blanks_asked, forms_asked}
 use Rattle.mdv_store.specs.Below.{Database, Event, Everywhere, Failures, Geometry, Identity, IsPart, IsReadyWith, IsTaking, Key, Log, Replica, RestStands, Site, SliceLine, Spot, Table, Tale, fills_at, lists_of_spots, record_text, site_of, spot_on}
 use Rattle.mdv_store.specs.Commit.{AnyLog, AnyWorld}
-use Rattle.mdv_store.specs.Create.{AreAsked, AreOfCreation, CreateGoes, IsCreatedTo, MayCreate, replica_on, seats_asked, table_of}
+use Rattle.mdv_acts.specs.Asked.{AreAsked}
+use Rattle.mdv_store.specs.Create.{AreOfCreation, CreateGoes, IsCreatedTo, MayCreate, replica_on, seats_asked, table_of}
 use Rattle.mdv_store.specs.Opened.{AreSeatsOf, IsOpenedAt, Opened}
 use Rattle.mdv_store.specs.Records.{Spells}
 use Rattle.mdv_store.specs.Seats.{AreHeld, AreLeft, TakesSlot, replicas_of, spot_of, spots_of}
@@ -22,7 +23,7 @@ use Rattle.mdv_store.specs.Slots.{AreBodies, AreFills, IsWritten, SlottingEnds, 
 use Rattle.mdv_store.specs.Text.{IsSpelled}
 use Rattle.mdv_store.specs.declared.seats.Seat.{Seat}
 use Rattle.mdv_votes.specs.Spots.{is_none}
-use Rattle.mdv_store.proofs.Acting.{done_split, doing_split, no_line}
+use Rattle.mdv_acts.proofs.Acting.{done_split, doing_split, no_line}
 use Rattle.mdv_store.proofs.Clearing.{IsClearing, StaysKnown, all_cleared, all_clearing, clear_known, clear_now, may_form}
 use Rattle.mdv_store.proofs.Formed as formed
 use Rattle.mdv_store.proofs.Forming.{IsFormedTo, IsFormingAt, form_steps}
@@ -125,10 +126,10 @@ module _ (g : Geometry) (all : List Database) (key : Key) (identity : Identity) 
       may_form g key identity lines count blocks given asked.more t all u (all_cleared site lines count blocks asked.more Clearing known t clear u is).known (formed.blanked g key identity lines count blocks sizes t owner asked may.forms u is)
 
   abbrev acts : List Act
-  acts = blanks_asked lines count blocks ++ forms_asked key identity lines count blocks
+  acts = blanks_asked lines count blocks ++ forms_asked key identity 1 lines count blocks
 
   pub acts_unbegun : (m : Tale) → AreDoing acts t m → IsUnbegun m
-  acts_unbegun m is = elim (doing_split (blanks_asked lines count blocks) (forms_asked key identity lines count blocks) t m is) [
+  acts_unbegun m is = elim (doing_split (blanks_asked lines count blocks) (forms_asked key identity 1 lines count blocks) t m is) [
     | inl here ↦ from_clearing m (all_clearing site lines count blocks asked.more Clearing known t clear m here)
     | inr behind ↦ from_forming m (all_forming key identity lines count blocks (IsFormedTo g all key identity lines count blocks t) (IsFormingAt g all key identity lines count blocks t) steps pairs behind.0 (clear_to behind.0 behind.1) m behind.2)
   ]
@@ -137,7 +138,7 @@ module _ (g : Geometry) (all : List Database) (key : Key) (identity : Identity) 
   module _ (v : Tale) (is_done : AreDone acts t v) where
     f : Ended key identity lines count blocks (IsFormedTo g all key identity lines count blocks t) (IsFormingAt g all key identity lines count blocks t) steps v
     f =
-        let two = done_split (blanks_asked lines count blocks) (forms_asked key identity lines count blocks) t v is_done in
+        let two = done_split (blanks_asked lines count blocks) (forms_asked key identity 1 lines count blocks) t v is_done in
         all_formed key identity lines count blocks (IsFormedTo g all key identity lines count blocks t) (IsFormingAt g all key identity lines count blocks t) steps pairs two.0 (clear_to two.0 two.1) v two.2
 
     held : AreHeld g key identity seats v

@@ -4,17 +4,18 @@ use Rattle.mdv_replica.specs.declared.forms.Gate.TheVariants.{Closed}
 use Rattle.mdv_replica.specs.declared.forms.Master.{Master}
 use Rattle.mdv_shown.specs.Formats.{master_on}
 use Rattle.mdv_standing.specs.Creating.{first_mark}
-use Rattle.mdv_store.specs.Acts.{AreDoing, AreDone, acts_asked, blanks_asked, forms_asked}
+use Rattle.mdv_acts.specs.Acts.{AreDoing, AreDone, acts_asked, blanks_asked, forms_asked}
 use Rattle.mdv_store.specs.Below.{Failures, First, Geometry, Identity, IsOwn, Key, Mark, Open, Replica, Second, Site, SliceLine, Slot, Table, Tale, gate_of, is_named, lists_of_spots, record_text, site_of}
 use Rattle.mdv_store.specs.Blank.{StayBlank}
-use Rattle.mdv_store.specs.Create.{AreAsked, MayForm, replica_on, seats_asked, table_of}
+use Rattle.mdv_acts.specs.Asked.{AreAsked}
+use Rattle.mdv_store.specs.Create.{MayForm, replica_on, seats_asked, table_of}
 use Rattle.mdv_store.specs.Opened.{IsOpenedAt, Opened}
 use Rattle.mdv_store.specs.Records.{Spells}
 use Rattle.mdv_store.specs.Seats.{AreHeld, AreLeft, AreNamed, AreTheirs, TakesSlot, spot_of}
 use Rattle.mdv_store.specs.Slots.{AreAbove, AreBodies, SlottingEnds, SlottingMoment}
 use Rattle.mdv_store.specs.Text.{IsSpelled}
 use Rattle.mdv_store.specs.declared.seats.Seat.{Seat}
-use Rattle.mdv_store.proofs.Acting.{done_split, doing_split}
+use Rattle.mdv_acts.proofs.Acting.{done_split, doing_split}
 use Rattle.mdv_store.proofs.Blanks.{StayDark, still_blank}
 use Rattle.mdv_store.proofs.Clearing.{all_cleared, all_clearing, dark_known, dark_now, may_put}
 use Rattle.mdv_store.proofs.Given.{ArePairsApart, IsOwner, all_given, slices_apart}
@@ -54,17 +55,17 @@ module _ (g : Geometry) (key : Key) (identity : Identity) (lines : List SliceLin
       may_put g key identity lines count blocks given asked.more t u
       (all_cleared site lines count blocks asked.more (StayDark g key identity t) (dark_known g key identity lines count blocks given asked.more t) t (dark_now g key identity lines count blocks given asked.more t) u is)
 
-  pub acts_dark : (m : Tale) → AreDoing (acts_asked key identity lines count blocks) t m → StayDark g key identity t m
-  acts_dark m is = elim (doing_split (blanks_asked lines count blocks) (forms_asked key identity lines count blocks) t m is) [
+  pub acts_dark : (m : Tale) → AreDoing (acts_asked key identity 1 lines count blocks) t m → StayDark g key identity t m
+  acts_dark m is = elim (doing_split (blanks_asked lines count blocks) (forms_asked key identity 1 lines count blocks) t m is) [
     | inl here ↦ blanking_dark m here
     | inr behind ↦ all_forming key identity lines count blocks (Puts g key identity lines count blocks given t) (StayDark g key identity t) (put_steps g key identity lines count blocks given t) pairs behind.0 (blanked behind.0 behind.1) m behind.2
   ]
 
   -- The first table is written.
-  module _ (v : Tale) (is_done : AreDone (acts_asked key identity lines count blocks) t v) where
+  module _ (v : Tale) (is_done : AreDone (acts_asked key identity 1 lines count blocks) t v) where
     put : Ended key identity lines count blocks (Puts g key identity lines count blocks given t) (StayDark g key identity t) (put_steps g key identity lines count blocks given t) v
     put =
-        let two = done_split (blanks_asked lines count blocks) (forms_asked key identity lines count blocks) t v is_done in
+        let two = done_split (blanks_asked lines count blocks) (forms_asked key identity 1 lines count blocks) t v is_done in
         all_formed key identity lines count blocks (Puts g key identity lines count blocks given t) (StayDark g key identity t) (put_steps g key identity lines count blocks given t) pairs two.0 (blanked two.0 two.1) v two.2
 
     first_same : (l : SliceLine) → master_on site identity l blocks count 0 ≡ (replica_on key identity l count blocks 0).first

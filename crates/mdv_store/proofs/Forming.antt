@@ -23,7 +23,7 @@ use Rattle.mdv_standing.proofs.Creating.{first_formatted, first_formatting}
 use Rattle.mdv_standing.proofs.Rest.{rest_first, rest_later}
 use Rattle.mdv_standing.proofs.Stretches.{traced_later, traced_later_done}
 use Rattle.mdv_standing.proofs.Tracing.{formats_one, more, part_none_or, part_one, trace_by, trace_weaker}
-use Rattle.mdv_store.specs.Acts.{IsDoing, IsDone, form_on}
+use Rattle.mdv_acts.specs.Acts.{IsDoing, IsDone, form_on}
 use Rattle.mdv_store.specs.Below.{Core, Database, Event, Geometry, Identity, Image, IsPart, Key, Log, PlaceAt, Site, SliceLine, Spot, Tale, place_on, same_spot, site_of, spot_on}
 use Rattle.mdv_store.specs.Commit.{AnyWorld}
 use Rattle.mdv_store.specs.Create.{seats_asked}
@@ -198,10 +198,10 @@ module _ (g : Geometry) (all : List Database) (key : Key) (identity : Identity) 
           subst (λ (plan : List Event). Traces (Spells g) site identity log log (IsStart site) (IsRun (IsCreationBegin named) plan) Then t m) (sym (formats_one part (spot_on line blocks k)))
           (more (Spells g) site identity log log (IsStart site) (IsCreating named s.made) (IsCreationBegin named) (formats_at part) t u s.traces log Then Are (Formatted (spot_on line blocks k) ∷ []) m within second)
 
-      leaving : (m : Tale) → IsDoing (form_on key identity line count blocks k) u m → Leaves (MayFormat (at line k) (master line k) 1) u m
+      leaving : (m : Tale) → IsDoing (form_on key identity 1 line count blocks k) u m → Leaves (MayFormat (at line k) (master line k) 1) u m
       leaving m formatting = leaves_formatting (at line k) (master line k) 1 u m formatting
 
-      one_forming : (m : Tale) → IsDoing (form_on key identity line count blocks k) u m → IsFormingAt t m
+      one_forming : (m : Tale) → IsDoing (form_on key identity 1 line count blocks k) u m → IsFormingAt t m
       one_forming m formatting = record {
         part = part ++ spot_on line blocks k ∷ [];
         due = due;
@@ -212,7 +212,7 @@ module _ (g : Geometry) (all : List Database) (key : Key) (identity : Identity) 
       }
 
       module _ (Next Less : OfPlaces) (now : AreNow Done Blank line k Next Less) where
-        one_formed : (v : Tale) → IsDone (form_on key identity line count blocks k) u v → IsFormedTo t Next Less (part ++ spot_on line blocks k ∷ []) due v
+        one_formed : (v : Tale) → IsDone (form_on key identity 1 line count blocks k) u v → IsFormedTo t Next Less (part ++ spot_on line blocks k ∷ []) due v
         one_formed v is =
             let leaves = leaving v is.0 in
             let formats = leaves_settled line.at.drive.0 (line.at.start + (16 + k * blocks)) (formatted_blocks (master line k) 1) u v is.0.outside is.1 in

@@ -8,7 +8,7 @@ use Rattle.mdv_survey.specs.declared.replica.Newest.{Newest}
 use Rattle.mdv_survey.specs.declared.replica.Survey.{Survey}
 use Rattle.mdv_table.specs.Tests.{same_place}
 use Rattle.mdv_table.proofs.Testing.{same_place-true}
-use Rattle.mdv_store.specs.Below.{Drives, Failures, Place, Site, Table, places_of, record_text}
+use Rattle.mdv_store.specs.Below.{Drives, Failures, Place, Site, Table, last_of, places_of, record_text}
 use Rattle.mdv_store.specs.Boot.{IfAdopted, IsAdopted, IsEndBy, is_memory}
 use Rattle.mdv_store.specs.Letters.{AreLettersOf, AreRead, flags_at, flags_by, is_lettered_at, is_seat_at, letters_from, places_seen, seen_at}
 use Rattle.mdv_store.specs.Opened.{Opened}
@@ -97,12 +97,12 @@ told_just_where place seats seen places are of = (
 )
 
 -- What is adopted has letters of its listed places.
-module _ (failed : ℕ → Failures) (Wrote : Hand → Table → Type 0) (site : Site) (survey : Survey) (calm : Drives) (letters : List Lettered) (are : AreLettersOf site survey calm letters) where
+module _ (failed : ℕ → Failures) (Wrote : Hand → Table → List Seat → Type 0) (site : Site) (survey : Survey) (calm : Drives) (letters : List Lettered) (are : AreLettersOf site survey calm letters) where
   of_adopted : (o : Opened) → IsAdopted failed Wrote site survey o → places_seen letters ≡ places_of o.table.plan.lists
   of_adopted o a =
       let read : AreRead site survey calm a.newest letters = subst (λ (n : Option Newest). MatchOption n (letters ≡ []) (λ newest. AreRead site survey calm newest letters)) a.drawn.hand.newest_is are in
       let seen = seen_at site survey calm read.replica.head.master.identity a.newest.mark (blocks_for (length (record_text a.newest.table))) in
-      ap places_seen read.letters_are ∙ seen_places seen false (places_of a.newest.table.plan.lists) ∙ ap (λ (x : Opened). places_of x.table.plan.lists) (sym a.is)
+      ap places_seen read.letters_are ∙ seen_places seen false (last_of a.newest.table.plan.lists) ∙ ap (λ (x : Opened). places_of x.table.plan.lists) (sym a.is)
 
   pub of_ended : (e : BootEnd) → (is_memory e ≡ true) ⊎ IsEndBy failed Wrote site survey e → IfAdopted e (λ o. places_seen letters ≡ places_of o.table.plan.lists)
   of_ended (end.Adopted o) (inl memory) = absurd (cc (memory))

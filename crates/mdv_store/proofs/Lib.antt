@@ -1,5 +1,4 @@
 pub mod Acted
-pub mod Acting
 pub mod Adoptions
 pub mod Asked
 pub mod Bare
@@ -37,6 +36,9 @@ pub mod Rooms
 pub mod Rows
 pub mod Seated
 pub mod Seating
+pub mod Again
+pub mod Anew
+pub mod Finishing
 pub mod Sitting
 pub mod Slices
 pub mod Slotting
@@ -46,3 +48,4 @@ pub mod Stepping
 pub mod Takes
 pub mod Telling
 pub mod Texts
+pub mod Told

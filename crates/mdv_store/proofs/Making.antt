@@ -12,10 +12,11 @@ use Rattle.mdv_shelf.proofs.Between.{between_of, between_then, between_wider}
 use Rattle.mdv_shelf.proofs.Counts.{took_more}
 use Rattle.mdv_shelf.proofs.Moments.{ends_more, grew_weaker, moments_after, moments_end, moments_none, moments_weaker, some_is}
 use Rattle.mdv_standing.specs.Creating.{first_mark}
-use Rattle.mdv_store.specs.Acts.{Act, AreDoing, AreDone, HaveGone, HaveStopped, Makes, blanks_asked, blocks_of, calls_of, forms_asked}
+use Rattle.mdv_acts.specs.Acts.{Act, AreDoing, AreDone, HaveGone, HaveStopped, Makes, blanks_asked, blocks_of, calls_of, forms_asked}
 use Rattle.mdv_store.specs.Below.{DriveNo, Failures, First, Geometry, Ghosts, Head, Identity, Key, Mark, Open, Replica, Second, SliceLine, Slot, Table, Tale, gate_of, record_text, with_slot}
 use Rattle.mdv_store.specs.Counts.{ArePassCounted, MadeCallsBetween, drives_lost}
-use Rattle.mdv_store.specs.Create.{AreAsked, CreateAnswer, CreateEnds, CreateMoment, IsCreated, IsCreationCounted, MayForm, StayFormed, WereFormed, blanked_asked, drives_asked, seats_asked, table_of}
+use Rattle.mdv_acts.specs.Asked.{AreAsked, blanked_asked, drives_asked}
+use Rattle.mdv_store.specs.Create.{CreateAnswer, CreateEnds, CreateMoment, IsCreated, IsCreationCounted, MayForm, StayFormed, WereFormed, seats_asked, table_of}
 use Rattle.mdv_store.specs.Opened.{IsOpen, Opened, least_room}
 use Rattle.mdv_store.specs.Seats.{AreLaid, AreLeft, TakesSlot, active_of, drives_of, replicas_of}
 use Rattle.mdv_store.specs.Shares.{short_of}
@@ -24,9 +25,10 @@ use Rattle.mdv_store.specs.Writing.{WereWritten, WritingEnds, WritingMoment}
 use Rattle.mdv_store.specs.declared.creating.CreateFault.{CreateFault}
 use Rattle.mdv_store.specs.declared.creating.CreateFault.TheVariants as unmade
 use Rattle.mdv_store.specs.declared.seats.Seat.{Seat}
-use Rattle.mdv_store.proofs.Acted.{acts_done_quiet, acts_quiet, blanks_blocks, blanks_calls, forms_blocks, forms_calls, quiet_more}
-use Rattle.mdv_store.proofs.Acting.{among_more, blocks_more, calls_more, doing_here}
-use Rattle.mdv_store.proofs.Asked.{drive_asked}
+use Rattle.mdv_acts.proofs.Counting.{blanks_blocks, blanks_calls, forms_blocks, forms_calls}
+use Rattle.mdv_store.proofs.Acted.{acts_done_quiet, acts_quiet, quiet_more}
+use Rattle.mdv_acts.proofs.Acting.{among_more, blocks_more, calls_more, doing_here}
+use Rattle.mdv_acts.proofs.Asked.{drive_asked}
 use Rattle.mdv_store.proofs.Losing.{left_or_lost}
 use Rattle.mdv_store.proofs.Ending.{acts_unbegun, made_ends, writing_goes, writing_rest}
 use Rattle.mdv_store.proofs.Formed.{acts_dark, held, made_opened, writing_dark, writing_stays}
@@ -73,7 +75,7 @@ module _ {S : Type 0} (shelf : Ghosts S) (key : Key) (identity : Identity) (line
   bytes = length (record_text table)
 
   abbrev acts : List Act
-  acts = blanks_asked lines count blocks ++ forms_asked key identity lines count blocks
+  acts = blanks_asked lines count blocks ++ forms_asked key identity 1 lines count blocks
 
   abbrev drives : List DriveNo
   drives = drives_asked lines
@@ -111,10 +113,10 @@ module _ {S : Type 0} (shelf : Ghosts S) (key : Key) (identity : Identity) (line
   memory_end t is = (t, is, record { ended = λ g all may. refl; opened = tt; unmade = λ same g may blank. blank })
 
   total_calls : calls_of acts ≡ 2 * blanked_asked lines count + 6 * (length lines * count)
-  total_calls = omega (arith, calls_more (blanks_asked lines count blocks) (forms_asked key identity lines count blocks), blanks_calls count blocks asked.more lines, forms_calls count blocks key identity lines)
+  total_calls = omega (arith, calls_more (blanks_asked lines count blocks) (forms_asked key identity 1 lines count blocks), blanks_calls count blocks asked.more lines, forms_calls count blocks key identity 1 lines)
 
   total_blocks : blocks_of acts ≡ blanked_asked lines count + 5 * (length lines * count)
-  total_blocks = omega (arith, blocks_more (blanks_asked lines count blocks) (forms_asked key identity lines count blocks), blanks_blocks count blocks asked.more lines, forms_blocks count blocks key identity lines)
+  total_blocks = omega (arith, blocks_more (blanks_asked lines count blocks) (forms_asked key identity 1 lines count blocks), blanks_blocks count blocks asked.more lines, forms_blocks count blocks key identity 1 lines)
 
   -- A call failed before the table was begun.
   module _ (b : S) (s : HaveStopped shelf a b drives acts) where

@@ -2,7 +2,7 @@
 use Rattle.std.proofs.Common.{◌≡◌, ◌⊎◌, ℕ, ◌+◌, ◌<◌, List, [], ◌∷◌, ◌++◌, Contains}
 use Rattle.mdv_shelf.specs.Area.{AreApart}
 use Rattle.mdv_shown.specs.Site.{line_area}
-use Rattle.mdv_store.specs.Acts.{IsDoing, IsDone, form_on}
+use Rattle.mdv_acts.specs.Acts.{IsDoing, IsDone, form_on}
 use Rattle.mdv_store.specs.Below.{Identity, Key, SliceLine, Spot, Tale, spot_on}
 
 -- of each slice, and of each of its numbers
@@ -35,6 +35,6 @@ pub record GoesOn (key : Key) (identity : Identity) (lines : List SliceLine) (co
   pub recast : (Done Blank Other Less : OfPlaces) (part due : List Spot) (u : Tale) → AreThose Done Blank Other Less → State Done Blank part due u → State Other Less part due u
   pub here : (Done Blank : OfPlaces) (part due : List Spot) (u : Tale) → State Done Blank part due u → At u
   pub forming : (Done Blank : OfPlaces) (part due : List Spot) (u : Tale) (line : SliceLine) (k : ℕ) → IsNext lines count Done Blank line k → State Done Blank part (spot_on line blocks k ∷ due) u
-      → (m : Tale) → IsDoing (form_on key identity line count blocks k) u m → At m
+      → (m : Tale) → IsDoing (form_on key identity 1 line count blocks k) u m → At m
   pub formed : (Done Blank Next Less : OfPlaces) (part due : List Spot) (u : Tale) (line : SliceLine) (k : ℕ) → IsNext lines count Done Blank line k → AreNow Done Blank line k Next Less
-      → State Done Blank part (spot_on line blocks k ∷ due) u → (v : Tale) → IsDone (form_on key identity line count blocks k) u v → State Next Less (part ++ spot_on line blocks k ∷ []) due v
+      → State Done Blank part (spot_on line blocks k ∷ due) u → (v : Tale) → IsDone (form_on key identity 1 line count blocks k) u v → State Next Less (part ++ spot_on line blocks k ∷ []) due v

@@ -15,7 +15,7 @@ use Rattle.mdv_standing.specs.Forming.{IsBehind}
 use Rattle.mdv_standing.proofs.Blanking.{blank_beside, blank_formatting, first_taken, later_taken}
 use Rattle.mdv_standing.proofs.Formed.{behind_own, own_beside, own_formatting}
 use Rattle.mdv_standing.proofs.Within.{format_within}
-use Rattle.mdv_store.specs.Acts.{IsDoing, IsDone, form_on}
+use Rattle.mdv_acts.specs.Acts.{IsDoing, IsDone, form_on}
 use Rattle.mdv_store.specs.Below.{Everywhere, Geometry, Head, Identity, Image, IsOwn, IsSound, Key, PlaceAt, Site, SliceLine, Spot, Tale, is_named, lists_of_spots, place_on, site_of, spot_on}
 use Rattle.mdv_store.specs.Create.{seats_asked, table_of}
 use Rattle.mdv_store.specs.Records.{Spells}
@@ -151,10 +151,10 @@ module _ (g : Geometry) (key : Key) (identity : Identity) (lines : List SliceLin
       abbrev put : IsPutting line k u
       put = put_of next.front
 
-      leaving : (m : Tale) → IsDoing (form_on key identity line count blocks k) u m → Leaves (MayFormat (at line k) (master line k) 1) u m
+      leaving : (m : Tale) → IsDoing (form_on key identity 1 line count blocks k) u m → Leaves (MayFormat (at line k) (master line k) 1) u m
       leaving m formatting = leaves_formatting (at line k) (master line k) 1 u m formatting
 
-      pub one_putting : (m : Tale) → IsDoing (form_on key identity line count blocks k) u m → StayDark g key identity t m
+      pub one_putting : (m : Tale) → IsDoing (form_on key identity 1 line count blocks k) u m → StayDark g key identity t m
       one_putting m formatting = still_dark g key identity t u m s.dark (put.darks m (leaving m formatting))
 
       kept_own : (v : Tale) → Leaves (MayFormat (at line k) (master line k) 1) u v → (other : SliceLine) (j : ℕ) → Done other j → OwnAt other j v
@@ -177,7 +177,7 @@ module _ (g : Geometry) (key : Key) (identity : Identity) (lines : List SliceLin
           blank_beside line other apart old new (format_within line k blocks count old new f.within f.lies.least (master line k) 1 change) blocks from count given.least blank
 
       module _ (Next Less : OfPlaces) (now : AreNow Done Blank line k Next Less) where
-        pub one_put : (v : Tale) → IsDone (form_on key identity line count blocks k) u v → ArePut t Next Less v
+        pub one_put : (v : Tale) → IsDone (form_on key identity 1 line count blocks k) u v → ArePut t Next Less v
         one_put v is =
             let leaves = leaving v is.0 in
             let formats = leaves_settled line.at.drive.0 (line.at.start + (16 + k * blocks)) (formatted_blocks (master line k) 1) u v is.0.outside is.1 in

@@ -1,7 +1,7 @@
 -- What was read, as the votes see it.
 use Rattle.std.proofs.Common.{◌≡◌, inl, inr, ◌<◌, ◌≤◌, ◌+◌, ◌*◌, ◌^◌, max, ℕ, Bool, true, false, ◌&&◌, cond, List, [], ◌∷◌, ◌++◌, None, Some, Contains, length, map, slice_get, slice_index_or, refl, sym, ◌∙◌, subst, ap, arith}
 use Rattle.std.specs.Prelude.{nat_le, not}
-use Rattle.std.specs.List.{AllPairs, list_any}
+use Rattle.std.specs.List.{AllPairs, find, list_any}
 use Rattle.std.proofs.lemmas.Bool.{leb-true, or_left, or_right}
 use Rattle.std.proofs.lemmas.Bool.Decides.{nat_tests}
 use Rattle.std.proofs.lemmas.List.Elements.{Contains-append_cases}
@@ -29,7 +29,8 @@ use Rattle.mdv_votes.proofs.Meeting.{same_is, same_self}
 use Rattle.mdv_votes.specs.Spots.{is_in}
 use Rattle.mdv_store.specs.Below.{Geometry, Identity, IsOfGeometry, IsOwn, Key, Open, Place, Replica, Site, SliceLine, Spot, Table, Tale, at_of, gate_of, greatest, is_named, last, lists_of_spots, places_of, record_text, same_spot, site_of, slot_blocks, spot_on}
 use Rattle.mdv_store.specs.Adopting.{WasReadOf}
-use Rattle.mdv_store.specs.Boot.{greatest_number, is_seated}
+use Rattle.mdv_store.specs.Boot.{greatest_number, is_seated, seat_for}
+use Rattle.mdv_store.specs.Settled.{again_of}
 use Rattle.mdv_store.specs.Opened.{AreSeatsOf}
 use Rattle.mdv_store.specs.Records.{Spells}
 use Rattle.mdv_store.specs.Seats.{AreHeld, AreNamed, IsLaid, drive_of, replicas_of, spot_of, spots_of}
@@ -41,7 +42,7 @@ use Rattle.mdv_store.specs.declared.seats.Need.TheVariants.{More}
 use Rattle.mdv_store.specs.declared.seats.Seat.{Seat}
 use Rattle.mdv_store.proofs.Halves.{spot_at, spot_is}
 use Rattle.mdv_look.proofs.Looks.{and_first, and_second}
-use Rattle.mdv_store.proofs.Passes.{mapped}
+use Rattle.mdv_store.proofs.Passes.{mapped, unmapped}
 use Rattle.mdv_store.proofs.Quorums.{enough_read}
 use Rattle.mdv_store.proofs.Records.{spelled_of}
 use Rattle.mdv_store.proofs.Rows.{part_filter, part_has}
@@ -86,7 +87,7 @@ own_greatest identity (x ∷ rs) = by (is_of identity x) (own_greatest identity 
   by true rest = ap (λ (n : ℕ). max (greatest x.head) n) rest
   by false rest = rest
 
-in_mapped : {X : Type 0} (f : X → Spot) (xs : List X) (x : X) → Contains xs x → is_in (map f xs) (f x) ≡ true
+pub in_mapped : {X : Type 0} (f : X → Spot) (xs : List X) (x : X) → Contains xs x → is_in (map f xs) (f x) ≡ true
 in_mapped f [] x has = absurd (omega (arith, has.1))
 in_mapped f (y ∷ ys) x has = elim (first_or_behind y x ys has) [
   | inl here ↦ or_left (same_spot (f y) (f x)) (is_in (map f ys) (f x)) (ap (λ z. same_spot (f z) (f x)) here ∙ same_self (f x))
@@ -141,6 +142,12 @@ module _ (site : Site) (replicas : List Replica) (newest : Newest) (hand : Hand)
     seats = hand_seats;
     enough = enough;
     room = λ r has. (let one = in_hand_is r has in seated_room hand.identity one.0 text r one.2);
+    one = λ s t has_s has_t same.
+        let a = unmapped (seat_for replicas hand.identity text) places s (subst (λ (ss : List Seat). Contains ss s) is.seats_are has_s) in
+        let b = unmapped (seat_for replicas hand.identity text) places t (subst (λ (ss : List Seat). Contains ss t) is.seats_are has_t) in
+        ap (λ (x : Seat). x.replica) (sym a.2) ∙ ap (λ (p : Place). find (is_seated hand.identity p text) replicas) (ap (λ (x : Seat). x.place) a.2 ∙ same ∙ sym (ap (λ (x : Seat). x.place) b.2)) ∙ ap (λ (x : Seat). x.replica) b.2;
+    next = ap (map (λ (s : Seat). s.place)) is.next_are ∙ seats_places replicas hand.identity text (again_of newest.table.plan.lists);
+    next_few = is.next_few;
     whole = is.room_is;
     short = λ r has. (let one = in_hand_is r has in let at = seated r one.1 in omega (arith, at.formed.of_place.most, at.length));
     small = small;

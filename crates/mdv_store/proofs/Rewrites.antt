@@ -1,7 +1,6 @@
 -- The two passes of a boot: what they come to, and what they cost.
-use Rattle.std.proofs.Common.{◌≡◌, ◌⊎◌, inl, inr, ◌<◌, ◌≤◌, ◌+◌, ◌*◌, ◌^◌, max, ℕ, Bool, true, false, List, Contains, length, nat_eq, refl, sym, ◌∙◌, subst, ap, arith, Option, None, Some, MatchOption}
+use Rattle.std.proofs.Common.{◌≡◌, ◌⊎◌, inl, inr, ◌<◌, ◌≤◌, ◌+◌, ◌*◌, ◌^◌, ℕ, Bool, false, List, [], ◌∷◌, Contains, length, refl, sym, ◌∙◌, subst, ap, arith, Option, None, Some, MatchOption}
 use Rattle.std.proofs.Math.Nat.{mul-le-mul_left}
-use Rattle.std.proofs.lemmas.Bool.{eqb-false, eqb-true}
 use Rattle.mdv_base.specs.Causes.{RoseOnce}
 use Rattle.mdv_record.proofs.Rooms.{room_most}
 use Rattle.mdv_shelf.proofs.Between.{between_then, between_wider}
@@ -10,19 +9,27 @@ use Rattle.mdv_shelf.proofs.Moments.{ends_both, ends_more, moments_after, moment
 use Rattle.mdv_shelf.specs.Between.{RoseByAtLeast}
 use Rattle.mdv_shelf.specs.Calls.{OnDrive}
 use Rattle.mdv_shelf.specs.Drives.{KeptAmong}
-use Rattle.mdv_shelf.specs.Shelves.{AtEachTale, AtEnd, DriveFailures}
+use Rattle.mdv_shelf.specs.Shelves.{AtEachTale, AtEnd, DriveFailures, MadeCalls}
+use Rattle.mdv_shown.specs.Choice.{spots_seen}
+use Rattle.mdv_store_law.specs.Anew.{HasNoneAgain}
 use Rattle.mdv_standing.specs.Adopting.{drawn}
-use Rattle.mdv_store.specs.Below.{DriveNo, Failures, Ghosts, IsSynced, Key, Replica, Table, Tale, at_of, places_of, record_text}
+use Rattle.mdv_standing.specs.Others.{Anything}
+use Rattle.mdv_standing.specs.Tracing.{GoesTraced}
+use Rattle.mdv_store.specs.Below.{CoversWith, DriveNo, Failures, Geometry, Ghosts, IsReadyWith, IsSynced, Key, Log, One, Place, Replica, Table, Tale, Two, places_of, record_text, settled, site_of}
 use Rattle.mdv_store.specs.Boot.{IfAdopted, TakesBoth, TakesClaimOrBoth, need_of}
-use Rattle.mdv_store.specs.BootCounts.{most_blocks}
+use Rattle.mdv_store.specs.BootCounts.{blocks_at, calls_at, most_blocks, most_calls}
 use Rattle.mdv_store.specs.Claims.{ClaimingEnds, ClaimingMoment}
+use Rattle.mdv_store.specs.Commit.{IsNewestWritten}
 use Rattle.mdv_store.specs.Counts.{ArePassCounted, MadeCallsBetween, drives_lost}
-use Rattle.mdv_store.specs.Opened.{IsOpen, Opened, least_room}
-use Rattle.mdv_store.specs.Passing.{IsPassing, WentBy, WentOver, claiming, slotting}
-use Rattle.mdv_store.specs.Seats.{AreLaid, AreLeft, HaveRoom, IsLaid, TakesClaim, TakesSlot, active_of, drive_of, drives_of, replicas_of, seats_area}
+use Rattle.mdv_store.specs.Opened.{IsOpenedAt, Opened}
+use Rattle.mdv_store.specs.Records.{Spells}
+use Rattle.mdv_store.specs.Passing.{IsPassing, Passed, WentBy, WentOver, claiming, slotting}
+use Rattle.mdv_store.specs.Seats.{AreLaid, AreLeft, HaveRoom, IsLaid, TakesClaim, TakesSlot, active_of, drive_of, drives_of, replicas_of, seats_area, spots_of}
+use Rattle.mdv_store.specs.Settled.{again_of, first_room, seats_now}
 use Rattle.mdv_store.specs.Slots.{SlottingEnds, SlottingMoment}
-use Rattle.mdv_store.specs.Taking.{IsCalmOver, IsReadied, IsRewriteAnswer, IsRewriteEnd, IsTakingCounted, MadeRewriteCalls, RewriteEnds, RewriteMoment, StaySynced, WereClaimed, WerePassed, WereSlotted}
+use Rattle.mdv_store.specs.Taking.{GoneShow, IsCalmOver, IsReadied, IsRewriteAnswer, IsRewriteEnd, IsTakingCounted, IsToAdopt, RewriteEnds, RewriteMoment, StaySynced, WereClaimed, WerePassed, WereSettled, WereSlotted, room_of, second_mark}
 use Rattle.mdv_store.specs.Text.{IsSpelled, blocks_for}
+use Rattle.mdv_store.specs.Writing.{IsWrittenOver}
 use Rattle.mdv_store.specs.declared.booting.BootEnd.{BootEnd}
 use Rattle.mdv_store.specs.declared.booting.BootEnd.TheVariants as end
 use Rattle.mdv_store.specs.declared.booting.Hand.{Hand}
@@ -33,11 +40,12 @@ use Rattle.mdv_table.specs.declared.plan.Lists.{Lists}
 use Rattle.mdv_look.proofs.Among.{among_calm, is_one_of}
 use Rattle.mdv_look.proofs.Bringing.{one_number, same_drive}
 use Rattle.mdv_store.proofs.Losing.{left_or_lost, pass_wrote, rose_then}
-use Rattle.mdv_store.proofs.Passes.{all_left, later, left_area, left_as, left_both, left_calm, left_most, left_told, mapped, pass_synced, some_lost, takes_both, unmapped}
+use Rattle.mdv_store.proofs.Once.{pass_once}
+use Rattle.mdv_store.proofs.Passes.{later, left_area, left_as, left_both, left_calm, left_most, left_told, mapped, pass_synced, some_lost, takes_both, unmapped}
 use Rattle.mdv_look.proofs.Quiet.{quiet_more, quiet_wider}
 use Rattle.mdv_store.proofs.Shares.{more_suffices, short_fewer, some_more}
-use Rattle.mdv_store.proofs.Rewriting.{blank_goes, both_none_above, claims_go, ends_go, opened, rest_goes, slots_go}
-use Rattle.mdv_store.proofs.Sitting.{active_most, left_replica, left_seats, some_active}
+use Rattle.mdv_store.proofs.Rewriting.{AreBooted, blank_goes, claims_go, ends_go, opened, rest_goes, slots_go}
+use Rattle.mdv_store.proofs.Sitting.{active_most, left_replica, some_active}
 use Rattle.mdv_store.proofs.Texts.{spelled_long}
 use Rattle.mdv_store.specs.Shares.{short_of}
 use Rattle.mdv_store.specs.declared.seats.Need.TheVariants.{More}
@@ -50,6 +58,47 @@ as_needed key need seats told lists came of same is = ap (λ (n : Need). short_o
 -- at most a hundred are active
 few_active : (seats : List Seat) → length seats ≤ 100 → active_of seats ≤ 100
 few_active seats few = omega (arith, few, active_most seats)
+
+-- no places show anything
+pub nothing_shown : (key : Key) (hand : Hand) (table : Table) (t u : Tale) → GoneShow key hand table [] t u
+nothing_shown key hand table t u g to = record {
+  sound = to.sound;
+  of_geometry = to.of_geometry;
+  held = record { each = λ r has. absurd (omega (arith, has.1)); once = λ i j d less within. absurd (omega (arith, within)) };
+  named = λ r has. absurd (omega (arith, has.1));
+  shown = λ r has. absurd (omega (arith, has.1));
+}
+
+-- behind both passes, where enough of each list took them
+pub record AreTwice (key : Key) (hand : Hand) (table : Table) (last : List Seat) (t u : Tale) : Type 0 where
+  pub moment : RewriteMoment key hand table t u
+  pub claimed : List Replica
+  pub between : Tale
+  pub claims : Passed (claiming hand.number) (replicas_of hand.seats) t claimed [] between
+  pub slots : IsWrittenOver claimed (drawn hand.number) table between (replicas_of last) u
+  pub opened : (g : Geometry) → IsToAdopt g key hand table t → IsOpenedAt g (record { key = key; identity = hand.identity; mark = drawn hand.number; table = table; seats = last }) u
+  pub goes : (g : Geometry) (to : IsToAdopt g key hand table t) (log : Log) → CoversWith (Spells g) (site_of g key) hand.identity (λ image w. Anything w) log t → HasNoneAgain log
+      → GoesTraced (Spells g) g (site_of g key) hand.identity [] Anything (AreBooted (spots_seen to.seen) (spots_of hand.seats)) (IsReadyWith (spots_of last)) (λ l. IsNewestWritten l (drawn hand.number) table) t u log
+
+-- Both passes, where enough of each list took them: what they come to, and what they cost.
+pub record IsTwice {S : Type 0} (shelf : Ghosts S) (key : Key) (hand : Hand) (table : Table) (old mid : S) (last : List Seat) : Type 0 where
+  pub took : AreLeft (DriveFailures shelf old mid) (TakesBoth hand.number (length (record_text table))) hand.seats last
+  pub enough : short_of (need_of key) last table.plan.lists ≡ None
+  pub wrote : RoseByAtLeast 1 (shelf.written old) (shelf.written mid)
+  pub made : MadeCallsBetween shelf old mid 1 (8 * active_of hand.seats) ((3 + blocks_for (length (record_text table))) * active_of hand.seats)
+  pub most : MadeCallsBetween shelf old mid 0 (8 * 100) (100 * 4097)
+  pub exact : active_of last ≡ active_of hand.seats → MadeCalls shelf old mid (8 * active_of last) ((3 + blocks_for (length (record_text table))) * active_of last)
+  pub passed : (new : S) → WereSettled shelf mid new key hand.number table table.plan.lists last → WerePassed shelf old new key hand table
+  pub kept : KeptAmong shelf old mid (drives_of hand.seats)
+  pub moments : AtEachTale shelf (RewriteMoment key hand table) old mid
+  pub ends : AtEnd shelf (AreTwice key hand table last) old mid
+  pub synced : AtEnd shelf (StaySynced shelf old mid) old mid
+
+-- nothing more is written where not enough took it
+unsettled : {S : Type 0} (shelf : Ghosts S) (s : S) (key : Key) (number : ℕ) (table : Table) (lists : Lists) (now : List Seat) (share : Share) → short_of (need_of key) now lists ≡ Some share → WereSettled shelf s s key number table lists now
+unsettled shelf s key number table (One list) now share few = refl
+unsettled shelf s key number table (Two was next) now share few =
+    subst (λ (o : Option Share). MatchOption o ((last : List Seat) × WereSlotted shelf s s (second_mark number) (settled table) (seats_now now next) last) (λ x. s ≡ s)) (sym few) refl
 
 module _ {S : Type 0} (shelf : Ghosts S) (key : Key) (hand : Hand) (table : Table) (ready : IsReadied hand table) (old mid : S) (now : List Seat)
     (left : AreLeft (DriveFailures shelf old mid) (TakesClaim hand.number) hand.seats now) (moments : AtEachTale shelf (ClaimingMoment hand.seats hand.number) old mid) (ends : AtEnd shelf (ClaimingEnds hand.seats now hand.number) old mid)
@@ -64,7 +113,7 @@ module _ {S : Type 0} (shelf : Ghosts S) (key : Key) (hand : Hand) (table : Tabl
   claim_moment t m moment = record {
     quiet = moment.quiet;
     only = inl moment.passing;
-    goes = λ g to log covers known. claims_go key hand table ready g t to log covers m moment;
+    goes = λ g to log covers known. claims_go key hand table ready g t to log covers known m moment;
     rest = λ g all to. moment.rest g key hand.identity all to.sound ready.small to.held;
     blank = λ g to. moment.blank g key hand.identity to.sound ready.small to.held;
   }
@@ -96,22 +145,30 @@ module _ {S : Type 0} (shelf : Ghosts S) (key : Key) (hand : Hand) (table : Tabl
     first_answer =
         let lost = some_lost (DriveFailures shelf old mid) (TakesClaim hand.number) hand.seats now left (short_fewer (DriveFailures shelf old mid) (TakesClaim hand.number) More (need_of key) (more_suffices (need_of key)) table.plan.lists hand.seats now share left ready.enough few) in
         record {
-          ended = subst (λ (e : BootEnd). IsRewriteEnd (DriveFailures shelf old mid) key hand table e) (sym end_is) (record {
-            now = now;
-            left = left_as (DriveFailures shelf old mid) (DriveFailures shelf old mid) (TakesClaim hand.number) (TakesClaimOrBoth hand.number (length (record_text table))) hand.seats now (λ r has so. so) (λ r has so. so) (λ r m took. inl took) left;
-            few = few;
-          });
+          gone = [];
+          shows = λ t told. (let e = ends t told in (e.0, e.1, nothing_shown key hand table t e.0));
+          ended = subst (λ (e : BootEnd). IsRewriteEnd (DriveFailures shelf old mid) key hand table [] e) (sym end_is) (
+            refl,
+            inl (record {
+              now = now;
+              left = left_as (DriveFailures shelf old mid) (DriveFailures shelf old mid) (TakesClaim hand.number) (TakesClaimOrBoth hand.number (length (record_text table))) hand.seats now (λ r has so. so) (λ r has so. so) (λ r m took. inl took) left;
+              few = few;
+            }),
+          );
           calm = subst (λ (b : Bool). IsCalmOver shelf old mid (replicas_of hand.seats) b) (sym calm_is) lost;
+          once = pass_once shelf old mid hand.seats now (TakesClaim hand.number) kept left;
           wrote = first_wrote;
           made =
-              between_wider shelf.calls shelf.written old mid _ (2 * active_of hand.seats) (1 * active_of hand.seats) 1 (8 * active_of hand.seats) ((3 + blocks_for (length (record_text table))) * active_of hand.seats)
+              between_wider shelf.calls shelf.written old mid _ (2 * active_of hand.seats) (1 * active_of hand.seats) 1 (calls_at hand.seats table) (blocks_at hand.seats table)
               first_called (omega arith) (omega arith) counted.some;
           passed = record {
             claimed = mid;
+            written = mid;
             between = now;
             now = now;
             first = claimed_all;
-            behind = subst (λ (o : Option Share). MatchOption o (WereSlotted shelf mid mid (drawn hand.number) table now now) (λ s. (mid ≡ mid) × (now ≡ now))) (sym few) (refl, refl);
+            second = subst (λ (o : Option Share). MatchOption o (WereSlotted shelf mid mid (drawn hand.number) table now now) (λ s. (mid ≡ mid) × (now ≡ now))) (sym few) (refl, refl);
+            behind = unsettled shelf mid key hand.number table table.plan.lists now share few;
           };
         }
 
@@ -125,7 +182,7 @@ module _ {S : Type 0} (shelf : Ghosts S) (key : Key) (hand : Hand) (table : Tabl
     first_counted = record {
       most =
           let most = few_active hand.seats ready.seats.few in
-          between_wider shelf.calls shelf.written old mid _ (2 * active_of hand.seats) (1 * active_of hand.seats) 0 (8 * 100) most_blocks (omega arith) (omega (arith, most)) (omega (arith, most)) counted.some;
+          between_wider shelf.calls shelf.written old mid _ (2 * active_of hand.seats) (1 * active_of hand.seats) 0 most_calls most_blocks (omega arith) (omega (arith, most)) (omega (arith, most)) counted.some;
       calm = λ so. absurd (cc (so, calm_is));
     }
 
@@ -161,13 +218,15 @@ module _ {S : Type 0} (shelf : Ghosts S) (key : Key) (hand : Hand) (table : Tabl
     long = spelled_long table bytes body spelled
 
     -- the table was written to each place that claimed
-    both_passed : WerePassed shelf old new key hand table
-    both_passed = record {
+    both_passed : (final : S) → WereSettled shelf new final key hand.number table table.plan.lists last → WerePassed shelf old final key hand table
+    both_passed final settled_so = record {
       claimed = mid;
+      written = new;
       between = now;
       now = last;
       first = claimed_all;
-      behind = subst (λ (o : Option Share). MatchOption o (WereSlotted shelf mid new (drawn hand.number) table now last) (λ s. (new ≡ mid) × (last ≡ now))) (sym enough) (record {
+      behind = settled_so;
+      second = subst (λ (o : Option Share). MatchOption o (WereSlotted shelf mid new (drawn hand.number) table now last) (λ s. (new ≡ mid) × (last ≡ now))) (sym enough) (record {
         left = subst (λ (n : ℕ). AreLeft (DriveFailures shelf mid new) (TakesSlot (drawn hand.number) n) now last) spelled.counted left_last;
         steps = (
           body,
@@ -187,7 +246,7 @@ module _ {S : Type 0} (shelf : Ghosts S) (key : Key) (hand : Hand) (table : Tabl
       });
     }
 
-    both_made : MadeRewriteCalls shelf old new hand table
+    both_made : MadeCallsBetween shelf old new 1 (8 * active_of hand.seats) ((3 + blocks_for (length (record_text table))) * active_of hand.seats)
     both_made =
         let less = left_most (DriveFailures shelf old mid) (TakesClaim hand.number) hand.seats now left in
         let product = mul-le-mul_left (2 + length body) less in
@@ -221,13 +280,13 @@ module _ {S : Type 0} (shelf : Ghosts S) (key : Key) (hand : Hand) (table : Tabl
     slot_moment : (t u m : Tale) → ClaimingEnds hand.seats now hand.number t u × ClaimingMoment hand.seats hand.number t u → SlottingMoment now (drawn hand.number) bytes body u m → RewriteMoment key hand table t m
     slot_moment t u m first moment = record {
       quiet = quiet_more (seats_area hand.seats) t u m first.1.quiet (quiet_wider (seats_area now) (seats_area hand.seats) u m (left_area (DriveFailures shelf old mid) hand.number hand.seats now left) moment.quiet);
-      only = inr (
+      only = inr (inl (
         replicas_of now,
         u,
         first.0.passed,
         (body, subst (λ (n : ℕ). IsSpelled table n body) spelled.counted spelled, subst (λ (n : ℕ). IsPassing (slotting (drawn hand.number) n body) (replicas_of now) u m) spelled.counted moment.passing),
-      );
-      goes = λ g to log covers known. slots_go key hand table ready g t to log covers (DriveFailures shelf old mid) now u left first.0 enough bytes body spelled m moment;
+      ));
+      goes = λ g to log covers known. slots_go key hand table ready g t to log covers known (DriveFailures shelf old mid) now u left first.0 enough bytes body spelled m moment;
       rest = λ g all to rest.
           rest_goes key hand table ready g t to (DriveFailures shelf old mid) now u left first.0 bytes body spelled all m moment (first.1.rest g key hand.identity all to.sound ready.small to.held rest);
       blank = λ g to ask other another blank.
@@ -261,13 +320,13 @@ module _ {S : Type 0} (shelf : Ghosts S) (key : Key) (hand : Hand) (table : Tabl
         let short = ready.short some.0 some.1 in
         omega (arith, fits, short, spelled.counted)
 
-    pub second_most : MadeCallsBetween shelf old new 0 (8 * 100) most_blocks
+    second_most : MadeCallsBetween shelf old new 0 (8 * 100) (100 * 4097)
     second_most =
         let most = few_active hand.seats ready.seats.few in
         let less = left_most (DriveFailures shelf old mid) (TakesClaim hand.number) hand.seats now left in
         let few_blocks : 2 + length body ≤ 4096 = omega (arith, spelled.blocks, text_few) in
         let product = mul-le-mul_left (active_of now) few_blocks in
-        between_then shelf.calls shelf.written old mid new _ (2 * active_of hand.seats) (1 * active_of hand.seats) _ (6 * active_of now) ((2 + length body) * active_of now) 0 (8 * 100) most_blocks (omega arith) (omega (arith, most, less))
+        between_then shelf.calls shelf.written old mid new _ (2 * active_of hand.seats) (1 * active_of hand.seats) _ (6 * active_of now) ((2 + length body) * active_of now) 0 (8 * 100) (100 * 4097) (omega arith) (omega (arith, most, less))
         (omega (arith, most, less, product)) counted.some slot_counted.some
 
     -- where not enough took it
@@ -280,11 +339,14 @@ module _ {S : Type 0} (shelf : Ghosts S) (key : Key) (hand : Hand) (table : Tabl
           let all = both_left Either (λ r m n one two. inr (subst (λ (k : ℕ). TakesBoth hand.number k r n) spelled.counted (takes_both hand.number bytes r m n one two))) in
           let lost = some_lost (DriveFailures shelf old new) Either hand.seats last all (short_fewer (DriveFailures shelf old new) Either More (need_of key) (more_suffices (need_of key)) table.plan.lists hand.seats last share all ready.enough few) in
           record {
-            ended = subst (λ (e : BootEnd). IsRewriteEnd (DriveFailures shelf old new) key hand table e) (sym end_is) (record { now = last; left = all; few = few });
+            gone = [];
+            shows = ends_more (ClaimingEnds hand.seats now hand.number) (SlottingEnds now last (drawn hand.number) bytes body) (GoneShow key hand table []) (shelf.tale old) (shelf.tale mid) (shelf.tale new) (λ t u v one two. nothing_shown key hand table t v) ends slot_ends;
+            ended = subst (λ (e : BootEnd). IsRewriteEnd (DriveFailures shelf old new) key hand table [] e) (sym end_is) (refl, inl (record { now = last; left = all; few = few }));
             calm = subst (λ (b : Bool). IsCalmOver shelf old new (replicas_of hand.seats) b) (sym calm_is) lost;
+            once = pass_once shelf old new hand.seats last Either both_kept all;
             wrote = both_wrote;
-            made = both_made;
-            passed = both_passed;
+            made = between_wider shelf.calls shelf.written old new 1 (8 * active_of hand.seats) ((3 + blocks_for (length (record_text table))) * active_of hand.seats) 1 (calls_at hand.seats table) (blocks_at hand.seats table) (omega arith) (omega arith) (omega arith) both_made;
+            passed = both_passed new (unsettled shelf new key hand.number table table.plan.lists last share few);
           }
 
       pub lost_end : AtEnd shelf (λ t u. IfAdopted taken.end (λ o. RewriteEnds key hand table o t u)) old new
@@ -292,7 +354,7 @@ module _ {S : Type 0} (shelf : Ghosts S) (key : Key) (hand : Hand) (table : Tabl
           (λ t u v one two. subst (λ (x : BootEnd). IfAdopted x (λ o. RewriteEnds key hand table o t v)) (sym end_is) tt) ends slot_ends
 
       pub lost_counted : IsTakingCounted shelf old new taken
-      lost_counted = record { most = second_most; calm = λ so. absurd (cc (so, calm_is)) }
+      lost_counted = record { most = between_wider shelf.calls shelf.written old new 0 (8 * 100) (100 * 4097) 0 most_calls most_blocks (omega arith) (omega arith) (omega arith) second_most; calm = λ so. absurd (cc (so, calm_is)) }
 
     -- where enough did
     module _ (enough_last : short_of (need_of key) last table.plan.lists ≡ None) where
@@ -302,54 +364,49 @@ module _ {S : Type 0} (shelf : Ghosts S) (key : Key) (hand : Hand) (table : Tabl
       pub all_took : AreLeft (DriveFailures shelf old new) (TakesBoth hand.number bytes) hand.seats last
       all_took = both_left (TakesBoth hand.number bytes) (λ r m n. takes_both hand.number bytes r m n)
 
-      calm_by : (b : Bool) → b ≡ nat_eq (active_of last) (active_of hand.seats) → IsCalmOver shelf old new (replicas_of hand.seats) b
-      calm_by true is = λ drive. elim (is_one_of (drives_of hand.seats) drive) [
-        | inl one_of ↦ (
-            let r = unmapped (λ (x : Replica). x.line.at.drive) (replicas_of hand.seats) drive one_of in
-            let none = all_left (DriveFailures shelf old new) (TakesBoth hand.number bytes) hand.seats last all_took (eqb-true (active_of last) (active_of hand.seats) (sym is)) r.0 r.1 in
-            subst (λ (d : ℕ). shelf.faults new (OnDrive d) ≡ shelf.faults old (OnDrive d)) (ap (λ (d : DriveNo). d.0) r.2) none)
-        | inr out ↦ both_kept.others (OnDrive drive.0) (λ among. out (subst (Contains (drives_of hand.seats)) (same_drive among.0 drive (sym (one_number drive.0 among.0.0 among.2))) among.1))
-      ]
-      calm_by false is =
-          let most = left_most (DriveFailures shelf old new) (TakesBoth hand.number bytes) hand.seats last all_took in
-          let lost = some_lost (DriveFailures shelf old new) (TakesBoth hand.number bytes) hand.seats last all_took (fewer (active_of last) (active_of hand.seats) most (eqb-false (active_of last) (active_of hand.seats) (sym is))) in
-          lost
-        where
-          fewer : (a b : ℕ) → a ≤ b → (a ≡ b → ⊥) → a < b
-          fewer a b most differs = omega (arith, most, differs)
+      took_all : AreLeft (DriveFailures shelf old new) (TakesBoth hand.number (length (record_text table))) hand.seats last
+      took_all = subst (λ (n : ℕ). AreLeft (DriveFailures shelf old new) (TakesBoth hand.number n) hand.seats last) spelled.counted all_took
 
-      pub done_answer : (calm : Bool) → calm ≡ nat_eq (active_of last) (active_of hand.seats) → IsRewriteAnswer shelf old new key hand table (record { end = end.Adopted o; calm = calm })
-      done_answer calm is = record {
-        ended = record { left = subst (λ (n : ℕ). AreLeft (DriveFailures shelf old new) (TakesBoth hand.number n) hand.seats last) spelled.counted all_took; enough = enough_last; is = refl };
-        calm = calm_by calm is;
-        wrote = both_wrote;
-        made = both_made;
-        passed = both_passed;
-      }
-
-      pub done_end : AtEnd shelf (λ t u. RewriteEnds key hand table o t u) old new
-      done_end = ends_more (ClaimingEnds hand.seats now hand.number) (SlottingEnds now last (drawn hand.number) bytes body) (RewriteEnds key hand table o) (shelf.tale old) (shelf.tale mid) (shelf.tale new)
+      twice_ends : AtEnd shelf (AreTwice key hand table last) old new
+      twice_ends = ends_more (λ t u. ClaimingEnds hand.seats now hand.number t u × ClaimingMoment hand.seats hand.number t u) (λ u v. SlottingEnds now last (drawn hand.number) bytes body u v × SlottingMoment now (drawn hand.number) bytes body u v) (AreTwice key hand table last)
+          (shelf.tale old) (shelf.tale mid) (shelf.tale new)
           (λ t u v one two. record {
-            opened = λ g to. opened key hand table ready g t to (DriveFailures shelf old mid) now u left one bytes body spelled (DriveFailures shelf mid new) last v left_last two;
-            goes = λ g to log covers known. ends_go key hand table ready g t to log covers (DriveFailures shelf old mid) now u left one enough bytes body spelled (DriveFailures shelf mid new) last v left_last two enough_last;
-          }) ends slot_ends
+            moment = slot_moment t u v one two.1;
+            claimed = replicas_of now;
+            between = u;
+            claims = one.0.passed;
+            slots = (body, subst (λ (n : ℕ). IsSpelled table n body) spelled.counted spelled, subst (λ (n : ℕ). Passed (slotting (drawn hand.number) n body) (replicas_of now) u (replicas_of last) [] v) spelled.counted two.0.passed);
+            opened = λ g to. opened key hand table ready g t to (DriveFailures shelf old mid) now u left one.0 bytes body spelled (DriveFailures shelf mid new) last v left_last two.0;
+            goes = λ g to log covers known. ends_go key hand table ready g t to log covers known (DriveFailures shelf old mid) now u left one.0 enough bytes body spelled (DriveFailures shelf mid new) last v left_last two.0 enough_last;
+          }) claim_both slot_both
 
-      pub done_counted : (calm : Bool) → calm ≡ nat_eq (active_of last) (active_of hand.seats) → IsTakingCounted shelf old new (record { end = end.Adopted o; calm = calm })
-      done_counted calm is = record {
-        most = second_most;
-        calm = λ so.
-            let same = eqb-true (active_of last) (active_of hand.seats) (sym is ∙ so) in
-            let one = left_most (DriveFailures shelf old mid) (TakesClaim hand.number) hand.seats now left in
-            let two = left_most (DriveFailures shelf mid new) (TakesSlot (drawn hand.number) bytes) now last left_last in
-            let mid_same : active_of now ≡ active_of hand.seats = omega (arith, one, two, same) in
-            let last_same : active_of last ≡ active_of now = omega (arith, one, two, same) in
-            took_more shelf.calls shelf.written old mid new (2 * active_of hand.seats) (6 * active_of now) (1 * active_of hand.seats) ((2 + length body) * active_of now) (8 * active_of last) ((3 + blocks_for (length (record_text table))) * active_of last)
-            (omega (arith, mid_same, last_same)) (blocks_add (length body) (blocks_for (length (record_text table))) (active_of hand.seats) (active_of now) (active_of last) (spelled.blocks ∙ ap blocks_for spelled.counted) mid_same last_same)
-            (counted.all some_active_then mid_same) (slot_counted.all (omega (arith, some_active_then, mid_same)) last_same);
-      }
+      exact_made : active_of last ≡ active_of hand.seats → MadeCalls shelf old new (8 * active_of last) ((3 + blocks_for (length (record_text table))) * active_of last)
+      exact_made same =
+          let one = left_most (DriveFailures shelf old mid) (TakesClaim hand.number) hand.seats now left in
+          let two = left_most (DriveFailures shelf mid new) (TakesSlot (drawn hand.number) bytes) now last left_last in
+          let mid_same : active_of now ≡ active_of hand.seats = omega (arith, one, two, same) in
+          let last_same : active_of last ≡ active_of now = omega (arith, one, two, same) in
+          took_more shelf.calls shelf.written old mid new (2 * active_of hand.seats) (6 * active_of now) (1 * active_of hand.seats) ((2 + length body) * active_of now) (8 * active_of last) ((3 + blocks_for (length (record_text table))) * active_of last)
+          (omega (arith, mid_same, last_same)) (blocks_add (length body) (blocks_for (length (record_text table))) (active_of hand.seats) (active_of now) (active_of last) (spelled.blocks ∙ ap blocks_for spelled.counted) mid_same last_same)
+          (counted.all some_active_then mid_same) (slot_counted.all (omega (arith, some_active_then, mid_same)) last_same)
         where
           blocks_add : (l k a b c : ℕ) → l ≡ k → b ≡ a → c ≡ b → 1 * a + (2 + l) * b ≡ (3 + k) * c
           blocks_add l k a b c same one two = subst (λ (n : ℕ). 1 * a + (2 + n) * b ≡ (3 + k) * c) (sym same) (subst (λ (n : ℕ). 1 * a + (2 + k) * n ≡ (3 + k) * c) (sym one) (subst (λ (n : ℕ). 1 * a + (2 + k) * a ≡ (3 + k) * n) (sym (two ∙ one)) (omega arith)))
+
+      pub twice : IsTwice shelf key hand table old new last
+      twice = record {
+        took = took_all;
+        enough = enough_last;
+        wrote = both_wrote;
+        made = both_made;
+        most = second_most;
+        exact = exact_made;
+        passed = both_passed;
+        kept = both_kept;
+        moments = second_moments;
+        ends = twice_ends;
+        synced = second_synced;
+      }
 
 module _ (hand : Hand) (table : Table) (ready : IsReadied hand table) where
   pub text_most : blocks_for (length (record_text table)) ≤ 4094
@@ -359,8 +416,15 @@ module _ (hand : Hand) (table : Table) (ready : IsReadied hand table) where
       let short = ready.short some.0 some.1 in
       omega (arith, fits, short)
 
-  pub room_short : (room : ℕ) → room ≡ max (least_room (places_of table.plan.lists)) (blocks_for (length (record_text table))) → 512 * room < 2 ^ 32
-  room_short room is = omega (arith, is, text_most, room_most (places_of table.plan.lists))
+  -- nor is the first slot of the new list longer
+  first_most : first_room (again_of table.plan.lists) ≤ 4094
+  first_most = by (again_of table.plan.lists) where
+    by : (places : List Place) → first_room places ≤ 4094
+    by [] = omega arith
+    by (p ∷ places) = omega arith
+
+  pub room_short : (room : ℕ) → room ≡ room_of table → 512 * room < 2 ^ 32
+  room_short room is = omega (arith, is, text_most, room_most (places_of table.plan.lists), first_most)
 
   module _ (failed : ℕ → Failures) (now : List Seat) (left : AreLeft failed (TakesClaim hand.number) hand.seats now) where
     pub claimed_laid : (sizes next : List ℕ) → next ≡ sizes → AreLaid sizes hand.seats → AreLaid next now
@@ -374,14 +438,3 @@ module _ (hand : Hand) (table : Table) (ready : IsReadied hand table) where
         let one = left_replica failed (TakesClaim hand.number) hand.seats now n left has in
         let fits = ready.room one.0 one.1 in
         omega (arith, fits, spelled.blocks, spelled.counted, ap (λ (r : Replica). r.first.blocks) one.2)
-
-  module _ (failed : ℕ → Failures) (bytes : ℕ) (key : Key) (last : List Seat) (left : AreLeft failed (TakesBoth hand.number bytes) hand.seats last) where
-    pub done_open : (room : ℕ) → room ≡ max (least_room (places_of table.plan.lists)) (blocks_for (length (record_text table))) → IsOpen (record { key = key; identity = hand.identity; mark = drawn hand.number; table = table; seats = last }) room
-    done_open room is = record {
-      boot = ready.small;
-      count = omega arith;
-      seats = left_seats failed (TakesBoth hand.number bytes) table table hand.seats last (λ r n took. ap at_of took.2) refl left ready.seats;
-      whole = omega (arith, is);
-      short = room_short room is;
-      marks = λ half n has. (let one = left_replica failed (TakesBoth hand.number bytes) hand.seats last n left has in both_none_above hand.number bytes one.0 n (ready.above one.0 one.1) one.2);
-    }

@@ -13,13 +13,15 @@ use Rattle.mdv_standing.proofs.Stores.{all_read}
 use Rattle.mdv_standing.proofs.Stretches.{may_begin, traced_answer, traced_begin, traced_look}
 use Rattle.mdv_standing.proofs.Tracing.{adds_none, may_answer, more, newest_begun, part_one, run_traced, run_within, traced, trace_weaker}
 use Rattle.mdv_standing.proofs.Turning.{covers_known}
+use Rattle.mdv_standing.proofs.Voting.{none_stale}
 use Rattle.mdv_standing.specs.Adopting.{IsLook, drawn}
 use Rattle.mdv_standing.specs.Matching.{by_majority_on}
 use Rattle.mdv_standing.specs.Others.{Anything}
-use Rattle.mdv_standing.specs.Tracing.{GoesTraced, IsRun, taken_at, written_at}
+use Rattle.mdv_standing.specs.Tracing.{GoesTraced, IsBootRun, IsRun, taken_at, written_at}
 use Rattle.mdv_standing.specs.Turning.{IsBooting, IsPlaceAt}
 use Rattle.mdv_votes.specs.Spots.{is_in}
 use Rattle.mdv_store_law.proofs.Parts.{part_front, part_itself, part_mapped, part_more, part_of_part}
+use Rattle.mdv_store_law.specs.Anew.{HasNoneAgain}
 use Rattle.mdv_store_law.specs.Log.{MayHappen, Writing, Written, log_after}
 use Rattle.mdv_store_law.specs.Part.{IsPart}
 use Rattle.mdv_store.specs.Below.{CoversWith, Database, Event, Failures, First, Geometry, Head, HasNoneAbove, IsBelow, IsNewest, IsReadyWith, IsTaking, IsVersionWith, Key, Log, Mark, MayBeClaimed, Open, Replica, RestStands, Second, Site, Slot, Spot, Table, Tale, Traces, Version, at_of, claims_at, fills_at, gate_of, greatest, is_named, last, lists_of_spots, site_of, with_slot}
@@ -80,6 +82,10 @@ none_above number bytes head Second Second m n less is below = not_itself number
 
 pub both_none_above : (number bytes : ℕ) (r n : Replica) → greatest r.head < number → TakesBoth number bytes r n → HasNoneAbove (drawn number) n.head
 both_none_above number bytes r n less took other m k = subst (λ (x : Replica). gate_of x.head other ≡ Open m k → IsBelow (drawn number) m → ⊥) (sym took.2) (none_above number bytes r.head took.0 other m k less)
+
+-- a boot's two passes: it looks at these places, claims some of those, and writes the table to some, one of them first
+abbrev pub AreBooted : (read seated : List Spot) → List Event → Type 0
+AreBooted read seated es = (p : Spot) × IsBootRun read seated p seated es
 
 module _ (key : Key) (hand : Hand) (table : Table) (ready : IsReadied hand table) where
   abbrev seats : List Seat
@@ -165,7 +171,7 @@ module _ (key : Key) (hand : Hand) (table : Table) (ready : IsReadied hand table
       }
 
   -- it is adopted
-  module _ (g : Geometry) (t : Tale) (to : IsToAdopt g key hand table t) (log : Log) (covers : CoversWith (Spells g) (site_of g key) hand.identity (λ image w. Anything w) log t) where
+  module _ (g : Geometry) (t : Tale) (to : IsToAdopt g key hand table t) (log : Log) (covers : CoversWith (Spells g) (site_of g key) hand.identity (λ image w. Anything w) log t) (known : HasNoneAgain log) where
     abbrev site : Site
     site = site_of g key
 
@@ -175,6 +181,7 @@ module _ (key : Key) (hand : Hand) (table : Table) (ready : IsReadied hand table
     booting : IsBooting (Spells g) site hand.identity log t to.mark table (greatest_seen to.seen + 1) []
     booting =
         all_read (Spells g) site hand.identity log t (reads_one (read_of g)) to.seen to.s to.slot to.mark table to.read (covers_known (Spells g) site hand.identity (λ image w. Anything w) log t covers)
+        (none_stale site log to.seen to.mark known)
 
     abbrev v : Version
     v = booting.version
@@ -184,7 +191,8 @@ module _ (key : Key) (hand : Hand) (table : Table) (ready : IsReadied hand table
 
     look : Traces (Spells g) site hand.identity log log Anything (IsRun Begins []) (MayBeClaimed to.mark hand.number []) t t
     look = subst (λ (n : ℕ). Traces (Spells g) site hand.identity log log Anything (IsRun Begins []) (MayBeClaimed to.mark n []) t t) (sym to.number_is)
-        (run_traced (Spells g) site hand.identity log log Anything (MayBeClaimed to.mark (greatest_seen to.seen + 1) []) Begins t t (traced_look (Spells g) site hand.identity log t to.seen to.s to.slot to.mark table v to.read version))
+        (run_traced (Spells g) site hand.identity log log Anything (MayBeClaimed to.mark (greatest_seen to.seen + 1) []) Begins t t (traced_look (Spells g) site hand.identity log t to.seen to.s to.slot to.mark table v to.read version
+        (none_stale site log to.seen to.mark known)))
 
     adopting : IsAdopting g key hand.identity seats hand.number log to.mark table v t
     adopting = record { sound = to.sound; small = ready.small; held = to.held; named = to.named; version = version }
@@ -197,14 +205,14 @@ module _ (key : Key) (hand : Hand) (table : Table) (ready : IsReadied hand table
     nowhere_first : Spot
     nowhere_first = record { drive = record { 0 = 0 }; first = 0; mediator = false }
 
-    pub claims_go : (m : Tale) → ClaimingMoment seats hand.number t m → GoesTraced (Spells g) g site hand.identity [] Anything (AreOfBoot (spots_seen to.seen) places) AnyWorld AnyLog t m log
+    pub claims_go : (m : Tale) → ClaimingMoment seats hand.number t m → GoesTraced (Spells g) g site hand.identity [] Anything (AreOfBoot site table.plan.lists (spots_seen to.seen) places) AnyWorld AnyLog t m log
     claims_go m moment = record {
       es = [];
       course = tt;
       come = adds_none;
       traces =
-          trace_weaker (Spells g) site hand.identity log log Anything Anything (MayBeClaimed to.mark hand.number []) AnyWorld (IsRun Begins (claims_at places)) (AreOfBoot (spots_seen to.seen) places) t m (λ w known. known)
-          (λ es run. inr (nowhere_first, run_within Begins (claims_at places) (claims_at places ++ written_at nowhere_first places) es (part_front (claims_at places) (written_at nowhere_first places)) run)) (λ w known. tt)
+          trace_weaker (Spells g) site hand.identity log log Anything Anything (MayBeClaimed to.mark hand.number []) AnyWorld (IsRun Begins (claims_at places)) (AreOfBoot site table.plan.lists (spots_seen to.seen) places) t m (λ w known. known)
+          (λ es run. inr (inl (nowhere_first, run_within Begins (claims_at places) (claims_at places ++ written_at nowhere_first places) es (part_front (claims_at places) (written_at nowhere_first places)) run))) (λ w known. tt)
           (claiming [] m (moment.traces g key hand.identity log to.mark table v [] adopting));
       after = tt;
     }
@@ -266,17 +274,17 @@ module _ (key : Key) (hand : Hand) (table : Table) (ready : IsReadied hand table
       whole_is : front ++ taken_at places ≡ claims_at places ++ written_at p places
       whole_is = append_assoc (claims_at places) (Slotted p LeftClosed ∷ []) (taken_at places)
 
-      planned : (part : List Event) → IsPart part (taken_at places) → (es : List Event) → IsRun Begins (front ++ part) es → AreOfBoot (spots_seen to.seen) places es
-      planned part within es run = inr (p, subst (λ (plan : List Event). IsRun Begins plan es) whole_is (run_within Begins (front ++ part) (front ++ taken_at places) es (part_more front front part (taken_at places) (part_itself front) within) run))
+      planned : (part : List Event) → IsPart part (taken_at places) → (es : List Event) → IsRun Begins (front ++ part) es → AreBooted (spots_seen to.seen) places es
+      planned part within es run = (p, subst (λ (plan : List Event). IsRun Begins plan es) whole_is (run_within Begins (front ++ part) (front ++ taken_at places) es (part_more front front part (taken_at places) (part_itself front) within) run))
 
-      pub slots_go : (m : Tale) → SlottingMoment mid mark bytes body u m → GoesTraced (Spells g) g site hand.identity [] Anything (AreOfBoot (spots_seen to.seen) places) AnyWorld AnyLog t m log
+      pub slots_go : (m : Tale) → SlottingMoment mid mark bytes body u m → GoesTraced (Spells g) g site hand.identity [] Anything (AreOfBoot site table.plan.lists (spots_seen to.seen) places) AnyWorld AnyLog t m log
       slots_go m moment = record {
         es = Writing mark None v.changes table ∷ [];
         course = (may, tt);
         come = record { tells = refl; issues = (tt, tt); begins = tt };
         traces =
-            trace_weaker (Spells g) site hand.identity log begun Anything Anything (IsTaking bm mark []) AnyWorld (IsRun Begins (front ++ fills_at (spots_of mid))) (AreOfBoot (spots_seen to.seen) places) t m (λ w known. known)
-            (planned (fills_at (spots_of mid)) (part_of_part (fills_at (spots_of mid)) (fills_at places) (taken_at places) fills_part (part_front (fills_at places) (Told ∷ [])))) (λ w known. tt)
+            trace_weaker (Spells g) site hand.identity log begun Anything Anything (IsTaking bm mark []) AnyWorld (IsRun Begins (front ++ fills_at (spots_of mid))) (AreOfBoot site table.plan.lists (spots_seen to.seen) places) t m (λ w known. known)
+            (λ es run. inr (inl (planned (fills_at (spots_of mid)) (part_of_part (fills_at (spots_of mid)) (fills_at places) (taken_at places) fills_part (part_front (fills_at places) (Told ∷ []))) es run))) (λ w known. tt)
             (taking [] m (moment.traces g key hand.identity begun table bm [] written));
         after = tt;
       }
@@ -297,13 +305,13 @@ module _ (key : Key) (hand : Hand) (table : Table) (ready : IsReadied hand table
             more (Spells g) site hand.identity log begun Anything (IsTaking bm mark took) Begins (front ++ fills_at (spots_of mid)) t w (taking took w (last_ends.traces g key hand.identity begun table bm [] written)) over (IsReadyWith took)
             (λ es. es ≡ Told ∷ []) (Told ∷ []) w (λ fs is. part_one Told fs is) answered
 
-        pub ends_go : GoesTraced (Spells g) g site hand.identity [] Anything (AreOfBoot (spots_seen to.seen) places) (IsReadyWith (spots_of new)) (λ l. IsNewestWritten l mark table) t w log
+        pub ends_go : GoesTraced (Spells g) g site hand.identity [] Anything (AreBooted (spots_seen to.seen) places) (IsReadyWith (spots_of new)) (λ l. IsNewestWritten l mark table) t w log
         ends_go = record {
           es = Writing mark None v.changes table ∷ (Written ∷ []);
           course = (may, (may_answer g begun mark table newest, tt));
           come = record { tells = refl; issues = (tt, (tt, tt)); begins = tt };
           traces =
-              trace_weaker (Spells g) site hand.identity log over Anything Anything (IsReadyWith took) (IsReadyWith (spots_of new)) (IsRun Begins ((front ++ fills_at (spots_of mid)) ++ Told ∷ [])) (AreOfBoot (spots_seen to.seen) places) t w (λ w known. known)
+              trace_weaker (Spells g) site hand.identity log over Anything Anything (IsReadyWith took) (IsReadyWith (spots_of new)) (IsRun Begins ((front ++ fills_at (spots_of mid)) ++ Told ∷ [])) (AreBooted (spots_seen to.seen) places) t w (λ w known. known)
               (λ es is. planned (fills_at (spots_of mid) ++ Told ∷ []) (part_more (fills_at (spots_of mid)) (fills_at places) (Told ∷ []) (Told ∷ []) fills_part (part_itself (Told ∷ []))) es
               (subst (λ (plan : List Event). IsRun Begins plan es) (append_assoc front (fills_at (spots_of mid)) (Told ∷ [])) is)) (λ x known. subst (λ (l : List Spot). IsReadyWith l x) (append-nil (spots_of new)) known) run;
           after = newest_written begun mark table newest;

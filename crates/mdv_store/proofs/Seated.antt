@@ -10,14 +10,15 @@ use Rattle.mdv_shelf.specs.Area.{AreApart}
 use Rattle.mdv_shown.proofs.Elsewhere.{places_step, range_has}
 use Rattle.mdv_shown.specs.Site.{line_area}
 use Rattle.mdv_store.specs.Below.{Identity, Key, Replica, SliceLine, Spot, at_of, places_of, record_text, same_spot, spot_on}
-use Rattle.mdv_store.specs.Create.{AreAsked, replica_on, seat_on, seats_asked, seats_on, table_of}
+use Rattle.mdv_acts.specs.Asked.{AreAsked}
+use Rattle.mdv_store.specs.Create.{replica_on, seat_on, seats_asked, seats_on, table_of}
 use Rattle.mdv_store.specs.Opened.{AreSeatsOf, least_room}
 use Rattle.mdv_store.specs.Seats.{AreLaid, HaveRoom, IsLaid, replicas_of, spots_of}
 use Rattle.mdv_store.specs.Text.{blocks_for}
 use Rattle.mdv_store.specs.declared.seats.Seat.{Seat}
 use Rattle.mdv_table.proofs.Pairs.{AllPairs-cons}
 use Rattle.mdv_votes.proofs.Meeting.{same_is}
-use Rattle.mdv_store.proofs.Asked.{few_of, placed_asked, within_line}
+use Rattle.mdv_acts.proofs.Asked.{few_of, placed_asked, within_line}
 use Rattle.mdv_store.proofs.Given.{ArePairsApart}
 use Rattle.mdv_store.proofs.Rooms.{have_room}
 use Rattle.mdv_store.proofs.Sitting.{contains_behind, contains_first, first_or_behind, replica_of, seat_of}

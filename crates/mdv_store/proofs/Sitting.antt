@@ -1,22 +1,11 @@
 -- The seats of a list, and the replicas at them.
-use Rattle.std.proofs.Common.{◌≡◌, ◌⊎◌, inl, inr, ◌<◌, ◌≤◌, ℕ, zero, suc, List, [], ◌∷◌, Option, None, Some, MatchOption, Contains, length, slice_index_or, map, refl, sym, ◌∙◌, subst, ap, arith}
+use Rattle.std.proofs.Common.{◌≡◌, ◌⊎◌, inl, inr, ◌≤◌, ℕ, suc, List, [], ◌∷◌, Option, None, Some, MatchOption, Contains, length, map, refl, sym, ◌∙◌, subst, ap, arith}
 use Rattle.std.specs.List.{cons_option}
+pub use Rattle.mdv_acts.proofs.Members.{contains_behind, contains_first, first_or_behind}
 use Rattle.mdv_store.specs.Below.{Failures, Replica, Table, at_of, places_of}
 use Rattle.mdv_store.specs.Opened.{AreSeatsOf}
 use Rattle.mdv_store.specs.Seats.{AreLaid, AreLeft, IsLaid, IsLeft, active_of, drive_of, replicas_of}
 use Rattle.mdv_store.specs.declared.seats.Seat.{Seat}
-
-pub first_or_behind : {X : Type 0} (x y : X) (xs : List X) → Contains (x ∷ xs) y → (x ≡ y) ⊎ Contains xs y
-first_or_behind {X} x y xs has = by has.0 has.1 has.2 where
-  by : (k : ℕ) → k < length (x ∷ xs) → slice_index_or (x ∷ xs) k y ≡ y → (x ≡ y) ⊎ Contains xs y
-  by zero lt same = inl same
-  by (suc k) lt same = inr (k, omega arith, same)
-
-pub contains_first : {X : Type 0} (x : X) (xs : List X) → Contains (x ∷ xs) x
-contains_first x xs = (0, omega arith, refl)
-
-pub contains_behind : {X : Type 0} (y x : X) (xs : List X) → Contains xs x → Contains (y ∷ xs) x
-contains_behind y x xs has = (suc has.0, omega (arith, has.1), has.2)
 
 -- a replica of the list has a seat
 pub seat_of : (seats : List Seat) (r : Replica) → Contains (replicas_of seats) r → (s : Seat) × Contains seats s × (s.replica ≡ Some r)

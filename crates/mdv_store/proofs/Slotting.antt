@@ -166,18 +166,37 @@ module _ (mark : Mark) (bytes : ℕ) (body : List (List ℕ)) where
           blank_slots g ask other from.0 image (blank from.0 from.1) key identity another sound r (mine from.0 from.1) goes.0 mark bytes body (bodies r one).is from.2)
           start passing.0 passing.1 m passing.2
 
+      newest_kept : (its : Mark) (own : Table) (at : PlaceAt) (old new : ℕ → List ℕ) (head : Head) (slot : Slot) → 16 ≤ at.place.blocks → ((block : ℕ) → at.first ≤ block → block < at.first + at.place.blocks → new block ≡ old block)
+          → IsNewestOf (Spells g) at old head slot its own → IsNewestOf (Spells g) at new head slot its own
+      newest_kept its own at old new head slot least same was = record {
+        shows = shows_kept (Spells g) at old new head head slot its own refl (λ block from to. (let w = body_within at slot block least from to in same block (omega (arith, w.0)) w.1)) was.shows;
+        last = λ other s it. was.last other s
+            (shows_kept (Spells g) at new old head head (other_slot slot) other s refl (λ block from to. (let w = body_within at (other_slot slot) block least from to in sym (same block (omega (arith, w.0)) w.1))) it);
+      }
+
+      -- A replica beside them that shows a table goes on to show it.
+      module _ (x : Replica) (apart : (r : Replica) → Contains all r → spot_of x ≡ spot_of r → ⊥) (its : Mark) (own : Table) where
+        abbrev ShowsIt : Tale → Type 0
+        ShowsIt u = Own g key identity x u × IsShown g its own x u
+
+        pub shown_beside : (done due : List Replica) (u : Tale) → Passed (slotting mark bytes body) all t done due u → ShowsIt t → ShowsIt u
+        shown_beside done due u passed start =
+            stands (slotting mark bytes body) all t goes_on (Own g key identity) due_own ShowsIt
+            (λ r v m one mine goes shown. (
+              still x r v m one (apart r one) shown.0 mine goes,
+              record {
+                slot = shown.1.slot;
+                each = λ image is.
+                    let from = still_at x r v m one (apart r one) shown.0 mine goes image is in
+                    newest_kept its own (at_of x) (from.0 (drive_of x)) (image (drive_of x)) x.head shown.1.slot from.2.0.found.located.lies.least from.2.1.same (shown.1.each from.0 from.1);
+              },
+            ))
+            start done due u passed
+
       -- Each one that took it shows it as its newest table.
       module _ (above : AreAbove mark seats) where
         abbrev Shown : Replica → Tale → Type 0
         Shown q u = Own g key identity q u × IsShown g mark table q u
-
-        newest_kept : (at : PlaceAt) (old new : ℕ → List ℕ) (head : Head) (slot : Slot) → 16 ≤ at.place.blocks → ((block : ℕ) → at.first ≤ block → block < at.first + at.place.blocks → new block ≡ old block)
-            → IsNewestOf (Spells g) at old head slot mark table → IsNewestOf (Spells g) at new head slot mark table
-        newest_kept at old new head slot least same was = record {
-          shows = shows_kept (Spells g) at old new head head slot mark table refl (λ block from to. (let w = body_within at slot block least from to in same block (omega (arith, w.0)) w.1)) was.shows;
-          last = λ other s it. was.last other s
-              (shows_kept (Spells g) at new old head head (other_slot slot) other s refl (λ block from to. (let w = body_within at (other_slot slot) block least from to in sym (same block (omega (arith, w.0)) w.1))) it);
-        }
 
         still_shown : (q r : Replica) (u m : Tale) → Contains all r → (spot_of q ≡ spot_of r → ⊥) → Shown q u → Own g key identity r u → (slotting mark bytes body).Goes r u m → Shown q m
         still_shown q r u m one apart shown mine goes = (
@@ -186,7 +205,7 @@ module _ (mark : Mark) (bytes : ℕ) (body : List (List ℕ)) where
             slot = shown.1.slot;
             each = λ image is.
                 let from = still_at q r u m one apart shown.0 mine goes image is in
-                newest_kept (at_of q) (from.0 (drive_of q)) (image (drive_of q)) q.head shown.1.slot from.2.0.found.located.lies.least from.2.1.same (shown.1.each from.0 from.1);
+                newest_kept mark table (at_of q) (from.0 (drive_of q)) (image (drive_of q)) q.head shown.1.slot from.2.0.found.located.lies.least from.2.1.same (shown.1.each from.0 from.1);
           },
         )
 

@@ -2,17 +2,20 @@
 use Rattle.std.specs.Prelude.{◌≡◌, ◌⊎◌, Bool, true, false, All, List, Contains, Some, MatchOption}
 use Rattle.std.specs.Bool.{MatchBool}
 use Rattle.mdv_base.specs.DriveSet.{Drives, has_drive}
-use Rattle.mdv_shelf.specs.Shelves.{DriveFailures}
+use Rattle.mdv_shelf.specs.Shelves.{AtEnd, DriveFailures}
 use Rattle.mdv_survey.specs.Choice.{IsTheOne}
 use Rattle.mdv_survey.specs.Newest.{IsTableIn}
 use Rattle.mdv_survey.specs.Replica.{IsFoundIn}
 use Rattle.mdv_survey.specs.declared.replica.Newest.{Newest}
 use Rattle.mdv_survey.specs.declared.replica.Survey.{Survey}
-use Rattle.mdv_store.specs.Below.{DriveNo, Geometry, Ghosts, IsSound, IsSynced, Replica, Site, Tale, last, site_of}
+use Rattle.mdv_store.specs.Below.{DriveNo, Geometry, Ghosts, IsSound, IsSynced, Replica, Site, Table, Tale, last, site_of}
 use Rattle.mdv_store.specs.Boot.{IfAdopted, IsEndBy, IsOnce, WasChosen, is_memory}
 use Rattle.mdv_store.specs.Booting.{BootMoment, IsBootedTo, has_written}
 use Rattle.mdv_store.specs.Seats.{AreLaid, drive_of}
-use Rattle.mdv_store.specs.Taking.{IsCalmOver, Rewrites}
+use Rattle.mdv_store.specs.Opened.{IsOpenedAt}
+use Rattle.mdv_store.specs.Taking.{IsCalmOver, Rewrites, drawn_open}
+use Rattle.mdv_store.specs.declared.booting.Hand.{Hand}
+use Rattle.mdv_store.specs.declared.seats.Seat.{Seat}
 use Rattle.mdv_store.specs.declared.booting.BootEnd.{BootEnd}
 use Rattle.mdv_store.specs.declared.booting.Taken.{Taken}
 
@@ -32,9 +35,14 @@ pub record WasReadOf (g : Geometry) (site : Site) (replicas : List Replica) (new
   pub table : IsTableIn g (last t) replicas newest
   pub synced : (r : Replica) → Contains replicas r → IsSynced (drive_of r) t
 
+-- what was written of it, and what the places show then that are left behind
+pub record WroteOf {S : Type 0} (shelf : Ghosts S) (old new : S) (site : Site) (replicas : List Replica) (newest : Newest) (hand : Hand) (table : Table) (gone : List Seat) : Type 0 where
+  pub rewrites : Rewrites shelf old new site.key hand table
+  pub shows : AtEnd shelf (λ t u. (g : Geometry) → WasReadOf g site replicas newest t → IsOpenedAt g (drawn_open site.key hand table gone) u) old new
+
 -- an end that follows from any survey with these replicas and this newest table of one database
 pub record IsAdoptAnswer {S : Type 0} (shelf : Ghosts S) (old new : S) (site : Site) (replicas : List Replica) (newest : Newest) (taken : Taken) : Type 0 where
-  pub ended : (is_memory taken.end ≡ true) ⊎ ((survey : Survey) (replica : Replica) → survey.replicas ≡ replicas → survey.newest ≡ Some newest → IsTheOne replicas newest replica → WasChosen survey → IsEndBy (DriveFailures shelf old new) (Rewrites shelf old new site.key) site survey taken.end)
+  pub ended : (is_memory taken.end ≡ true) ⊎ ((survey : Survey) (replica : Replica) → survey.replicas ≡ replicas → survey.newest ≡ Some newest → IsTheOne replicas newest replica → WasChosen survey → IsEndBy (DriveFailures shelf old new) (WroteOf shelf old new site replicas newest) site survey taken.end)
   pub calm : IsCalmOver shelf old new replicas taken.calm
   pub once : (drive : DriveNo) → IsOnce (DriveFailures shelf old new drive.0)
   pub still : has_written taken.end ≡ false → new ≡ old

@@ -46,9 +46,11 @@ pub use Rattle.mdv_store_law.specs.Part.{IsPart}
 pub use Rattle.mdv_survey.specs.Newest.{HasNoneAbove}
 pub use Rattle.mdv_survey.specs.Replica.{at_of}
 pub use Rattle.mdv_survey.specs.declared.replica.Replica.{Replica}
-pub use Rattle.mdv_table.specs.Plan.{places_of}
+pub use Rattle.mdv_table.specs.Plan.{last_of, places_of, settled}
 pub use Rattle.mdv_table.specs.Table.{IsOfGeometry}
 pub use Rattle.mdv_table.specs.declared.change.Change.{Change}
+pub use Rattle.mdv_table.specs.declared.plan.Lists.{Lists}
+pub use Rattle.mdv_table.specs.declared.plan.Lists.TheVariants.{One, Two}
 pub use Rattle.mdv_table.specs.declared.table.Table.{Table}
 pub use Rattle.mdv_votes.specs.Spots.{is_named, same_spot}
 pub use Rattle.mdv_votes.specs.declared.spot.Spot.{Spot}

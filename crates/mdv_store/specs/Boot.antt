@@ -8,9 +8,10 @@ use Rattle.mdv_survey.specs.declared.choosing.Choice.TheVariants as chosen
 use Rattle.mdv_survey.specs.declared.replica.Newest.{Newest}
 use Rattle.mdv_survey.specs.declared.replica.Survey.{Survey}
 use Rattle.mdv_table.specs.Tests.{same_place}
-use Rattle.mdv_store.specs.Below.{Failures, Identity, Key, Open, Place, Replica, Site, Table, greatest, places_of, record_text, slot_blocks, with_slot}
+use Rattle.mdv_store.specs.Below.{Failures, Identity, Key, Lists, One, Open, Place, Replica, Site, Table, Two, greatest, last_of, places_of, record_text, settled, slot_blocks, with_slot}
 use Rattle.mdv_store.specs.Opened.{Opened}
-use Rattle.mdv_store.specs.Seats.{AreLeft, IsSpareOf, TakesClaim}
+use Rattle.mdv_store.specs.Seats.{AreLeft, IsSpareOf, TakesClaim, TakesSlot}
+use Rattle.mdv_store.specs.Settled.{gone_of, settles}
 use Rattle.mdv_store.specs.Shares.{short_of}
 use Rattle.mdv_store.specs.Text.{blocks_for}
 use Rattle.mdv_store.specs.declared.booting.BootEnd.{BootEnd}
@@ -62,6 +63,23 @@ TakesBoth number bytes r n =
 abbrev pub TakesClaimOrBoth : ℕ → ℕ → Replica → Replica → Type 0
 TakesClaimOrBoth number bytes r n = TakesClaim number r n ⊎ TakesBoth number bytes r n
 
+-- and behind the record with the new list alone, where the table has two lists
+abbrev pub TakesBy : Lists → ℕ → Table → Replica → Replica → Type 0
+TakesBy (One list) number table r n = TakesBoth number (length (record_text table)) r n
+TakesBy (Two old new) number table r n =
+    (m : Replica) × TakesBoth number (length (record_text table)) r m × TakesSlot (record { boot = number; count = 1 }) (length (record_text (settled table))) m n
+
+abbrev pub TakesAll : ℕ → Table → Replica → Replica → Type 0
+TakesAll number table = TakesBy table.plan.lists number table
+
+-- the places of the newest table's new list, or of its only one, with the replicas that were found
+abbrev pub last_found : Survey → Newest → Replica → List Seat
+last_found survey newest replica = seats_of survey.replicas replica.head.master.identity (blocks_for (length (record_text newest.table))) (last_of newest.table.plan.lists)
+
+-- those places of the old list that the new one lacks, likewise
+abbrev pub gone_found : Survey → Newest → Replica → List Seat
+gone_found survey newest replica = seats_of survey.replicas replica.head.master.identity (blocks_for (length (record_text newest.table))) (gone_of newest.table.plan.lists)
+
 -- The table is written anew, to more than half of each of its lists, under a number in its limit.
 pub record IsDrawn (survey : Survey) (newest : Newest) (replica : Replica) (seats : List Seat) (number : ℕ) : Type 0 where
   pub hand : IsInHand survey newest replica seats
@@ -69,37 +87,50 @@ pub record IsDrawn (survey : Survey) (newest : Newest) (replica : Replica) (seat
   pub number_is : number ≡ greatest_number replica.head.master.identity survey.replicas + 1
   pub small : number < 2 ^ 63
 
--- What was written of that table was written for its database, to these seats, under that number.
-pub record IsWrittenTo (Wrote : Hand → Table → Type 0) (newest : Newest) (replica : Replica) (seats : List Seat) (number : ℕ) : Type 0 where
+-- What was written of that table was written for its database, to these seats, under that number; and some are left with it that the new list lacks.
+pub record IsWrittenTo (Wrote : Hand → Table → List Seat → Type 0) (newest : Newest) (replica : Replica) (seats : List Seat) (number : ℕ) (gone : List Seat) : Type 0 where
   pub hand : Hand
   pub identity_is : hand.identity ≡ replica.head.master.identity
   pub number_is : hand.number ≡ number
   pub seats_are : hand.seats ≡ seats
-  pub wrote : Wrote hand newest.table
+  pub wrote : Wrote hand newest.table gone
 
--- enough of each list took both
-pub record IsAdopted (failed : ℕ → Failures) (Wrote : Hand → Table → Type 0) (site : Site) (survey : Survey) (o : Opened) : Type 0 where
+-- Enough of each list took both. Where there are two the change of places is over then: the table with the new list alone was written to the places of that list, and enough of them took it, too. Of the others
+-- those that took both are left so, where no call on their drive failed.
+pub record IsAdopted (failed : ℕ → Failures) (Wrote : Hand → Table → List Seat → Type 0) (site : Site) (survey : Survey) (o : Opened) : Type 0 where
   pub newest : Newest
   pub replica : Replica
   pub seats : List Seat
   pub number : ℕ
   pub drawn : IsDrawn survey newest replica seats number
-  pub written : IsWrittenTo Wrote newest replica seats number
-  pub left : AreLeft failed (TakesBoth number (length (record_text newest.table))) seats o.seats
-  pub enough : short_of (need_of site.key) o.seats newest.table.plan.lists ≡ None
-  pub is : o ≡ record { key = site.key; identity = replica.head.master.identity; mark = record { boot = number; count = 0 }; table = newest.table; seats = o.seats }
+  pub gone : List Seat
+  pub over : AreLeft failed (TakesBoth number (length (record_text newest.table))) (gone_found survey newest replica) gone
+  pub written : IsWrittenTo Wrote newest replica seats number gone
+  pub left : AreLeft failed (TakesAll number newest.table) (last_found survey newest replica) o.seats
+  pub enough : short_of (need_of site.key) o.seats (One (last_of newest.table.plan.lists)) ≡ None
+  pub is : o ≡ record { key = site.key; identity = replica.head.master.identity; mark = record { boot = number; count = settles newest.table.plan.lists }; table = settled newest.table; seats = o.seats }
 
--- Not enough of a list took the claim, or the table: of the first such list so many places are left, and so many it has. A place that is left is one on whose drive no call failed, and took the claim, or both; on each other one's drive one did.
-pub record IsLost (failed : ℕ → Failures) (Wrote : Hand → Table → Type 0) (key : Key) (survey : Survey) (active listed : ℕ) : Type 0 where
-  pub newest : Newest
-  pub replica : Replica
-  pub seats : List Seat
-  pub number : ℕ
-  pub drawn : IsDrawn survey newest replica seats number
+-- Of the first of these lists of which not enough is left so many places are left, and so many it has. A place that is left is one on whose drive no call failed, and took what was written; on each other one's drive one did.
+pub record IsShortBy (failed : ℕ → Failures) (Took : Replica → Replica → Type 0) (key : Key) (lists : Lists) (seats : List Seat) (active listed : ℕ) : Type 0 where
   pub now : List Seat
-  pub written : IsWrittenTo Wrote newest replica seats number
-  pub left : AreLeft failed (TakesClaimOrBoth number (length (record_text newest.table))) seats now
-  pub few : short_of (need_of key) now newest.table.plan.lists ≡ Some (record { active = active; listed = listed })
+  pub left : AreLeft failed Took seats now
+  pub few : short_of (need_of key) now lists ≡ Some (record { active = active; listed = listed })
+
+-- the new list of two is short of places that took the table with it alone
+abbrev pub IsShortAgain : (ℕ → Failures) → Key → ℕ → Table → List Seat → (active listed : ℕ) → Type 0
+IsShortAgain failed key number table seats active listed =
+    (settles table.plan.lists ≡ 1) × IsShortBy failed (TakesAll number table) key (One (last_of table.plan.lists)) seats active listed
+
+-- Not enough of a list took the claim, or the table; or of the new one the table with that list alone.
+pub record IsLost (failed : ℕ → Failures) (Wrote : Hand → Table → List Seat → Type 0) (key : Key) (survey : Survey) (active listed : ℕ) : Type 0 where
+  pub newest : Newest
+  pub replica : Replica
+  pub seats : List Seat
+  pub number : ℕ
+  pub drawn : IsDrawn survey newest replica seats number
+  pub written : IsWrittenTo Wrote newest replica seats number []
+  pub short : IsShortBy failed (TakesClaimOrBoth number (length (record_text newest.table))) key newest.table.plan.lists seats active listed
+      ⊎ IsShortAgain failed key number newest.table (last_found survey newest replica) active listed
 
 -- not more than half of a list was found; or of each list enough was, but of one not more than half of those places have room for the text
 abbrev pub IsShort : Survey → (readable needed : ℕ) → Type 0
@@ -117,7 +148,7 @@ pub record WouldPass (survey : Survey) : Type 0 where
   pub spent : 2 ^ 63 ≤ greatest_number replica.head.master.identity survey.replicas + 1
 
 -- what a boot comes to by what it read, and wrote so; memory alone may be wanting whatever it was
-abbrev pub IsEndBy : (ℕ → Failures) → (Hand → Table → Type 0) → Site → Survey → BootEnd → Type 0
+abbrev pub IsEndBy : (ℕ → Failures) → (Hand → Table → List Seat → Type 0) → Site → Survey → BootEnd → Type 0
 IsEndBy failed Wrote site survey (end.Adopted o) = IsAdopted failed Wrote site survey o
 IsEndBy failed Wrote site survey end.Empty = IsChoice survey chosen.Empty
 IsEndBy failed Wrote site survey (end.TwoDatabases a b) = IsChoice survey (chosen.TwoDatabases a b)

@@ -1,12 +1,14 @@
 -- What a boot writes: by each moment, and in the end.
-use Rattle.std.specs.Prelude.{◌≡◌, ◌⊎◌, ℕ, Bool, true, false, List, [], Contains}
+use Rattle.std.specs.Prelude.{◌≡◌, ◌⊎◌, ◌≤◌, ℕ, Bool, true, false, List, [], ◌++◌, Contains}
 use Rattle.mdv_standing.specs.Laws.{ShowsNoTable}
 use Rattle.mdv_standing.specs.Others.{Anything}
 use Rattle.mdv_replica.specs.Form.{shows}
 use Rattle.mdv_shelf.specs.Tale.{MayLeave}
 use Rattle.mdv_survey.specs.Choice.{is_of}
 use Rattle.mdv_survey.specs.Replica.{IsFoundIn}
-use Rattle.mdv_store.specs.Below.{Area, Core, Database, DriveNo, Event, Everywhere, Geometry, Identity, IsBootRun, IsReadyWith, IsSynced, Log, Replica, RestStands, Site, Spot, Tale, TracesFrom, last, has_drive, nowhere, site_area}
+use Rattle.mdv_store_law.specs.Anew.{HasNoneAgain}
+use Rattle.mdv_votes.specs.Laws.{IsWithin}
+use Rattle.mdv_store.specs.Below.{Area, Core, Database, DriveNo, Event, Everywhere, Geometry, Identity, IsBootRun, IsCommitRun, IsReadyWith, IsSynced, Lists, Log, One, Replica, RestStands, Site, Spot, Tale, TracesFrom, Two, last, lists_of_spots, has_drive, nowhere, site_area}
 use Rattle.mdv_store.specs.Blank.{StayBlank}
 use Rattle.mdv_store.specs.Boot.{IfAdopted, is_memory}
 use Rattle.mdv_store.specs.Commit.{AnyLog, AnyWorld, IsNewestWritten}
@@ -14,6 +16,8 @@ use Rattle.mdv_store.specs.Opened.{IsOpenedAt, Opened}
 use Rattle.mdv_look.specs.Quiet.{IsQuiet}
 use Rattle.mdv_store.specs.Records.{Spells}
 use Rattle.mdv_store.specs.Seats.{replicas_of, seats_area, spots_of}
+use Rattle.mdv_store.specs.Settled.{settles}
+use Rattle.mdv_votes.specs.Spots.{is_in}
 use Rattle.mdv_store.specs.declared.booting.BootEnd.{BootEnd}
 use Rattle.mdv_store.specs.declared.booting.BootEnd.TheVariants as end
 use Rattle.mdv_store.specs.declared.booting.Booted.{Booted}
@@ -34,14 +38,21 @@ abbrev pub boot_area : Site → Bool → Area
 boot_area site true = site_area site
 boot_area site false = nowhere
 
--- no event of the votes, or a boot's: it looks at these places, claims some of those that it seats, and writes the table to some, one of them first
-abbrev pub AreOfBoot : (read seated : List Spot) → List Event → Type 0
-AreOfBoot read seated es = (es ≡ []) ⊎ ((p : Spot) × IsBootRun read seated p seated es)
+-- a boot's events, and behind them, where the table has two lists, those of a commit with the new one alone, to some of the places
+abbrev pub AreSettling : Site → Lists → (read seated : List Spot) → List Event → Type 0
+AreSettling site (One list) read seated es = ⊥
+AreSettling site (Two old new) read seated es =
+    (first : List Event) × (rest : List Event) × (p : Spot) × (q : Spot) × (places : List Spot)
+    × IsBootRun read seated p seated first × (IsWithin (is_in places) (is_in seated) × IsCommitRun (lists_of_spots site (One new)) q places rest) × (es ≡ first ++ rest)
 
--- the log of the database goes on with nothing asked, and its worlds by a boot's events
-abbrev pub BootGoes : Geometry → Site → Identity → (read seated : List Spot) → (Core → Type 0) → (Log → Type 0) → Tale → Tale → Type 0
-BootGoes g site identity read seated Then After t m =
-    TracesFrom (Spells g) g site identity AnyLog [] Anything (AreOfBoot read seated) Then After t m
+-- no event of the votes, or a boot's: it looks at these places, claims some of those that it seats, and writes the table to some, one of them first
+abbrev pub AreOfBoot : Site → Lists → (read seated : List Spot) → List Event → Type 0
+AreOfBoot site lists read seated es = (es ≡ []) ⊎ (((p : Spot) × IsBootRun read seated p seated es) ⊎ AreSettling site lists read seated es)
+
+-- the log of the database, if none of its places was formatted again, goes on with nothing asked, and its worlds by a boot's events
+abbrev pub BootGoes : Geometry → Site → Identity → Lists → (read seated : List Spot) → (Core → Type 0) → (Log → Type 0) → Tale → Tale → Type 0
+BootGoes g site identity lists read seated Then After t m =
+    TracesFrom (Spells g) g site identity HasNoneAgain [] Anything (AreOfBoot site lists read seated) Then After t m
 
 -- a replica of the database was found that showed a table
 pub record HasShown (g : Geometry) (site : Site) (identity : Identity) (t : Tale) : Type 0 where
@@ -50,25 +61,25 @@ pub record HasShown (g : Geometry) (site : Site) (identity : Identity) (t : Tale
   pub its : is_of identity replica ≡ true
   pub shown : shows replica.head ≡ true
 
--- What is written is written for one database that showed a table as the boot began, whose log goes on so, and nowhere but at replicas of it that were
+-- What is written is written for one database that showed a table as the boot began, with such lists, whose log goes on so, and nowhere but at replicas of it that were
 -- found then. All others stand, and those that showed no table show none.
-pub record Writes (g : Geometry) (site : Site) (identity : Identity) (t m : Tale) : Type 0 where
+pub record Writes (g : Geometry) (site : Site) (identity : Identity) (lists : Lists) (t m : Tale) : Type 0 where
   pub read : List Spot
   pub seats : List Seat
   pub found : (r : Replica) → Contains (replicas_of seats) r → IsFoundIn g site (last t) r × (is_of identity r ≡ true)
   pub shown : (seats ≡ []) ⊎ HasShown g site identity t
   pub within : IsQuiet (seats_area seats) t m
-  pub goes : BootGoes g site identity read (spots_of seats) AnyWorld AnyLog t m
+  pub goes : BootGoes g site identity lists read (spots_of seats) AnyWorld AnyLog t m
   pub rest : (all : List Database) → RestStands (Spells g) g all identity t → RestStands (Spells g) g all identity m
   pub blank : StayBlank g identity t m
 
--- for that one which it adopts, where it adopts one
+-- for that one which it adopts, where it adopts one, whose table had one list if its mark says so
 abbrev pub WritesFor : Geometry → Site → BootEnd → Tale → Tale → Type 0
-WritesFor g site (end.Adopted o) t m = Writes g site o.identity t m
+WritesFor g site (end.Adopted o) t m = (lists : Lists) × (settles lists ≤ o.mark.count) × Writes g site o.identity lists t m
 WritesFor g site end.Empty t m = Unit {0}
 WritesFor g site (end.TwoDatabases a b) t m = Unit {0}
 WritesFor g site (end.NoQuorum readable needed) t m = Unit {0}
-WritesFor g site (end.Lost active listed) t m = (identity : Identity) × Writes g site identity t m
+WritesFor g site (end.Lost active listed) t m = (identity : Identity) × (lists : Lists) × Writes g site identity lists t m
 WritesFor g site end.Spent t m = Unit {0}
 WritesFor g site end.Memory t m = Unit {0}
 
@@ -81,9 +92,11 @@ pub record BootMoment (g : Geometry) (site : Site) (answer : BootEnd) (t m : Tal
 pub record IsBootedTo (g : Geometry) (site : Site) (o : Opened) (t u : Tale) : Type 0 where
   pub shown : HasShown g site o.identity t
   pub opened : IsOpenedAt g o u
+  pub lists : Lists
+  pub marked : o.mark.count ≡ settles lists
   pub read : List Spot
   pub seated : List Spot
-  pub goes : BootGoes g site o.identity read seated (IsReadyWith (spots_of o.seats)) (λ log. IsNewestWritten log o.mark o.table) t u
+  pub goes : BootGoes g site o.identity lists read seated (IsReadyWith (spots_of o.seats)) (λ log. IsNewestWritten log o.mark o.table) t u
 
 -- In the end what was adopted is there. Where nothing is found, and no call failed, no replica shows a table, whatever a crash leaves. If memory wasn't wanting,
 -- no crash takes back what is read of a drive on which no call failed; nor, whatever came, of one that is up a block that the boot can't have written.

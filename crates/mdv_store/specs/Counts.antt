@@ -3,17 +3,14 @@ use Rattle.std.specs.Prelude.{◌≡◌, ◌<◌, ◌+◌, ◌-◌, ◌*◌, ◌
 use Rattle.std.specs.List.{list_any}
 use Rattle.mdv_shelf.specs.Between.{RoseByAtLeast}
 use Rattle.mdv_shelf.specs.Shelves.{MadeCalls}
-use Rattle.mdv_store.specs.Below.{Ghosts, TookBetween}
+pub use Rattle.mdv_acts.specs.Acts.{MadeCallsBetween}
+use Rattle.mdv_store.specs.Below.{Ghosts}
 use Rattle.mdv_store.specs.Opened.{Opened, shortage}
 use Rattle.mdv_store.specs.Seats.{active_of, drive_of, replicas_of}
 use Rattle.mdv_store.specs.Text.{blocks_for}
 use Rattle.mdv_store.specs.declared.seats.Seat.{Seat}
 use Rattle.mdv_store.specs.declared.store.CommitFault.{CommitFault}
 use Rattle.mdv_store.specs.declared.store.CommitFault.TheVariants as unwritten
-
--- it took so many calls at least, and so many at most, and wrote no more than so many blocks
-abbrev pub MadeCallsBetween : {S : Type 0} → Ghosts S → S → S → ℕ → ℕ → ℕ → Type 0
-MadeCallsBetween shelf old new least most blocks = TookBetween shelf.calls shelf.written old new least most blocks
 
 -- how many different numbers these are
 abbrev pub different : List ℕ → ℕ

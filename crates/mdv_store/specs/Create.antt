@@ -1,5 +1,5 @@
 -- What a creation says: of what it is asked, of its answer, of each moment, and of the end.
-use Rattle.std.specs.Prelude.{◌≡◌, ◌⊎◌, ◌<◌, ◌≤◌, ◌+◌, ◌*◌, ◌^◌, nat_lt, if◌then◌else◌, ℕ, zero, suc, List, [], ◌∷◌, length, map, flat_map, slice_index_or, AllPairs, Contains, Some, None, Result, Ok, Err, IfOk}
+use Rattle.std.specs.Prelude.{◌≡◌, ◌⊎◌, ◌≤◌, ◌+◌, ◌*◌, ℕ, zero, suc, List, [], ◌∷◌, length, map, flat_map, Contains, Some, None, Result, Ok, Err, IfOk}
 use Rattle.mdv_shelf.specs.Drives.{KeptAmong}
 use Rattle.mdv_shelf.specs.Shelves.{AtEachTale, AtEnd, DriveFailures, MadeCalls}
 use Rattle.mdv_standing.specs.Blanking.{MayClear}
@@ -11,10 +11,11 @@ use Rattle.mdv_shown.specs.Site.{size_on}
 use Rattle.mdv_replica.specs.Form.{formatted_head}
 use Rattle.mdv_table.specs.declared.plan.Lists.TheVariants.{One}
 use Rattle.mdv_store.specs.Blank.{IsBlank, StayBlank}
-use Rattle.mdv_store.specs.Acts.{HaveGone, HaveStopped, acts_asked}
+use Rattle.mdv_acts.specs.Acts.{HaveGone, HaveStopped, MadeCallsBetween, acts_asked}
+use Rattle.mdv_acts.specs.Asked.{blanked_asked, drives_asked}
 use Rattle.mdv_store.specs.Below.{Core, Database, DriveNo, Event, Failures, Geometry, Ghosts, Identity, IsOfGeometry, IsReadyWith, IsSound, Key, Log, Replica, RestStands, SliceLine, Spot, Table, Tale, lists_of_spots, place_on, record_text, site_of}
 use Rattle.mdv_store.specs.Commit.{AnyLog, AnyWorld, IsNewestWritten}
-use Rattle.mdv_store.specs.Counts.{ArePassCounted, MadeCallsBetween}
+use Rattle.mdv_store.specs.Counts.{ArePassCounted}
 use Rattle.mdv_store.specs.Opened.{IsOpenedAt, Opened, shortage}
 use Rattle.mdv_look.specs.Quiet.{IsQuiet}
 use Rattle.mdv_store.specs.Records.{Spells}
@@ -26,22 +27,6 @@ use Rattle.mdv_store.specs.declared.creating.CreateFault.{CreateFault}
 use Rattle.mdv_store.specs.declared.creating.CreateFault.TheVariants as unmade
 use Rattle.mdv_store.specs.declared.seats.Need.TheVariants.{Half}
 use Rattle.mdv_store.specs.declared.seats.Seat.{Seat}
-
--- A creation is asked for places that there are: on each slice so many, one behind another, within it and its drive; fifty at most, and no slice twice.
-pub record AreAsked (sizes : List ℕ) (lines : List SliceLine) (count blocks : ℕ) : Type 0 where
-  pub some : 1 ≤ length lines
-  pub more : 1 ≤ count
-  pub few : length lines * count ≤ 50
-  pub least : 16 ≤ blocks
-  pub most : blocks ≤ 8192
-  pub within : (line : SliceLine) → Contains lines line → 16 + count * blocks ≤ line.at.blocks
-  pub drive : (line : SliceLine) → Contains lines line → line.at.drive.0 < length sizes
-  pub laid : (line : SliceLine) → Contains lines line → line.at.start + line.at.blocks ≤ slice_index_or sizes line.at.drive.0 0
-  pub small : (line : SliceLine) → Contains lines line → slice_index_or sizes line.at.drive.0 0 < 2 ^ 64
-  pub once : AllPairs (λ (a b : SliceLine). a ≡ b → ⊥) lines
-
-abbrev pub drives_asked : List SliceLine → List DriveNo
-drives_asked lines = map (λ (line : SliceLine). line.at.drive) lines
 
 -- the replica of this number as it is formatted
 abbrev pub replica_on : Key → Identity → SliceLine → ℕ → ℕ → ℕ → Replica
@@ -125,7 +110,7 @@ StayFormed key identity lines count blocks m =
 -- failed. In the end those that are left show it.
 pub record WereFormed {S : Type 0} (shelf : Ghosts S) (old new : S) (key : Key) (identity : Identity) (lines : List SliceLine) (count blocks : ℕ) : Type 0 where
   pub formed : S
-  pub gone : HaveGone shelf old formed (drives_asked lines) (acts_asked key identity lines count blocks)
+  pub gone : HaveGone shelf old formed (drives_asked lines) (acts_asked key identity 1 lines count blocks)
   pub behind : KeptAmong shelf formed new (drives_asked lines)
   pub held : AtEnd shelf (λ t v. (g : Geometry) → MayForm g key lines (seats_asked key identity lines count blocks) → AreHeld g key identity (seats_asked key identity lines count blocks) v) old formed
   pub stay : (t : Tale) → shelf.tale old ≡ Some t → AtEachTale shelf (λ v. StayFormed key identity lines count blocks) formed new
@@ -140,7 +125,7 @@ pub record WereFormed {S : Type 0} (shelf : Ghosts S) (old new : S) (key : Key) 
 -- Each place was formatted, where a table was written; and those that are left lie where it may be written. A creation that failed came no further than to its formats.
 abbrev pub HasFormed : {S : Type 0} → Ghosts S → S → S → Key → Identity → List SliceLine → ℕ → ℕ → Result Opened CreateFault → Type 0
 HasFormed shelf old new key identity lines count blocks (Ok o) = (f : WereFormed shelf old new key identity lines count blocks) × (f.now ≡ o.seats) × AreLaid (shelf.sizes new) o.seats
-HasFormed shelf old new key identity lines count blocks (Err unmade.Failed) = HaveStopped shelf old new (drives_asked lines) (acts_asked key identity lines count blocks)
+HasFormed shelf old new key identity lines count blocks (Err unmade.Failed) = HaveStopped shelf old new (drives_asked lines) (acts_asked key identity 1 lines count blocks)
 HasFormed shelf old new key identity lines count blocks (Err (unmade.Lost active listed)) = (f : WereFormed shelf old new key identity lines count blocks) × (short_of Half f.now (table_of (seats_asked key identity lines count blocks)).plan.lists ≡ Some (record { active = active; listed = listed }))
 HasFormed shelf old new key identity lines count blocks (Err unmade.Memory) = Unit {0}
 
@@ -183,10 +168,6 @@ pub record CreateEnds (key : Key) (identity : Identity) (lines : List SliceLine)
   pub ended : (g : Geometry) (all : List Database) → MayCreate g all key identity lines (seats_asked key identity lines count blocks) t → IsEnded g key identity (seats_asked key identity lines count blocks) result t u
   pub opened : IfOk result (λ o. (g : Geometry) → MayForm g key lines (seats_asked key identity lines count blocks) → IsOpenedAt g o u)
   pub unmade : result ≡ Err unmade.Failed → (g : Geometry) → MayForm g key lines (seats_asked key identity lines count blocks) → IsBlank g key identity t → IsBlank g key identity u
-
--- two calls for each place that is blanked: all places of slices that get more than one
-abbrev pub blanked_asked : List SliceLine → ℕ → ℕ
-blanked_asked lines count = if nat_lt 1 count then length lines * count else 0
 
 -- Twelve calls for each place, six of them for its format, and two more for each that is blanked before. What failed in these took no more; without memory none is made.
 abbrev pub IsCreationCounted : {S : Type 0} → Ghosts S → S → S → List SliceLine → ℕ → ℕ → Result Opened CreateFault → Type 0

@@ -10,7 +10,7 @@ use Rattle.mdv_survey.specs.Letters.{letters_at, located_alone}
 use Rattle.mdv_survey.specs.declared.replica.Newest.{Newest}
 use Rattle.mdv_survey.specs.declared.replica.Survey.{Survey}
 use Rattle.mdv_table.specs.Tests.{same_place}
-use Rattle.mdv_store.specs.Below.{Identity, Mark, Place, Replica, Site, places_of, record_text}
+use Rattle.mdv_store.specs.Below.{Identity, Mark, Place, Replica, Site, last_of, record_text}
 use Rattle.mdv_store.specs.Boot.{seat_for}
 pub use Rattle.mdv_store.specs.Shares.{is_active, is_seat_at}
 use Rattle.mdv_store.specs.Text.{blocks_for}
@@ -41,11 +41,11 @@ abbrev pub seen_at : Site → Survey → Drives → Identity → Mark → ℕ �
 seen_at site survey answered identity mark text was place =
     record (letters_at site survey.replicas survey.others answered place) { active = is_active (seat_for survey.replicas identity text place); master = list_any (shows_at identity mark place) survey.replicas && not was }
 
--- the letters of the places that the newest table lists, in their order
+-- the letters of the places that the newest table lists, in their order; of its new list, where it has two
 pub record AreRead (site : Site) (survey : Survey) (answered : Drives) (newest : Newest) (letters : List Lettered) : Type 0 where
   pub replica : Replica
   pub one_of : slice_get survey.replicas newest.replica ≡ Some replica
-  pub letters_are : letters ≡ letters_from (seen_at site survey answered replica.head.master.identity newest.mark (blocks_for (length (record_text newest.table)))) false (places_of newest.table.plan.lists)
+  pub letters_are : letters ≡ letters_from (seen_at site survey answered replica.head.master.identity newest.mark (blocks_for (length (record_text newest.table)))) false (last_of newest.table.plan.lists)
 
 -- there are none where the survey found no table
 abbrev pub AreLettersOf : Site → Survey → Drives → List Lettered → Type 0

@@ -4,6 +4,7 @@ pub mod Blank
 pub mod Text
 pub mod Seats
 pub mod Shares
+pub mod Settled
 pub mod Passing
 pub mod Claims
 pub mod Slots
@@ -14,10 +15,10 @@ pub mod Counts
 pub mod Boot
 pub mod Letters
 pub mod Booting
+pub mod Settling
 pub mod BootCounts
 pub mod Taking
 pub mod Adopting
 pub mod Create
-pub mod Acts
 pub mod Booted
 pub mod Meaning

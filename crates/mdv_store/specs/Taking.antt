@@ -1,5 +1,5 @@
 -- What a boot makes of what it read: step by step, and of which premises.
-use Rattle.std.specs.Prelude.{◌≡◌, ◌⊎◌, ◌<◌, ◌≤◌, ◌+◌, ◌*◌, ◌^◌, max, ℕ, Bool, true, false, List, [], length, map, Contains, MatchOption, None, Some, slice_get, vec_len}
+use Rattle.std.specs.Prelude.{◌≡◌, ◌⊎◌, ◌<◌, ◌≤◌, ◌+◌, ◌^◌, max, ℕ, Bool, true, false, List, [], length, map, Contains, MatchOption, None, Some, slice_get, vec_len}
 use Rattle.std.specs.Bool.{MatchBool}
 use Rattle.mdv_shelf.specs.Between.{RoseByAtLeast}
 use Rattle.mdv_shelf.specs.Shelves.{AtEachTale, AtEnd, DriveFailures, MadeCalls}
@@ -8,10 +8,10 @@ use Rattle.mdv_standing.specs.Adopting.{drawn}
 use Rattle.mdv_standing.specs.Turning.{IsBootRead}
 use Rattle.mdv_survey.specs.Survey.{IsSurveyOf}
 use Rattle.mdv_survey.specs.declared.replica.Newest.{Newest}
-use Rattle.mdv_store.specs.Below.{Database, DriveNo, Failures, Geometry, Ghosts, IsOfGeometry, IsReadyWith, IsSound, IsSynced, Key, Mark, Replica, RestStands, Site, Slot, Table, Tale, greatest, last, places_of, record_text, site_of}
+use Rattle.mdv_store.specs.Below.{Database, DriveNo, Failures, Geometry, Ghosts, IsOfGeometry, IsReadyWith, IsSound, IsSynced, Key, Lists, Mark, One, Replica, RestStands, Site, Slot, Table, Tale, Two, greatest, last, last_of, places_of, record_text, settled, site_of}
 use Rattle.mdv_store.specs.Blank.{StayBlank}
-use Rattle.mdv_store.specs.Boot.{IfAdopted, IsEndBy, IsOnce, TakesBoth, TakesClaimOrBoth, greatest_number, is_memory, need_of, seats_of}
-use Rattle.mdv_store.specs.BootCounts.{most_blocks}
+use Rattle.mdv_store.specs.Boot.{IfAdopted, IsEndBy, IsOnce, IsShortAgain, IsShortBy, TakesAll, TakesBoth, TakesClaimOrBoth, greatest_number, is_memory, need_of, seats_of}
+use Rattle.mdv_store.specs.BootCounts.{IsAnewCounted, blocks_at, calls_at, most_blocks, most_calls}
 use Rattle.mdv_store.specs.Booting.{BootGoes, BootMoment, IsBootedTo, has_written}
 use Rattle.mdv_store.specs.Claims.{ClaimingEnds}
 use Rattle.mdv_store.specs.Commit.{AnyLog, AnyWorld, IsNewestWritten}
@@ -20,10 +20,11 @@ use Rattle.mdv_store.specs.Opened.{AreSeatsOf, IsOpenedAt, Opened, least_room}
 use Rattle.mdv_store.specs.Passing.{IsPassing, Passed, WentBy, claiming}
 use Rattle.mdv_look.specs.Quiet.{IsQuiet}
 use Rattle.mdv_store.specs.Records.{Spells}
-use Rattle.mdv_store.specs.Seats.{AreHeld, AreLaid, AreLeft, AreNamed, HaveRoom, TakesClaim, TakesSlot, active_of, drive_of, replicas_of, seats_area, spots_of}
+use Rattle.mdv_store.specs.Seats.{AreHeld, AreLaid, AreLeft, AreNamed, HaveRoom, TakesClaim, TakesSlot, drive_of, replicas_of, seats_area, spots_of}
+use Rattle.mdv_store.specs.Settled.{again_of, first_room, gone_of, seats_now, settles}
 use Rattle.mdv_store.specs.Shares.{short_of}
 use Rattle.mdv_store.specs.Text.{blocks_for}
-use Rattle.mdv_store.specs.Writing.{AreWrittenBy, IsBeingWritten, WritingEnds}
+use Rattle.mdv_store.specs.Writing.{AreWrittenBy, IsBeingWritten, IsWrittenOver, WritingEnds}
 use Rattle.mdv_store.specs.declared.booting.BootEnd.{BootEnd}
 use Rattle.mdv_store.specs.declared.booting.BootEnd.TheVariants as end
 use Rattle.mdv_store.specs.declared.booting.Hand.{Hand}
@@ -39,6 +40,10 @@ drives_read replicas = map (λ (r : Replica). r.line.at.drive) replicas
 abbrev pub AreNumbered : List Replica → Type 0
 AreNumbered replicas = (r : Replica) → Contains replicas r → greatest r.head < 2 ^ 63
 
+-- how many blocks of room its writing takes, and that of the tables that come
+abbrev pub room_of : Table → ℕ
+room_of table = max (max (least_room (places_of table.plan.lists)) (first_room (again_of table.plan.lists))) (blocks_for (length (record_text table)))
+
 -- What an adoption of the newest table has in hand.
 pub record IsHandOf (replicas : List Replica) (newest : Newest) (hand : Hand) : Type 0 where
   pub replica : Replica
@@ -47,14 +52,19 @@ pub record IsHandOf (replicas : List Replica) (newest : Newest) (hand : Hand) : 
   pub number_is : hand.number ≡ greatest_number hand.identity replicas + 1
   pub seats_are : hand.seats ≡ seats_of replicas hand.identity (blocks_for (length (record_text newest.table))) (places_of newest.table.plan.lists)
   pub few : length hand.seats ≤ 100
-  pub room_is : vec_len hand.room ≡ max (least_room (places_of newest.table.plan.lists)) (blocks_for (length (record_text newest.table)))
+  pub next_are : hand.next ≡ seats_of replicas hand.identity (blocks_for (length (record_text newest.table))) (again_of newest.table.plan.lists)
+  pub next_few : length hand.next ≤ 50
+  pub room_is : vec_len hand.room ≡ room_of newest.table
 
 -- It is in order: the seats are the table's, more than half of each of its lists is active, its text fits there, and the number is above all that they have.
 pub record IsReadied (hand : Hand) (table : Table) : Type 0 where
   pub seats : AreSeatsOf table hand.seats
   pub enough : short_of More hand.seats table.plan.lists ≡ None
   pub room : HaveRoom (blocks_for (length (record_text table))) hand.seats
-  pub whole : vec_len hand.room ≡ max (least_room (places_of table.plan.lists)) (blocks_for (length (record_text table)))
+  pub one : (s t : Seat) → Contains hand.seats s → Contains hand.seats t → s.place ≡ t.place → s.replica ≡ t.replica
+  pub next : map (λ (s : Seat). s.place) hand.next ≡ again_of table.plan.lists
+  pub next_few : length hand.next ≤ 50
+  pub whole : vec_len hand.room ≡ room_of table
   pub short : (r : Replica) → Contains (replicas_of hand.seats) r → r.first.blocks ≤ 8192
   pub small : hand.number < 2 ^ 63
   pub above : (r : Replica) → Contains (replicas_of hand.seats) r → greatest r.head < hand.number
@@ -72,22 +82,40 @@ pub record IsToAdopt (g : Geometry) (key : Key) (hand : Hand) (table : Table) (t
   pub held : AreHeld g key hand.identity hand.seats t
   pub named : AreNamed (site_of g key) table hand.seats
 
--- The claims are written to the active replicas, one by one in their order; and behind the last of them the table to those that took theirs; and nothing else is done.
+-- the mark of the record with the new list alone
+abbrev pub second_mark : ℕ → Mark
+second_mark number = record { boot = number; count = 1 }
+
+-- the places of the new list, or of the only one, as they are in hand
+abbrev pub last_in : List Seat → Lists → List Seat
+last_in seats (One list) = seats
+last_in seats (Two old new) = seats_now seats new
+
+-- behind both passes a table that has two lists is written with the new one alone, to the places of that list that took the table
+abbrev pub IsBeingSettled : Hand → Table → Tale → Tale → Type 0
+IsBeingSettled hand table t m =
+    (settles table.plan.lists ≡ 1) × (claimed : List Replica) × (u : Tale) × (took : List Seat) × (v : Tale)
+    × Passed (claiming hand.number) (replicas_of hand.seats) t claimed [] u
+    × IsWrittenOver claimed (drawn hand.number) table u (replicas_of took) v
+    × IsBeingWritten (replicas_of (seats_now took (again_of table.plan.lists))) (second_mark hand.number) (settled table) v m
+
+-- The claims are written to the active replicas, one by one in their order; and behind the last of them the table to those that took theirs; and then it again with its new list alone, where it has two; and nothing else is done.
 abbrev pub IsBeingRewritten : Hand → Table → Tale → Tale → Type 0
 IsBeingRewritten hand table t m = IsPassing (claiming hand.number) (replicas_of hand.seats) t m
-    ⊎ ((claimed : List Replica) × (u : Tale) × Passed (claiming hand.number) (replicas_of hand.seats) t claimed [] u × IsBeingWritten claimed (drawn hand.number) table u m)
+    ⊎ (((claimed : List Replica) × (u : Tale) × Passed (claiming hand.number) (replicas_of hand.seats) t claimed [] u × IsBeingWritten claimed (drawn hand.number) table u m)
+    ⊎ IsBeingSettled hand table t m)
 
 -- by each moment of the writes
 pub record RewriteMoment (key : Key) (hand : Hand) (table : Table) (t m : Tale) : Type 0 where
   pub quiet : IsQuiet (seats_area hand.seats) t m
   pub only : IsBeingRewritten hand table t m
-  pub goes : (g : Geometry) (to : IsToAdopt g key hand table t) → BootGoes g (site_of g key) hand.identity (spots_seen to.seen) (spots_of hand.seats) AnyWorld AnyLog t m
+  pub goes : (g : Geometry) (to : IsToAdopt g key hand table t) → BootGoes g (site_of g key) hand.identity table.plan.lists (spots_seen to.seen) (spots_of hand.seats) AnyWorld AnyLog t m
   pub rest : (g : Geometry) (all : List Database) → IsToAdopt g key hand table t → RestStands (Spells g) g all hand.identity t → RestStands (Spells g) g all hand.identity m
   pub blank : (g : Geometry) → IsToAdopt g key hand table t → StayBlank g hand.identity t m
 
--- two calls for a claim and six for the table at each of the hand's active places at most, and one block and those of the table's text and two gates; one call at least
+-- at most two calls for a claim and six for the table at each of the hand's active places, and six again at each of the new list's, where there are two; one call at least
 abbrev pub MadeRewriteCalls : {S : Type 0} → Ghosts S → S → S → Hand → Table → Type 0
-MadeRewriteCalls shelf old new hand table = MadeCallsBetween shelf old new 1 (8 * active_of hand.seats) ((3 + blocks_for (length (record_text table))) * active_of hand.seats)
+MadeRewriteCalls shelf old new hand table = MadeCallsBetween shelf old new 1 (calls_at hand.seats table) (blocks_at hand.seats table)
 
 -- The claim was written at each of these places in turn, and these are left.
 pub record WereClaimed {S : Type 0} (shelf : Ghosts S) (old new : S) (number : ℕ) (before now : List Seat) : Type 0 where
@@ -103,13 +131,29 @@ pub record WereSlotted {S : Type 0} (shelf : Ghosts S) (old new : S) (mark : Mar
   pub counted : ArePassCounted shelf old new 6 (2 + blocks_for (length (record_text table))) before now
   pub end : AtEnd shelf (WritingEnds before now mark table) old new
 
+-- Where the table has two lists, of each of which enough took it, it was written again with the new one alone, to the places of that list; and else nothing more.
+abbrev pub WereSettled : {S : Type 0} → Ghosts S → S → S → Key → ℕ → Table → Lists → List Seat → Type 0
+WereSettled shelf old new key number table (One list) now = new ≡ old
+WereSettled shelf old new key number table (Two was next) now =
+    MatchOption (short_of (need_of key) now (Two was next)) ((last : List Seat) × WereSlotted shelf old new (second_mark number) (settled table) (seats_now now next) last) (λ share. new ≡ old)
+
 -- The claim was written to each of the hand's places; and the table to each that took it, where enough did, and else nothing more.
 pub record WerePassed {S : Type 0} (shelf : Ghosts S) (old new : S) (key : Key) (hand : Hand) (table : Table) : Type 0 where
   pub claimed : S
+  pub written : S
   pub between : List Seat
   pub now : List Seat
   pub first : WereClaimed shelf old claimed hand.number hand.seats between
-  pub behind : MatchOption (short_of (need_of key) between table.plan.lists) (WereSlotted shelf claimed new (drawn hand.number) table between now) (λ share. (new ≡ claimed) × (now ≡ between))
+  pub second : MatchOption (short_of (need_of key) between table.plan.lists) (WereSlotted shelf claimed written (drawn hand.number) table between now) (λ share. (written ≡ claimed) × (now ≡ between))
+  pub behind : WereSettled shelf written new key hand.number table table.plan.lists now
+
+-- the database as both passes left it at these places
+abbrev pub drawn_open : Key → Hand → Table → List Seat → Opened
+drawn_open key hand table seats = record { key = key; identity = hand.identity; mark = drawn hand.number; table = table; seats = seats }
+
+-- in the end these places show the table under the number's first mark, whatever a crash leaves
+abbrev pub GoneShow : Key → Hand → Table → List Seat → Tale → Tale → Type 0
+GoneShow key hand table gone t u = (g : Geometry) → IsToAdopt g key hand table t → IsOpenedAt g (drawn_open key hand table gone) u
 
 -- and of all of them between these, of which some block was written
 pub record Rewrites {S : Type 0} (shelf : Ghosts S) (old new : S) (key : Key) (hand : Hand) (table : Table) : Type 0 where
@@ -121,28 +165,28 @@ pub record Rewrites {S : Type 0} (shelf : Ghosts S) (old new : S) (key : Key) (h
 -- and in the end, where enough places took the table
 pub record RewriteEnds (key : Key) (hand : Hand) (table : Table) (o : Opened) (t u : Tale) : Type 0 where
   pub opened : (g : Geometry) → IsToAdopt g key hand table t → IsOpenedAt g o u
-  pub goes : (g : Geometry) (to : IsToAdopt g key hand table t) → BootGoes g (site_of g key) hand.identity (spots_seen to.seen) (spots_of hand.seats) (IsReadyWith (spots_of o.seats)) (λ log. IsNewestWritten log o.mark o.table) t u
+  pub goes : (g : Geometry) (to : IsToAdopt g key hand table t) → BootGoes g (site_of g key) hand.identity table.plan.lists (spots_seen to.seen) (spots_of hand.seats) (IsReadyWith (spots_of o.seats)) (λ log. IsNewestWritten log o.mark o.table) t u
 
--- the opened database, behind both passes
-pub record IsRewritten (failed : ℕ → Failures) (key : Key) (hand : Hand) (table : Table) (o : Opened) : Type 0 where
-  pub left : AreLeft failed (TakesBoth hand.number (length (record_text table))) hand.seats o.seats
-  pub enough : short_of (need_of key) o.seats table.plan.lists ≡ None
-  pub is : o ≡ record { key = key; identity = hand.identity; mark = record { boot = hand.number; count = 0 }; table = table; seats = o.seats }
+-- the opened database, behind both passes, and where the table had two lists with its new one alone
+pub record IsRewritten (failed : ℕ → Failures) (key : Key) (hand : Hand) (table : Table) (gone : List Seat) (o : Opened) : Type 0 where
+  pub over : AreLeft failed (TakesBoth hand.number (length (record_text table))) (seats_now hand.seats (gone_of table.plan.lists)) gone
+  pub left : AreLeft failed (TakesAll hand.number table) (last_in hand.seats table.plan.lists) o.seats
+  pub enough : short_of (need_of key) o.seats (One (last_of table.plan.lists)) ≡ None
+  pub is : o ≡ record { key = key; identity = hand.identity; mark = record { boot = hand.number; count = settles table.plan.lists }; table = settled table; seats = o.seats }
 
--- not enough places of a list took the one or the other: those that are left took the claim, or both
-pub record IsLostWith (failed : ℕ → Failures) (key : Key) (hand : Hand) (table : Table) (active listed : ℕ) : Type 0 where
-  pub now : List Seat
-  pub left : AreLeft failed (TakesClaimOrBoth hand.number (length (record_text table))) hand.seats now
-  pub few : short_of (need_of key) now table.plan.lists ≡ Some (record { active = active; listed = listed })
+-- not enough places of a list took the one or the other: those that are left took the claim, or both; or not enough of the new one took the table with it alone
+abbrev pub IsLostWith : (ℕ → Failures) → Key → Hand → Table → (active listed : ℕ) → Type 0
+IsLostWith failed key hand table active listed = IsShortBy failed (TakesClaimOrBoth hand.number (length (record_text table))) key table.plan.lists hand.seats active listed
+    ⊎ IsShortAgain failed key hand.number table (last_in hand.seats table.plan.lists) active listed
 
-abbrev pub IsRewriteEnd : (ℕ → Failures) → Key → Hand → Table → BootEnd → Type 0
-IsRewriteEnd failed key hand table (end.Adopted o) = IsRewritten failed key hand table o
-IsRewriteEnd failed key hand table end.Empty = ⊥
-IsRewriteEnd failed key hand table (end.TwoDatabases a b) = ⊥
-IsRewriteEnd failed key hand table (end.NoQuorum readable needed) = ⊥
-IsRewriteEnd failed key hand table (end.Lost active listed) = IsLostWith failed key hand table active listed
-IsRewriteEnd failed key hand table end.Spent = ⊥
-IsRewriteEnd failed key hand table end.Memory = ⊥
+abbrev pub IsRewriteEnd : (ℕ → Failures) → Key → Hand → Table → List Seat → BootEnd → Type 0
+IsRewriteEnd failed key hand table gone (end.Adopted o) = IsRewritten failed key hand table gone o
+IsRewriteEnd failed key hand table gone end.Empty = ⊥
+IsRewriteEnd failed key hand table gone (end.TwoDatabases a b) = ⊥
+IsRewriteEnd failed key hand table gone (end.NoQuorum readable needed) = ⊥
+IsRewriteEnd failed key hand table gone (end.Lost active listed) = (gone ≡ []) × IsLostWith failed key hand table active listed
+IsRewriteEnd failed key hand table gone end.Spent = ⊥
+IsRewriteEnd failed key hand table gone end.Memory = ⊥
 
 -- no call failed, or one did on a drive of these replicas
 abbrev pub IsCalmOver : {S : Type 0} → Ghosts S → S → S → List Replica → Bool → Type 0
@@ -151,16 +195,19 @@ IsCalmOver shelf old new replicas calm = MatchBool calm
     ((r : Replica) × Contains replicas r × (DriveFailures shelf old new (drive_of r)).some)
 
 pub record IsRewriteAnswer {S : Type 0} (shelf : Ghosts S) (old new : S) (key : Key) (hand : Hand) (table : Table) (taken : Taken) : Type 0 where
-  pub ended : IsRewriteEnd (DriveFailures shelf old new) key hand table taken.end
+  pub gone : List Seat
+  pub ended : IsRewriteEnd (DriveFailures shelf old new) key hand table gone taken.end
   pub calm : IsCalmOver shelf old new (replicas_of hand.seats) taken.calm
+  pub once : (drive : DriveNo) → IsOnce (DriveFailures shelf old new drive.0)
   pub wrote : RoseByAtLeast 1 (shelf.written old) (shelf.written new)
   pub made : MadeRewriteCalls shelf old new hand table
   pub passed : WerePassed shelf old new key hand table
+  pub shows : AtEnd shelf (GoneShow key hand table gone) old new
 
 -- what an adoption costs
 pub record IsTakingCounted {S : Type 0} (shelf : Ghosts S) (old new : S) (taken : Taken) : Type 0 where
-  pub most : MadeCallsBetween shelf old new 0 (8 * 100) most_blocks
-  pub calm : taken.calm ≡ true → IfAdopted taken.end (λ o. MadeCalls shelf old new (8 * active_of o.seats) ((3 + blocks_for (length (record_text o.table))) * active_of o.seats))
+  pub most : MadeCallsBetween shelf old new 0 most_calls most_blocks
+  pub calm : taken.calm ≡ true → IfAdopted taken.end (IsAnewCounted (MadeCalls shelf old new) 0)
 
 -- the drives that a boot left as they were stay synced, and those on which its writes succeeded
 abbrev pub StaySynced : {S : Type 0} → Ghosts S → S → S → Tale → Tale → Type 0
@@ -173,9 +220,14 @@ pub record WasRead (g : Geometry) (site : Site) (looked : Looked) (t : Tale) : T
   pub of : IsSurveyOf g site looked.calm (last t) looked.survey
   pub synced : (r : Replica) → Contains looked.survey.replicas r → IsSynced (drive_of r) t
 
+-- what was written of what was read, and what the places show then that are left behind
+pub record WroteBy {S : Type 0} (shelf : Ghosts S) (old new : S) (site : Site) (looked : Looked) (hand : Hand) (table : Table) (gone : List Seat) : Type 0 where
+  pub rewrites : Rewrites shelf old new site.key hand table
+  pub shows : AtEnd shelf (λ t u. (g : Geometry) → WasRead g site looked t → IsOpenedAt g (drawn_open site.key hand table gone) u) old new
+
 -- What a boot makes of what it read: an end that follows from it, or memory was wanting; and it wrote nothing, or what it adopted.
 pub record IsTaken {S : Type 0} (shelf : Ghosts S) (old new : S) (site : Site) (looked : Looked) (taken : Taken) : Type 0 where
-  pub ended : (is_memory taken.end ≡ true) ⊎ IsEndBy (DriveFailures shelf old new) (Rewrites shelf old new site.key) site looked.survey taken.end
+  pub ended : (is_memory taken.end ≡ true) ⊎ IsEndBy (DriveFailures shelf old new) (WroteBy shelf old new site looked) site looked.survey taken.end
   pub calm : IsCalmOver shelf old new looked.survey.replicas taken.calm
   pub once : (drive : DriveNo) → IsOnce (DriveFailures shelf old new drive.0)
   pub still : has_written taken.end ≡ false → new ≡ old

@@ -20,8 +20,9 @@ ghost use Rattle.mdv_store.specs.Taking.{AreNumbered, IsHandOf, IsReadied, IsRew
 
 use crate::letters::{Letters, letters_of};
 use crate::seats::{Need, Seat, Share, active, claim_all, short, slot_all};
+use crate::settling::{Draft, again_of, opened, settle};
 use crate::store::Store;
-use crate::text::{blocks_for, room_for, slot_room, spell};
+use crate::text::{blocks_for, first_room, room_for, slot_room, spell};
 use mdv_base::{Block, DriveNo, DriveSet, Identity, Key, Mark, NUMBER_LIMIT, Place};
 use mdv_look::{Looked, bring_up, look};
 use mdv_name::Geometry;
@@ -29,7 +30,7 @@ use mdv_record::{least_room, text_bytes};
 use mdv_shelf::Shelf;
 use mdv_shown::Site;
 use mdv_survey::{Choice, Newest, Replica, Survey, choose, greatest_of};
-use mdv_table::Table;
+use mdv_table::{Lists, Table};
 use mdv_votes::Row;
 use std::alloc::{AllocError, Global};
 
@@ -113,17 +114,18 @@ fn wanting(alloc: Global, up: DriveSet) -> Booted
 
 // What a boot made of what it had read, and that no call failed meanwhile.
 #[derive(Drop)]
-struct Taken {
-    end: BootEnd,
-    calm: bool,
+pub(crate) struct Taken {
+    pub(crate) end: BootEnd,
+    pub(crate) calm: bool,
 }
 
-// What an adoption writes: under which identity and number, to which places, and the room for the table's text.
+// What an adoption writes: under which identity and number, to which places, and to which again, where the table has two lists; and the room for its text.
 #[derive(Drop)]
 struct Hand {
     identity: Identity,
     number: u64,
     seats: Row<Seat>,
+    next: Row<Seat>,
     room: Vec<Block>,
 }
 
@@ -227,16 +229,19 @@ fn in_hand(alloc: Global, replicas: &[Replica], newest: &Newest) -> Result<Hand,
     let identity = replicas[newest.replica].head.master.identity;
     let lists = &newest.table.plan.lists;
     let places = lists.each();
+    let again = again_of(lists);
     let text = blocks_for(text_bytes(&newest.table) as u32);
+    let most = least_room(lists).max(first_room(again)).max(text);
     Ok(Hand {
         identity,
         number: greatest_number(replicas, identity) + 1,
         seats: seats_of(alloc, places.as_slice(), replicas, identity, text)?,
-        room: room_for(alloc, least_room(lists).max(text))?,
+        next: seats_of(alloc, again, replicas, identity, text)?,
+        room: room_for(alloc, most)?,
     })
 }
 
-// Writes the number, and then the table under it.
+// Writes the number, and then the table under it; and where that has two lists, it again with the new one alone.
 fn rewrite<S: Shelf>(shelf: &mut S, key: &Key, hand: Hand, table: Table) -> Taken
     requires laid { AreLaid (S.sizes shelf.old) hand.seats }
     requires ready { IsReadied hand table }
@@ -250,6 +255,7 @@ fn rewrite<S: Shelf>(shelf: &mut S, key: &Key, hand: Hand, table: Table) -> Take
         identity,
         number,
         mut seats,
+        next,
         mut room,
     } = hand;
     let readable = active(seats.as_slice());
@@ -268,16 +274,17 @@ fn rewrite<S: Shelf>(shelf: &mut S, key: &Key, hand: Hand, table: Table) -> Take
         return lost(share);
     }
     let calm = active(seats.as_slice()) == readable;
-    Taken {
-        end: BootEnd::Adopted(Store {
-            key: *key,
-            identity,
-            mark,
-            table,
-            seats,
-            room,
-        }),
-        calm,
+    let draft = Draft {
+        key: *key,
+        identity,
+        mark,
+        table,
+        seats,
+        room,
+    };
+    match &draft.table.plan.lists {
+        Lists::One(_) => opened(draft, calm),
+        Lists::Two(_, _) => settle(shelf, draft, next, need, calm),
     }
 }
 
@@ -291,7 +298,7 @@ fn need_of(key: &Key) -> Need
     }
 }
 
-fn lost(share: Share) -> Taken
+pub(crate) fn lost(share: Share) -> Taken
     ensures end { result.end ≡ BootEnd.Lost share.active share.listed }
     ensures calm { result.calm ≡ false }
 {

@@ -1,22 +1,21 @@
 // How a database is made: its places are formatted, and then its first table is written to them.
-ghost use Rattle.std.specs.Prelude.{◌≡◌, ◌<◌, ◌≤◌, ◌+◌, ◌*◌, ◌^◌, ◌++◌, [], ◌∷◌, Some, IfOk, OnErr, OnOk, flat_map, length};
+ghost use Rattle.std.specs.Prelude.{◌≡◌, ◌<◌, ◌≤◌, ◌+◌, ◌*◌, ◌^◌, ◌++◌, [], ◌∷◌, Some, IfOk, OnOk, length};
 ghost use Rattle.mdv_shelf.specs.Drives.{KeptAmong};
 ghost use Rattle.mdv_shelf.specs.Shelves.{AtEachTale, AtEnd, DriveFailures};
 ghost use Rattle.mdv_base.specs.Name.{IsName};
 ghost use Rattle.mdv_replica.specs.Forms.{name_of_key};
-ghost use Rattle.mdv_replica.specs.Replica.{IsPlaced, master_of};
-ghost use Rattle.mdv_shown.specs.Site.{place_on as spec_place_on};
-ghost use Rattle.mdv_store.specs.Acts.{ArePlaced, HaveGone, HaveStopped, Forms, Blanks, blanks_asked, blanks_behind, blanks_on, forms_asked, forms_on};
-ghost use Rattle.mdv_store.specs.Create.{AreAsked, CreateEnds, CreateMoment, IsCreated, IsCreationCounted, drives_asked, replica_on as spec_replica_on, seats_asked as spec_seats_asked, seats_on, table_of};
+ghost use Rattle.mdv_acts.specs.Asked.{AreAsked, drives_asked};
+ghost use Rattle.mdv_store.specs.Create.{CreateEnds, CreateMoment, IsCreated, IsCreationCounted, replica_on as spec_replica_on, seats_asked as spec_seats_asked, seats_on, table_of};
 
 use crate::seats::{Need, Seat, Share, short};
 use crate::store::Store;
 use crate::text::room_for;
 use crate::writing::write_all;
+use mdv_acts::{Owner, clear_all, format_all};
 use mdv_base::{Failed, Identity, Key, Mark, Place, Places};
 use mdv_name::SliceLine;
 use mdv_record::least_room;
-use mdv_replica::{Gate, Head, Master, PlaceAt, format, wipe};
+use mdv_replica::{Gate, Head, Master};
 use mdv_shelf::Shelf;
 use mdv_survey::Replica;
 use mdv_table::Table;
@@ -79,7 +78,12 @@ pub fn create<S: Shelf>(
     let table = table_asked(alloc, seats.as_slice());
     let mut room = room_for(alloc, least_room(&table.plan.lists))?;
     clear_all(shelf, lines, count, blocks)?;
-    format_all(shelf, key, identity, lines, count, blocks)?;
+    let owner = Owner {
+        key: *key,
+        identity,
+        claim: 1,
+    };
+    format_all(shelf, &owner, lines, count, blocks)?;
     let mark = Mark { boot: 1, count: 0 };
     write_all(shelf, &mut seats, mark, &table, &mut room);
     if let Some(share) = short(seats.as_slice(), &table.plan.lists, Need::Half) {
@@ -235,149 +239,4 @@ fn table_asked(alloc: Global, seats: &[Seat]) -> Table
         places.push(seat.place);
     }
     Table::empty(alloc, places)
-}
-
-fn place_at(line: SliceLine, blocks: u32, count: u8, number: u8) -> PlaceAt
-    requires short { 16 + number * blocks < 2 ^ 32 }
-    requires first { line.at.start + (16 + number * blocks) < 2 ^ 64 }
-    ensures { result ≡ spec_place_on line blocks count number }
-{
-    let start = 16 + u32::from(number) * blocks;
-    PlaceAt {
-        place: Place {
-            slice: line.name,
-            start,
-            blocks,
-        },
-        drive: line.at.drive,
-        first: line.at.start + u64::from(start),
-        index: number,
-        count,
-    }
-}
-
-// Where a slice gets more than one replica, its masters are blanked.
-fn clear_all<S: Shelf>(
-    shelf: &mut S,
-    lines: &[SliceLine],
-    count: u8,
-    blocks: u32,
-) -> Result<(), Failed>
-    requires asked { AreAsked (S.sizes shelf.old) lines.now count blocks }
-    ensures gone { OnOk result (HaveGone S.Shelf shelf.old shelf.new (drives_asked lines.now) (blanks_asked lines.now count blocks)) }
-    ensures stopped { OnErr result (HaveStopped S.Shelf shelf.old shelf.new (drives_asked lines.now) (blanks_asked lines.now count blocks)) }
-{
-    if count <= 1 {
-        return Ok(());
-    }
-    clear_slices(shelf, lines, count, blocks)?;
-    Ok(())
-}
-
-fn clear_slices<S: Shelf>(
-    shelf: &mut S,
-    lines: &[SliceLine],
-    count: u8,
-    blocks: u32,
-) -> Result<(), Failed>
-    requires asked { AreAsked (S.sizes shelf.old) lines.now count blocks }
-    ensures gone { OnOk result (HaveGone S.Shelf shelf.old shelf.new (drives_asked lines.now) (flat_map (blanks_on count blocks) lines.now)) }
-    ensures stopped { OnErr result (HaveStopped S.Shelf shelf.old shelf.new (drives_asked lines.now) (flat_map (blanks_on count blocks) lines.now)) }
-{
-    for line in lines {
-        clear_slice(shelf, *line, count, blocks)?;
-    }
-    Ok(())
-}
-
-// Blanks the master of the first place, and then those of the others, the last one first.
-fn clear_slice<S: Shelf>(
-    shelf: &mut S,
-    line: SliceLine,
-    count: u8,
-    blocks: u32,
-) -> Result<(), Failed>
-    requires some { 1 ≤ count }
-    requires placed { ArePlaced (S.sizes shelf.old) line count blocks }
-    ensures gone { OnOk result (HaveGone S.Shelf shelf.old shelf.new (line.at.drive ∷ []) (blanks_on count blocks line)) }
-    ensures stopped { OnErr result (HaveStopped S.Shelf shelf.old shelf.new (line.at.drive ∷ []) (blanks_on count blocks line)) }
-{
-    blank(shelf, place_at(line, blocks, count, 0))?;
-    clear_behind(shelf, line, count, blocks, count - 1)?;
-    Ok(())
-}
-
-// Those from this number down to the second one.
-fn clear_behind<S: Shelf>(
-    shelf: &mut S,
-    line: SliceLine,
-    count: u8,
-    blocks: u32,
-    number: u8,
-) -> Result<(), Failed>
-    requires below { number < count }
-    requires placed { ArePlaced (S.sizes shelf.old) line count blocks }
-    ensures gone { OnOk result (HaveGone S.Shelf shelf.old shelf.new (line.at.drive ∷ []) (blanks_behind line count blocks number)) }
-    ensures stopped { OnErr result (HaveStopped S.Shelf shelf.old shelf.new (line.at.drive ∷ []) (blanks_behind line count blocks number)) }
-{
-    if number == 0 {
-        return Ok(());
-    }
-    blank(shelf, place_at(line, blocks, count, number))?;
-    clear_behind(shelf, line, count, blocks, number - 1)?;
-    Ok(())
-}
-
-fn blank<S: Shelf>(shelf: &mut S, at: PlaceAt) -> Result<(), Failed>
-    requires { IsPlaced (S.sizes shelf.old) at }
-    ensures gone { OnOk result (HaveGone S.Shelf shelf.old shelf.new (at.drive ∷ []) (Blanks at ∷ [])) }
-    ensures stopped { OnErr result (HaveStopped S.Shelf shelf.old shelf.new (at.drive ∷ []) (Blanks at ∷ [])) }
-{
-    wipe(shelf, at)?;
-    Ok(())
-}
-
-fn format_all<S: Shelf>(
-    shelf: &mut S,
-    key: &Key,
-    identity: Identity,
-    lines: &[SliceLine],
-    count: u8,
-    blocks: u32,
-) -> Result<(), Failed>
-    requires asked { AreAsked (S.sizes shelf.old) lines.now count blocks }
-    ensures gone { OnOk result (HaveGone S.Shelf shelf.old shelf.new (drives_asked lines.now) (forms_asked key.now identity lines.now count blocks)) }
-    ensures stopped { OnErr result (HaveStopped S.Shelf shelf.old shelf.new (drives_asked lines.now) (forms_asked key.now identity lines.now count blocks)) }
-{
-    for line in lines {
-        format_slice(shelf, key, identity, *line, count, blocks)?;
-    }
-    Ok(())
-}
-
-fn format_slice<S: Shelf>(
-    shelf: &mut S,
-    key: &Key,
-    identity: Identity,
-    line: SliceLine,
-    count: u8,
-    blocks: u32,
-) -> Result<(), Failed>
-    requires placed { ArePlaced (S.sizes shelf.old) line count blocks }
-    ensures gone { OnOk result (HaveGone S.Shelf shelf.old shelf.new (line.at.drive ∷ []) (forms_on key.now identity count blocks line)) }
-    ensures stopped { OnErr result (HaveStopped S.Shelf shelf.old shelf.new (line.at.drive ∷ []) (forms_on key.now identity count blocks line)) }
-{
-    for number in 0..count {
-        form(shelf, key, identity, place_at(line, blocks, count, number))?;
-    }
-    Ok(())
-}
-
-fn form<S: Shelf>(shelf: &mut S, key: &Key, identity: Identity, at: PlaceAt) -> Result<(), Failed>
-    requires { IsPlaced (S.sizes shelf.old) at }
-    ensures gone { OnOk result (HaveGone S.Shelf shelf.old shelf.new (at.drive ∷ []) (Forms at (master_of at key.now identity) ∷ [])) }
-    ensures stopped { OnErr result (HaveStopped S.Shelf shelf.old shelf.new (at.drive ∷ []) (Forms at (master_of at key.now identity) ∷ [])) }
-{
-    format(shelf, at, key, identity, 1)?;
-    Ok(())
 }

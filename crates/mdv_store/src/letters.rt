@@ -103,7 +103,7 @@ fn made_flags(was: bool) -> Flags
     }
 }
 
-/// The letters of the places that the newest table lists, as the look found them. There are none where no table was found.
+/// The letters of the places that the newest table lists, of its new list where it has two, as the look found them. There are none where no table was found.
 pub(crate) fn letters_of(alloc: Global, site: &Site, looked: &Looked) -> Result<Letters, AllocError>
     requires { IsSurvey site.now looked.now.calm looked.now.survey }
     ensures { IfOk result (AreLettersOf site.now looked.now.survey looked.now.calm) }
@@ -139,8 +139,7 @@ fn letters_read(
     };
     let mut seen = Row::new(alloc);
     let mut was = false;
-    let places = newest.table.plan.lists.each();
-    for place in places.as_slice() {
+    for place in newest.table.plan.lists.last() {
         let flags = seen_at(site, looked, sought, *place, was);
         seen.push(Lettered {
             place: *place,

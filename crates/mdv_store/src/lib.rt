@@ -7,6 +7,7 @@ mod creating;
 mod law;
 mod letters;
 mod seats;
+mod settling;
 mod store;
 mod text;
 mod writing;

@@ -271,7 +271,7 @@ fn has_active(seats: &[Seat], place: &Place) -> bool
     seats.iter().any(|seat| is_active_at(seat, place))
 }
 
-fn is_active_at(seat: &Seat, place: &Place) -> bool
+pub(crate) fn is_active_at(seat: &Seat, place: &Place) -> bool
     ensures { result ≡ spec_is_active_at place.now seat.now }
 {
     is_same(seat.place, *place) && seat.replica.is_some()

@@ -2,12 +2,16 @@
 ghost use Rattle.std.specs.Prelude.{◌≡◌, ◌<◌, ◌≤◌, ◌*◌, ◌%◌, ◌^◌, ℕ, length, slice_index, take, IfOk};
 ghost use Rattle.mdv_record.specs.Text.{record_text};
 ghost use Rattle.mdv_replica.specs.Replica.{slot_blocks};
+ghost use Rattle.mdv_store.specs.Settled.{first_room as spec_first_room};
 ghost use Rattle.mdv_store.specs.Text.{IsSpelled, blocks_for as spec_blocks_for};
 
-use mdv_base::{BLOCK_BYTES, Block, ZERO_BLOCK};
+use mdv_base::{BLOCK_BYTES, Block, Place, ZERO_BLOCK};
 use mdv_record::encode;
 use mdv_table::Table;
 use std::alloc::{AllocError, Global};
+
+// The blocks of a slot of the longest place.
+const MOST_ROOM: usize = 4094;
 
 /// Room for a text of so many blocks.
 pub(crate) fn room_for(alloc: Global, blocks: usize) -> Result<Vec<Block>, AllocError>
@@ -21,6 +25,16 @@ pub(crate) fn slot_room(blocks: u32) -> usize
     ensures { result ≡ slot_blocks blocks }
 {
     (blocks as usize).saturating_sub(4) / 2
+}
+
+/// How many blocks a slot of the first of these places has; none where there is no place.
+pub(crate) fn first_room(places: &[Place]) -> usize
+    ensures { result ≡ spec_first_room places.now }
+{
+    match places.first() {
+        Some(place) => slot_room(place.blocks).min(MOST_ROOM),
+        None => 0,
+    }
 }
 
 /// How many blocks a text of so many bytes takes: one at least.

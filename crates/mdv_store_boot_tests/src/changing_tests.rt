@@ -1,5 +1,5 @@
-//! Boots and commits while places change: a table lists the places that were and those that come, and enough of each list is asked.
-use mdv_store_tests::{Case, Committed, End, Layout, Peeked, Step, first_of, name_of};
+//! Boots while places change: a table lists the places that were and those that come, enough of each list is asked, and the change is over then.
+use mdv_store_tests::{Case, Committed, End, Found, Layout, Peeked, Step, first_of, name_of};
 use std::test::Fail;
 
 // The lines 2 k and 2 k + 1 are on drive k. Three places were, on the drives 0 to 2; and five come: that of drive 2, and of the drives 3, 4, 0 and 1 one each.
@@ -7,38 +7,53 @@ const OLD: &[usize] = &[0, 2, 4];
 
 const NEW: &[usize] = &[4, 6, 8, 1, 3];
 
-const SEVEN: &[&str] = &[
+const FIVE: &[&str] = &[
     "amul-----",
-    "a-ul-----",
-    "a-ul-----",
     "a-ul-----",
     "a-ul-----",
     "a-ul-----",
     "a-ul-----",
 ];
 
+// The table of the boot behind the change.
+const FIRST: End = End::Adopted(Found {
+    fresh: 7,
+    boot: 2,
+    table: 1,
+    places: 5,
+});
+
 const CASES: &[Case] = &[
     (
-        "both lists are read, and all seven places are written",
+        "both lists are read, and the list that comes alone is listed then",
         &[
             Step::Changes(OLD, NEW, 1),
             Step::Peeks(Peeked::Table(1, 7)),
-            Step::Adopts(2, 1, 7),
-            Step::Tells(SEVEN),
+            Step::Adopts(2, 1, 5),
+            Step::Tells(FIVE),
+            Step::Peeks(Peeked::Table(1, 5)),
             Step::Commits(2, Committed::Done),
-            Step::Tells(SEVEN),
-            Step::Adopts(3, 2, 7),
+            Step::Tells(FIVE),
+            Step::Adopts(3, 2, 5),
         ],
     ),
     (
-        "more than half of each list is enough for a boot, and half of each for a commit",
+        "more than half of each list is enough for a boot",
         &[
             Step::Changes(OLD, NEW, 1),
             Step::Lose(0b11000),
-            Step::Adopts(2, 1, 7),
+            Step::Adopts(2, 1, 5),
+            Step::Tells(&[
+                "amul-----",
+                "-----R---",
+                "-----R---",
+                "a-ul-----",
+                "a-ul-----",
+            ]),
             Step::Commits(2, Committed::Done),
             Step::Back(0b11000),
-            Step::Adopts(3, 2, 7),
+            Step::Adopts(3, 2, 5),
+            Step::Tells(FIVE),
         ],
     ),
     (
@@ -49,7 +64,7 @@ const CASES: &[Case] = &[
             Step::Peeks(Peeked::NoQuorum(1, 2)),
             Step::Boots(End::NoQuorum(1, 2)),
             Step::Back(0b00011),
-            Step::Adopts(2, 1, 7),
+            Step::Adopts(2, 1, 5),
         ],
     ),
     (
@@ -60,7 +75,7 @@ const CASES: &[Case] = &[
             Step::Peeks(Peeked::NoQuorum(2, 3)),
             Step::Boots(End::NoQuorum(2, 3)),
             Step::Back(0b11100),
-            Step::Adopts(2, 1, 7),
+            Step::Adopts(2, 1, 5),
         ],
     ),
     (
@@ -72,36 +87,133 @@ const CASES: &[Case] = &[
         ],
     ),
     (
-        "fewer than half of the old list are left",
+        "behind a boot the old list counts no more",
         &[
             Step::Changes(OLD, NEW, 1),
-            Step::Adopts(2, 1, 7),
+            Step::Adopts(2, 1, 5),
             Step::Lose(0b00011),
-            Step::Commits(2, Committed::Lost(1, 3)),
-            Step::CommitsNothing(3, Committed::Lost(1, 3)),
+            Step::Commits(2, Committed::Done),
+            Step::Boots(End::Adopted(Found {
+                fresh: 7,
+                boot: 3,
+                table: 2,
+                places: 5,
+            })),
+            Step::Back(0b00011),
+            Step::Lose(0b11100),
+            Step::Peeks(Peeked::NoQuorum(2, 3)),
+            Step::Boots(End::NoQuorum(2, 3)),
         ],
     ),
     (
-        "fewer than half of the list that comes are left",
+        "fewer than half of the list that came are left",
         &[
             Step::Changes(OLD, NEW, 1),
-            Step::Adopts(2, 1, 7),
+            Step::Adopts(2, 1, 5),
             Step::Lose(0b11000),
             Step::Commits(2, Committed::Done),
             Step::Lose(0b00100),
             Step::Commits(3, Committed::Lost(2, 5)),
             Step::CommitsNothing(4, Committed::Lost(2, 5)),
             Step::Back(0b11100),
-            Step::Adopts(3, 3, 7),
+            Step::Adopts(3, 3, 5),
         ],
     ),
     (
-        "fewer than half of both are left: the old list's numbers are told",
+        "fewer than half of both are left",
         &[
             Step::Changes(OLD, NEW, 1),
-            Step::Adopts(2, 1, 7),
+            Step::Adopts(2, 1, 5),
             Step::Lose(0b11011),
-            Step::Commits(2, Committed::Lost(1, 3)),
+            Step::Commits(2, Committed::Lost(1, 5)),
+        ],
+    ),
+];
+
+// The change is laid by 160 calls, and five watch the drives. Then a boot reads and syncs each of the five drives, looks at ten slices, on seven of which a place shows a table, and takes two calls for each of
+// the seven claims, from 192 on; six for each of the seven tables, from 206 on; and six for each of the five tables of the list that comes, from 248 on.
+const CALLS: &[Case] = &[
+    (
+        "two claims of the old list fail",
+        &[
+            Step::Fail(192),
+            Step::Fail(193),
+            Step::Changes(OLD, NEW, 1),
+            Step::BootsWithout(0, End::Lost(1, 3)),
+            Step::Adopts(3, 1, 5),
+        ],
+    ),
+    (
+        "one claim of both lists fails, and the place isn't written again",
+        &[
+            Step::Fail(196),
+            Step::Changes(OLD, NEW, 1),
+            Step::BootsWithout(0, FIRST),
+            Step::Tells(&[
+                "-m-lW----",
+                "a-ul-----",
+                "a-ul-----",
+                "a-ul-----",
+                "a-ul-----",
+            ]),
+            Step::Adopts(3, 1, 5),
+            Step::Tells(&[
+                "a-ul-----",
+                "amul-----",
+                "a-ul-----",
+                "a-ul-----",
+                "a-ul-----",
+            ]),
+        ],
+    ),
+    (
+        "two of the five tables of the list that comes fail",
+        &[
+            Step::Fail(248),
+            Step::Fail(249),
+            Step::Changes(OLD, NEW, 1),
+            Step::BootsWithout(0, FIRST),
+            Step::Commits(2, Committed::Done),
+            Step::Lose(0b10000),
+            Step::Commits(3, Committed::Lost(2, 5)),
+            Step::Back(0b10000),
+            Step::Adopts(3, 3, 5),
+        ],
+    ),
+    (
+        "three of them do: it is lost between the records, and the next boot goes by the list alone",
+        &[
+            Step::Fail(248),
+            Step::Fail(249),
+            Step::Fail(250),
+            Step::Changes(OLD, NEW, 1),
+            Step::BootsWithout(0, End::Lost(2, 5)),
+            Step::Peeks(Peeked::Table(1, 5)),
+            Step::Lose(0b00011),
+            Step::Peeks(Peeked::NoQuorum(1, 2)),
+            Step::Back(0b00011),
+            Step::Adopts(3, 1, 5),
+            Step::Tells(&[
+                "a-ul-----",
+                "a-ul-----",
+                "a-ul-----",
+                "amul-----",
+                "a-ul-----",
+            ]),
+        ],
+    ),
+    (
+        "all of them do: the next boot goes by both lists",
+        &[
+            Step::Fail(248),
+            Step::Fail(249),
+            Step::Fail(250),
+            Step::Fail(251),
+            Step::Fail(252),
+            Step::Changes(OLD, NEW, 1),
+            Step::BootsWithout(0, End::Lost(0, 5)),
+            Step::Peeks(Peeked::Table(1, 7)),
+            Step::Adopts(3, 1, 5),
         ],
     ),
 ];
@@ -110,5 +222,12 @@ const CASES: &[Case] = &[
 fn each_list_is_asked(rt: HostRuntime) -> Result<(), Fail> {
     let wrong = first_of(rt.alloc(), Layout::Five, CASES)?;
     assert!(rt; wrong.is_none(), "{}: {wrong:?}", name_of(CASES, wrong));
+    Ok(())
+}
+
+#[test]
+fn failed_calls_lose_places(rt: HostRuntime) -> Result<(), Fail> {
+    let wrong = first_of(rt.alloc(), Layout::Five, CALLS)?;
+    assert!(rt; wrong.is_none(), "{}: {wrong:?}", name_of(CALLS, wrong));
     Ok(())
 }

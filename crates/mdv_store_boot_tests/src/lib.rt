@@ -12,4 +12,6 @@ mod lost_tests;
 #[cfg(test)]
 mod mixed_tests;
 #[cfg(test)]
+mod over_tests;
+#[cfg(test)]
 mod peek_tests;

@@ -1,5 +1,7 @@
+pub mod Again
 pub mod Families
 pub mod Logs
+pub mod Anew
 pub mod Machine
 pub mod Orders
 pub mod Parts

@@ -1,9 +1,10 @@
 -- How logs go on, event by event.
-use Rattle.std.proofs.Common.{◌≡◌, ◌⊎◌, inl, inr, true, false, List, [], ◌∷◌, ◌++◌, slice_index_or, refl, sym, subst, Option, Some, None, All, Contains}
+use Rattle.std.proofs.Common.{◌≡◌, ◌<◌, ◌⊎◌, inl, inr, true, false, List, [], ◌∷◌, ◌++◌, slice_index_or, refl, sym, ◌∙◌, subst, Option, Some, None, All, Contains}
 use Rattle.std.proofs.lemmas.List.Elements.{All-nil, All-cons, All-same, All-contains, Contains-get_or}
 use Rattle.mdv_store_law.specs.Below.{Mark, Geometry, Change, Table}
-use Rattle.mdv_store_law.specs.Log.{Version, Log, Event, Issued, Writing, Written, Told, with_asked, log_after, log_after_all, is_firm, IsFirst, IsNext, Extends, IsUntold, IsTellable, MayHappen, IsCourse, told_by, AreMade, IsHeld, IsLog}
+use Rattle.mdv_store_law.specs.Log.{Again, Version, Log, Event, Issued, Writing, Written, Told, Placing, Clearing, Gone, Lives, Ends, with_asked, log_after, log_after_all, is_firm, IsFirst, IsNext, Extends, IsUntold, IsTellable, MayHappen, IsCourse, told_by, AreMade, IsHeld, IsLog, empty_log}
 use Rattle.mdv_store_law.specs.Laws.{CoursesAreLogs}
+use Rattle.mdv_store_law.proofs.Again.{numbered_answered, numbered_more, placed_numbered}
 use Rattle.mdv_store_law.proofs.Families.{extends_itself, extends_more, extends_asked, made_next, contains_first, contains_behind, extends_written, written_firm, firm_answered, answered_rising, answered_descended, answered_made, answered_held}
 
 -- a table that begins to be written
@@ -44,31 +45,77 @@ module _ (log : Log) (which before : List Change) (may : IsTellable log which be
   told_extends : (told : List Change) → log.acknowledged ≡ Some told → Extends (which ++ before) told
   told_extends told is = extends_more (which ++ before) before told (record { more = which; is = refl }) (subst (λ (o : Option (List Change)). IsUntold o before) is may.untold)
 
+-- nothing was ever written
+pub empty_is_log : (g : Geometry) → IsLog g empty_log
+empty_is_log g = record {
+  rising = tt;
+  made = All-nil (λ (v : Version). AreMade g v.changes v.table);
+  descended = tt;
+  held = λ told same. absurd (cc (same));
+  numbered = All-nil (λ (a : Again). a.number < 0);
+  was_there = λ gone. absurd (gone refl);
+}
+
 pub is_log_after : (g : Geometry) (log : Log) (e : Event) → IsLog g log → MayHappen g log e → IsLog g (log_after log e)
 is_log_after g log (Issued identity) is may = record {
   rising = tt;
   made = All-nil (λ (v : Version). AreMade g v.changes v.table);
   descended = tt;
   held = λ told same. absurd (cc (same));
+  numbered = All-nil (λ (a : Again). a.number < 0);
+  was_there = λ gone. absurd (gone refl);
 }
 is_log_after g log (Writing mark asked before table) is may = record {
   rising = (may.0, is.rising);
   made = All-cons (λ (v : Version). AreMade g v.changes v.table) (begun g log is mark asked before table) log.family (begun_made g log is mark asked before table may.1) is.made;
   descended = (begun_extends g log is mark asked before table may.1, is.descended);
   held = λ told same. begun_held g log is mark asked before table told (is.held told same);
+  numbered = numbered_more log.family (begun g log is mark asked before table) log.again is.numbered;
+  was_there = λ gone. absurd (gone refl);
 }
 is_log_after g log Written is may = record {
   rising = answered_rising log.family is.rising;
   made = answered_made g log.family is.made;
   descended = answered_descended log.family is.descended;
   held = λ told same. answered_held log.family told (is.held told same);
+  numbered = numbered_answered log.family log.again is.numbered;
+  was_there = λ gone. firm_answered log.family (is.was_there gone);
 }
 is_log_after g log (Told which before) is may = record {
   rising = is.rising;
   made = is.made;
   descended = is.descended;
   held = told_held log which before may;
+  numbered = is.numbered;
+  was_there = is.was_there;
 }
+is_log_after g log (Placing places) is may = record {
+  rising = is.rising;
+  made = is.made;
+  descended = is.descended;
+  held = is.held;
+  numbered = placed_numbered log.family places log.again may is.numbered;
+  was_there = is.was_there;
+}
+is_log_after g log Clearing is may = record {
+  rising = is.rising;
+  made = is.made;
+  descended = is.descended;
+  held = is.held;
+  numbered = is.numbered;
+  was_there = λ gone. written_firm log.family may.newest (subst (λ (f : List Version). Contains f may.newest) (sym may.is) (contains_first may.newest may.older)) may.written;
+}
+is_log_after g log Gone is may = record {
+  rising = is.rising;
+  made = is.made;
+  descended = is.descended;
+  held = is.held;
+  numbered = is.numbered;
+  was_there = λ gone. is.was_there (λ lives. differs (sym lives ∙ may));
+}
+  where
+    differs : Lives ≡ Ends → ⊥
+    differs e = cc
 
 pub is_log_after_all : (g : Geometry) (log : Log) (es : List Event) → IsLog g log → IsCourse g log es → IsLog g (log_after_all log es)
 is_log_after_all g log [] is course = is
@@ -87,6 +134,9 @@ firm_stays g log (Issued identity) may firm = absurd (cc (firm, may))
 firm_stays g log (Writing mark asked before table) may firm = firm
 firm_stays g log Written may firm = firm_answered log.family firm
 firm_stays g log (Told which before) may firm = firm
+firm_stays g log (Placing places) may firm = firm
+firm_stays g log Clearing may firm = firm
+firm_stays g log Gone may firm = firm
 
 -- what was told stays so, and more may be
 pub told_stays : (g : Geometry) (log : Log) (es : List Event) (told : List Change) → IsLog g log → IsCourse g log es → log.acknowledged ≡ Some told
@@ -99,6 +149,9 @@ told_stays g log (Written ∷ es) told is course same = told_stays g (log_after 
 told_stays g log (Told which before ∷ es) told is course same =
     let rest = told_stays g (log_after log (Told which before)) es (which ++ before) (is_log_after g log (Told which before) is course.0) course.1 refl in
     (rest.0, rest.1, extends_more rest.0 (which ++ before) told rest.2 (told_extends log which before course.0 told same))
+told_stays g log (Placing places ∷ es) told is course same = told_stays g (log_after log (Placing places)) es told (is_log_after g log (Placing places) is course.0) course.1 same
+told_stays g log (Clearing ∷ es) told is course same = told_stays g (log_after log Clearing) es told (is_log_after g log Clearing is course.0) course.1 same
+told_stays g log (Gone ∷ es) told is course same = told_stays g (log_after log Gone) es told (is_log_after g log Gone is course.0) course.1 same
 
 -- where a creation or a change is told, changes are told in the end
 pub told_acknowledges : (g : Geometry) (log : Log) (es : List Event) → IsLog g log → IsCourse g log es → (told_by es ≡ [] → ⊥) → (later : List Change) × ((log_after_all log es).acknowledged ≡ Some later)
@@ -110,6 +163,9 @@ told_acknowledges g log (Written ∷ es) is course some = told_acknowledges g (l
 told_acknowledges g log (Told which before ∷ es) is course some =
     let rest = told_stays g (log_after log (Told which before)) es (which ++ before) (is_log_after g log (Told which before) is course.0) course.1 refl in
     (rest.0, rest.1)
+told_acknowledges g log (Placing places ∷ es) is course some = told_acknowledges g (log_after log (Placing places)) es (is_log_after g log (Placing places) is course.0) course.1 some
+told_acknowledges g log (Clearing ∷ es) is course some = told_acknowledges g (log_after log Clearing) es (is_log_after g log Clearing is course.0) course.1 some
+told_acknowledges g log (Gone ∷ es) is course some = told_acknowledges g (log_after log Gone) es (is_log_after g log Gone is course.0) course.1 some
 
 pub told_is_acknowledged : (g : Geometry) (log : Log) (es : List Event) → IsLog g log → IsCourse g log es → (told_by es ≡ [] → ⊥) → (log_after_all log es).acknowledged ≡ None → ⊥
 told_is_acknowledged g log es is course some none = let told = told_acknowledges g log es is course some in cc (told.1, none)

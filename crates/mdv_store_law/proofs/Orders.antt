@@ -2,7 +2,7 @@
 use Rattle.std.proofs.Common.{◌≡◌, ◌⊎◌, inl, inr, true, false, List, [], ◌∷◌, ◌++◌, map, reverse, refl, sym, ◌∙◌, ap, subst, append_assoc, Option, Some, None, Contains, arith}
 use Rattle.std.proofs.lemmas.List.{append-nil, reverse-append}
 use Rattle.mdv_store_law.specs.Below.{Identity, Geometry, Mark, Change, Table}
-use Rattle.mdv_store_law.specs.Log.{Version, Log, Event, Issued, Writing, Written, Told, with_asked, answered, log_after, log_after_all, is_firm, IsFirst, IsNext, Extends, IsUntold, IsTellable, IsCourse, asks_of, begun_by, changes_of, tells, told_by, IsLog}
+use Rattle.mdv_store_law.specs.Log.{Version, Log, Event, Issued, Writing, Written, Told, Placing, Clearing, Gone, with_asked, answered, log_after, log_after_all, is_firm, IsFirst, IsNext, Extends, IsUntold, IsTellable, IsCourse, asks_of, begun_by, changes_of, tells, told_by, IsLog}
 use Rattle.mdv_store_law.specs.Part.{IsPart}
 use Rattle.mdv_store_law.proofs.Families.{contains_first, contains_behind, contains_cases, written_firm}
 use Rattle.mdv_store_law.proofs.Logs.{is_log_after}
@@ -80,6 +80,9 @@ module _ (g : Geometry) where
       subst (AreWritten (log_after_all (log_after lg (Writing mark asked before table)) es).family) same there
   all_written lg (Written ∷ es) written are course = all_written (log_after lg Written) es written (written_answered lg.family written are) course.1
   all_written lg (Told which before ∷ es) written are course = all_written (log_after lg (Told which before)) es written are course.1
+  all_written lg (Placing places ∷ es) written are course = all_written (log_after lg (Placing places)) es written are course.1
+  all_written lg (Clearing ∷ es) written are course = all_written (log_after lg Clearing) es written are course.1
+  all_written lg (Gone ∷ es) written are course = all_written (log_after lg Gone) es written are course.1
 
   -- What was told is a part of the acknowledged table's changes, in their order.
   abbrev pub IsToldPart : Option (List Change) → List Change → Type 0
@@ -114,3 +117,6 @@ module _ (g : Geometry) where
       changes_more (tells (Told which before)) (told_by es) ∙ ap (λ (l : List Change). l ++ changes_of (told_by es)) (changes_told which before) in
       let same : (told ++ reverse which) ++ changes_of (told_by es) ≡ told ++ changes_of (tells (Told which before) ++ told_by es) = append_assoc told (reverse which) (changes_of (told_by es)) ∙ ap (λ (l : List Change). told ++ l) (sym told_here) in
       subst (IsToldPart (log_after_all (log_after lg (Told which before)) es).acknowledged) same there
+  all_told lg (Placing places ∷ es) told is part course = all_told (log_after lg (Placing places)) es told (is_log_after g lg (Placing places) is course.0) part course.1
+  all_told lg (Clearing ∷ es) told is part course = all_told (log_after lg Clearing) es told (is_log_after g lg Clearing is course.0) part course.1
+  all_told lg (Gone ∷ es) told is part course = all_told (log_after lg Gone) es told (is_log_after g lg Gone is course.0) part course.1

@@ -7,7 +7,11 @@ pub use Rattle.mdv_name.specs.declared.geometry.Geometry.{Geometry}
 pub use Rattle.mdv_shelf.specs.Everywhere.{Image}
 pub use Rattle.mdv_shelf.specs.Tale.{Begun, Tale}
 pub use Rattle.mdv_table.specs.Change.{IsAfter}
-pub use Rattle.mdv_table.specs.Plan.{settled}
+pub use Rattle.mdv_table.specs.Below.{same_slice}
+pub use Rattle.mdv_table.specs.Plan.{last_of, settled}
 pub use Rattle.mdv_table.specs.declared.change.Change.{Change}
 pub use Rattle.mdv_table.specs.declared.plan.Lists.TheVariants.{One}
 pub use Rattle.mdv_table.specs.declared.table.Table.{Table}
+pub use Rattle.mdv_votes.specs.Family.{raised, since_after}
+pub use Rattle.mdv_votes.specs.declared.version.Since.{Since}
+pub use Rattle.mdv_votes.specs.declared.version.Since.TheVariants.{Never}

@@ -1,7 +1,8 @@
--- The log of a host's database: which tables were ever written for it, by which changes, and which were told.
-use Rattle.std.specs.Prelude.{◌≡◌, ◌⊎◌, Bool, true, false, List, [], ◌∷◌, ◌++◌, map, reverse, Option, Some, None, All, Contains}
+-- The log of a host's database: which tables were ever written for it, by which changes, and which were told; which places were formatted again, and
+-- whether it is there.
+use Rattle.std.specs.Prelude.{◌≡◌, ◌⊎◌, ◌<◌, ◌&&◌, ◌==◌, ℕ, Bool, true, false, cond, List, [], ◌∷◌, ◌++◌, length, map, reverse, Option, Some, None, All, Contains}
 use Rattle.std.specs.List.{list_any}
-use Rattle.mdv_store_law.specs.Below.{IsBelow, Identity, Mark, Geometry, IsAfter, Change, Place, Table, One, settled}
+use Rattle.mdv_store_law.specs.Below.{IsBelow, Identity, Mark, Geometry, IsAfter, Change, Place, Table, One, Since, Never, last_of, raised, same_slice, settled, since_after}
 use Rattle.mdv_store_law.specs.Machine.{after_all, all_of}
 use Rattle.mdv_store_law.specs.Machine as machine
 
@@ -13,15 +14,41 @@ pub record Version : Type 0 where
   pub changes : List Change
   pub is_written : Bool
 
+-- the list has a place that begins where this one does
+abbrev pub begins_in : List Place → Place → Bool
+begins_in list p = list_any (λ q. same_slice q.slice p.slice && (q.start == p.start)) list
+
+-- Where a place stands by the tables whose write was answered: never listed, listed, or dropped by the version of that number, the first of
+-- these behind the last that listed it.
+abbrev pub since_of : List Version → Place → Since
+since_of [] p = Never
+since_of (v ∷ older) p = cond v.is_written (since_after (length older) (begins_in (last_of v.table.plan.lists) p) (since_of older p)) (since_of older p)
+
+-- A place was formatted again, since the version of that number dropped it. A place that was never dropped has number 0.
+pub record Again : Type 0 where
+  pub place : Place
+  pub number : ℕ
+
+-- whether the database is there
+pub data Fate : Type 0 where
+  Lives : Fate
+  -- the blanking of its last master began
+  Ends : Fate
+  -- no image has it any more
+  Over : Fate
+
 -- The creation that was issued and not struck, told by the identity of its database; each table that was ever written
--- for it, the newest first; and the changes up to the newest one that was told.
+-- for it, the newest first; the changes up to the newest one that was told; the places that were formatted again, and
+-- whether it is there.
 pub record Log : Type 0 where
   pub issued : Option Identity
   pub family : List Version
   pub acknowledged : Option (List Change)
+  pub again : List Again
+  pub fate : Fate
 
 abbrev pub empty_log : Log
-empty_log = record { issued = None; family = []; acknowledged = None }
+empty_log = record { issued = None; family = []; acknowledged = None; again = []; fate = Lives }
 
 pub data Event : Type 0 where
   -- a creation is issued; what an earlier one began, and nobody was told of, is struck
@@ -34,6 +61,12 @@ pub data Event : Type 0 where
   -- The newline was told that acknowledges these changes, the newest first; and those came before them, told or told to
   -- nobody. Where there are none, it is the creation's.
   Told : List Change → List Change → Event
+  -- these places are about to be formatted, for a table that lists them
+  Placing : List Place → Event
+  -- the master of the last place is about to be blanked
+  Clearing : Event
+  -- no image has the database any more
+  Gone : Event
 
 abbrev pub with_asked : Option Change → List Change → List Change
 with_asked None before = before
@@ -43,11 +76,19 @@ abbrev pub answered : List Version → List Version
 answered [] = []
 answered (v ∷ older) = record v { is_written = true } ∷ older
 
+-- these places formatted again, each since the version that dropped it
+abbrev pub placed_again : List Version → List Place → List Again
+placed_again family places = map (λ p. record { place = p; number = raised 0 (since_of family p) }) places
+
+-- a table that begins to be written ends what would end the database: a boot found it after all
 abbrev pub log_after : Log → Event → Log
-log_after log (Issued identity) = record { issued = Some identity; family = []; acknowledged = None }
-log_after log (Writing mark asked before table) = record log { family = record { mark = mark; table = table; changes = with_asked asked before; is_written = false } ∷ log.family }
+log_after log (Issued identity) = record { issued = Some identity; family = []; acknowledged = None; again = []; fate = Lives }
+log_after log (Writing mark asked before table) = record log { family = record { mark = mark; table = table; changes = with_asked asked before; is_written = false } ∷ log.family; fate = Lives }
 log_after log Written = record log { family = answered log.family }
 log_after log (Told which before) = record log { acknowledged = Some (which ++ before) }
+log_after log (Placing places) = record log { again = placed_again log.family places ++ log.again }
+log_after log Clearing = record log { fate = Ends }
+log_after log Gone = record log { fate = Over }
 
 abbrev pub log_after_all : Log → List Event → Log
 log_after_all = after_all log_after
@@ -132,12 +173,32 @@ pub record IsNewestTellable (log : Log) (asked : Option Change) : Type 0 where
   pub may : IsTellable log (with_asked asked []) before
   pub newest : may.later ≡ []
 
+-- The newest table's write was answered, and none of these places begins where one of its last list does.
+pub record IsPlaceable (family : List Version) (places : List Place) : Type 0 where
+  pub newest : Version
+  pub older : List Version
+  pub is : family ≡ newest ∷ older
+  pub written : newest.is_written ≡ true
+  pub unlisted : All (λ p. begins_in (last_of newest.table.plan.lists) p ≡ false) places
+
+-- The newest table's write was answered, and it lists one place alone.
+pub record IsClearable (family : List Version) : Type 0 where
+  pub newest : Version
+  pub older : List Version
+  pub is : family ≡ newest ∷ older
+  pub written : newest.is_written ≡ true
+  pub place : Place
+  pub only : newest.table.plan.lists ≡ One (place ∷ [])
+
 -- when each event may happen
 abbrev pub MayHappen : Geometry → Log → Event → Type 0
 MayHappen g log (Issued identity) = is_firm log ≡ false
 MayHappen g log (Writing mark asked before table) = IsAbove mark log.family × (IsFirst log.issued log.family asked before table ⊎ IsNext g log.family asked before table)
 MayHappen g log Written = IsBegun log.family
 MayHappen g log (Told which before) = IsTellable log which before
+MayHappen g log (Placing places) = IsPlaceable log.family places
+MayHappen g log Clearing = IsClearable log.family
+MayHappen g log Gone = log.fate ≡ Ends
 
 -- each of the events may happen where it happens
 abbrev pub IsCourse : Geometry → Log → List Event → Type 0
@@ -150,6 +211,9 @@ tells (Writing mark asked before table) = []
 tells Written = []
 tells (Told [] before) = None ∷ []
 tells (Told (change ∷ which) before) = map Some (reverse (change ∷ which))
+tells (Placing places) = []
+tells Clearing = []
+tells Gone = []
 
 abbrev pub told_by : List Event → List (Option Change)
 told_by = all_of tells
@@ -165,6 +229,9 @@ begins (Issued identity) = None ∷ []
 begins (Writing mark asked before table) = asks_of asked
 begins Written = []
 begins (Told which before) = []
+begins (Placing places) = []
+begins Clearing = []
+begins Gone = []
 
 abbrev pub begun_by : List Event → List (Option Change)
 begun_by = all_of begins
@@ -175,12 +242,15 @@ changes_of [] = []
 changes_of (None ∷ asked) = changes_of asked
 changes_of (Some change ∷ asked) = change ∷ changes_of asked
 
--- a creation that an event issues is such a one
+-- a creation that an event issues is such a one; nothing asks for places to be formatted again yet, nor for a database to end
 abbrev pub IsIssue : (Identity → Type 0) → Event → Type 0
 IsIssue Which (Issued identity) = Which identity
 IsIssue Which (Writing mark asked before table) = Unit {0}
 IsIssue Which Written = Unit {0}
 IsIssue Which (Told which before) = Unit {0}
+IsIssue Which (Placing places) = ⊥
+IsIssue Which Clearing = ⊥
+IsIssue Which Gone = ⊥
 
 -- The events tell these; they begin only what is asked, creations and changes, in that order and each once; and each creation is such a one.
 abbrev pub Adds : (Identity → Type 0) → List (Option Change) → List (Option Change) → List Event → Type 0
@@ -214,9 +284,16 @@ pub record IsHeld (family : List Version) (told : List Change) : Type 0 where
   pub written : by.is_written ≡ true
   pub has : Extends by.changes told
 
--- the family is one, each table is what its changes made, and what was told is firm
+-- the number of a version, or none
+abbrev pub AreNumbered : List Version → List Again → Type 0
+AreNumbered family again = All (λ a. a.number < length family) again
+
+-- The family is one, each table is what its changes made, what was told is firm, a place was dropped by a table of the family, and a database
+-- that isn't there any more was.
 pub record IsLog (g : Geometry) (log : Log) : Type 0 where
   pub rising : IsRising log.family
   pub made : All (λ v. AreMade g v.changes v.table) log.family
   pub descended : IsDescended log.family
   pub held : (told : List Change) → log.acknowledged ≡ Some told → IsHeld log.family told
+  pub numbered : AreNumbered log.family log.again
+  pub was_there : (log.fate ≡ Lives → ⊥) → is_firm log ≡ true

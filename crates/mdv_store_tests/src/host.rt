@@ -7,15 +7,15 @@ ghost use Rattle.mdv_shelf.specs.Drives.{AreDrives};
 ghost use Rattle.mdv_shelf.specs.MemShelf.{shelf_sizes};
 ghost use Rattle.mdv_shown.specs.Sites.{site_of as spec_site_of};
 ghost use Rattle.mdv_store.specs.Boot.{IfAdopted};
-ghost use Rattle.mdv_store.specs.Create.{AreAsked};
+ghost use Rattle.mdv_acts.specs.Asked.{AreAsked};
 ghost use Rattle.mdv_store.specs.Opened.{Opened};
 ghost use Rattle.mdv_store.specs.Seats.{AreLaid};
 ghost use Rattle.mdv_survey.specs.Replica.{IsOnShelf};
 ghost use Rattle.mdv_store_tests.specs.Lines.{EndsWithin, HasRoom};
 
 use mdv_base::{
-    Block, DriveName, DriveNo, DriveSet, Flags, Identity, Key, Mark, Place, Places, SliceName, VolId,
-    ZERO_BLOCK,
+    Block, DriveName, DriveNo, DriveSet, Flags, Identity, Key, Mark, Place, Places, SliceName,
+    VolId, ZERO_BLOCK,
 };
 use mdv_home::has_drives;
 use mdv_look::{PeekRefusal, peek};

@@ -124,7 +124,7 @@ module _ (g : Geometry) (site : Site) (line : SliceLine) (first : Master) (conte
   IsNumberBy k true n = (h : Head) × (HasNoPlace line first k → ⊥) × IsInChain (IsTextOf g) site line k content first h × (n ≡ 1 + open_slots h)
   IsNumberBy k false n = EndsBy k n
 
--- All of a slice: the looks at its readable replicas and at the first place that has none; or at its first place alone, where that has no head.
+-- All of a slice that has its first master's place: the looks at its readable replicas and at the first place that has none; or at its first place alone, where that has no head.
 pub record IsWalkedBy (g : Geometry) (site : Site) (line : SliceLine) (first : Master) (content : ℕ → List ℕ) (n : ℕ) : Type 0 where
   pub located : IsMasterAt (place_on line 8192 0 0) (size_on site line) (content (line.at.start + 16)) first
   pub begins : HasNoPlace line first 0 → ⊥

@@ -50,12 +50,14 @@ use Rattle.mdv_standing.specs.Matching.{spots_of, tables_of}
 use Rattle.mdv_standing.specs.Worlds.{IsWorld, Turned}
 use Rattle.mdv_standing.proofs.Adopting.{finds}
 use Rattle.mdv_standing.proofs.Lawful.{found_holds}
+use Rattle.mdv_standing.proofs.Voting.{none_stale}
+use Rattle.mdv_databases.proofs.Finding.{live_or_gone}
 use Rattle.mdv_standing.proofs.Looking.{looks}
 use Rattle.mdv_store.specs.Adopting.{WasReadOf}
 use Rattle.mdv_store.specs.Boot.{IsAdopted, IsDrawn, IsWrittenTo, greatest_number, is_seated, seat_for, seats_of}
 use Rattle.mdv_store.specs.Opened.{Opened, least_room}
 use Rattle.mdv_store.specs.Records.{Spells}
-use Rattle.mdv_store.specs.Taking.{IsToAdopt}
+use Rattle.mdv_store.specs.Taking.{IsToAdopt, room_of}
 use Rattle.mdv_store.specs.Text.{blocks_for}
 use Rattle.mdv_store.proofs.Adoptions.{got_contains, same_identity_self}
 use Rattle.mdv_store.proofs.Passes.{mapped, unmapped}
@@ -65,7 +67,7 @@ use Rattle.mdv_store.proofs.Rooms.{room_least}
 use Rattle.mdv_store.proofs.Seating.{seats_places}
 use Rattle.mdv_store.proofs.Spotting.{line_found}
 use Rattle.mdv_store_law.specs.Laws.{restarted}
-use Rattle.mdv_store_law.specs.Log.{Log, Version, is_firm}
+use Rattle.mdv_store_law.specs.Log.{IsNotOlder, Log, Version, is_firm}
 use Rattle.mdv_survey.specs.declared.choosing.Choice.TheVariants as chosen
 use Rattle.mdv_survey.specs.Choice.{is_of, place_of, same_identity, IsChoice, IsChoiceAmong}
 use Rattle.mdv_survey.proofs.Identities.{find_none, find_some}
@@ -78,15 +80,18 @@ use Rattle.mdv_survey.specs.declared.replica.Survey.{Survey}
 use Rattle.mdv_record.specs.Text.{record_text}
 use Rattle.mdv_table.proofs.Testing.{same_place-true}
 use Rattle.mdv_table.specs.Tests.{same_place}
-use Rattle.mdv_table.specs.Plan.{places_of}
-use Rattle.mdv_table.specs.Table.{IsOfGeometry}
-use Rattle.mdv_table.specs.declared.plan.Lists.TheVariants.{One}
+use Rattle.mdv_table.specs.Plan.{places_of, settled}
+use Rattle.mdv_table.proofs.Settled.{settled_of}
+use Rattle.mdv_store.specs.Settled.{again_of, first_room}
+use Rattle.mdv_table.specs.Table.{IsListsOf, IsOfGeometry}
+use Rattle.mdv_table.specs.declared.plan.Lists.{Lists}
+use Rattle.mdv_table.specs.declared.plan.Lists.TheVariants.{One, Two}
 use Rattle.mdv_table.specs.declared.table.Table.{Table}
 use Rattle.mdv_databases.specs.Lasting.{HasNoTable}
 use Rattle.mdv_databases.proofs.Lasting.{stand_crashed}
 use Rattle.mdv_databases.proofs.Nothing.{nothing_told}
 use Rattle.mdv_engine_law.specs.Hosts.{key_of}
-use Rattle.mdv_engine_law.specs.Line.{HasNoTableOn, IsReadOf, IsSame, contents, WritesTo}
+use Rattle.mdv_engine_law.specs.Line.{HasNoTableOn, IsReadOf, IsSame, contents, WritesBy}
 use Rattle.mdv_store.specs.declared.booting.BootEnd.{BootEnd}
 use Rattle.mdv_engine_law.specs.Standing.{StandsAt}
 use Rattle.mdv_engine_law.specs.declared.host.Host.{Host}
@@ -126,15 +131,28 @@ unfolding MayLeave values last
 begun_synced image told drive block x (inl is) = is
 begun_synced image told drive block x (inr none) = absurd none
 
+-- a slot of the first place has no more blocks than these
+first_short : (places : List Place) → first_room places ≤ 4094
+first_short [] = omega arith
+first_short (p ∷ places) = omega arith
+
+again_few : (g : Geometry) (lists : Lists) → IsListsOf g lists → length (again_of lists) ≤ 50
+again_few g (One places) is = omega arith
+again_few g (Two old new) is = is.1.few
+
 -- The newest table of a survey may be adopted: it is in hand, with more than half of its places, under a number in its limit.
 pub record IsAdoptable (survey : Survey) (newest : Newest) : Type 0 where
   pub replica : Replica
   pub seats : List Seat
   pub number : ℕ
   pub drawn : IsDrawn survey newest replica seats number
-  pub written : IsWrittenTo (λ hand of. Unit {0}) newest replica seats number
+  pub written : IsWrittenTo (λ hand of gone. Unit {0}) newest replica seats number []
 
--- a boot may adopt the table, where the drives hold this
+-- what is so of a table stays so, once the change of its places is over
+abbrev pub IsStill : (Table → Type 0) → Type 0
+IsStill P = (table : Table) → P table → P (settled table)
+
+-- a boot may adopt the table, where the drives hold this: their newest one, once the change of its places is over
 pub record Adopts (g : Geometry) (site : Site) (content : Image) (table : Table) : Type 0 where
   pub calm : Drives
   pub survey : Survey
@@ -142,11 +160,11 @@ pub record Adopts (g : Geometry) (site : Site) (content : Image) (table : Table)
   pub of : IsSurveyOf g site calm content survey
   pub newest : Newest
   pub by : IsAdoptable survey newest
-  pub is_table : newest.table ≡ table
+  pub is_table : settled newest.table ≡ table
 
 -- what a boot has drawn and written it might adopt
-abbrev pub adoptable : (content new : Image) (survey : Survey) (newest : Newest) (replica : Replica) (seats : List Seat) (number : ℕ) → IsDrawn survey newest replica seats number → IsWrittenTo (λ hand of. WritesTo content new hand.seats) newest replica seats number → IsAdoptable survey newest
-adoptable content new survey newest replica seats number drawn written = record {
+abbrev pub adoptable : (Wrote : _) (survey : Survey) (newest : Newest) (replica : Replica) (seats : List Seat) (number : ℕ) (gone : List Seat) → IsDrawn survey newest replica seats number → IsWrittenTo Wrote newest replica seats number gone → IsAdoptable survey newest
+adoptable Wrote survey newest replica seats number gone drawn written = record {
   replica = replica;
   seats = seats;
   number = number;
@@ -154,14 +172,14 @@ adoptable content new survey newest replica seats number drawn written = record 
   written = record { hand = written.hand; identity_is = written.identity_is; number_is = written.number_is; seats_are = written.seats_are; wrote = tt };
 }
 
-pub adopts_of : (calls : Outcomes) (host : Host) (content new : Image) (up : Drives) {e : BootEnd} (survey : Survey) (o : Opened) → IsReadOf calls host content up e survey → IsAdopted calls (λ hand of. WritesTo content new hand.seats) host.site survey o → Adopts host.drives host.site content o.table
+pub adopts_of : (calls : Outcomes) (host : Host) (content new : Image) (up : Drives) {e : BootEnd} (survey : Survey) (o : Opened) → IsReadOf calls host content up e survey → IsAdopted calls (λ hand of gone. WritesBy host.drives host.site.key content new hand.identity hand.number hand.seats of gone) host.site survey o → Adopts host.drives host.site content o.table
 adopts_of calls host content new up survey o read a = record {
   calm = read.calm;
   survey = survey;
   survey_is = read.survey_is;
   of = read.of;
   newest = a.newest;
-  by = adoptable content new survey a.newest a.replica a.seats a.number a.drawn a.written;
+  by = adoptable _ survey a.newest a.replica a.seats a.number a.gone a.drawn a.written;
   is_table = sym (ap (λ (x : Opened). x.table) a.is);
 }
 
@@ -186,15 +204,23 @@ none_adopts host sees content table none a =
 pub adopts_geometry : (g : Geometry) (site : Site) (content : Image) (table : Table) → IsSound g → Adopts g site content table → IsOfGeometry g table
 adopts_geometry g site content table sound a =
     let there = subst (HasTable g content a.survey.replicas) a.by.drawn.hand.newest_is a.of.table in
-    subst (IsOfGeometry g) a.is_table (spelled_of g _ a.newest.table sound there.shows.text).of_geometry
+    subst (IsOfGeometry g) a.is_table (settled_of g a.newest.table (spelled_of g _ a.newest.table sound there.shows.text).of_geometry)
 
 -- a version of a log has the table, and a boot may find it
-pub record IsFoundBy (g : Geometry) (log : Log) (table : Table) : Type 0 where
+pub record IsNewestBy (g : Geometry) (log : Log) (table : Table) : Type 0 where
   pub version : Version
   pub one_of : Contains log.family version
   pub number : ℕ
   pub holds : FoundHolds g log version number
   pub is_table : version.table ≡ table
+
+-- or it has it once the change of its places is over
+pub record IsFoundBy (g : Geometry) (log : Log) (table : Table) : Type 0 where
+  pub version : Version
+  pub one_of : Contains log.family version
+  pub number : ℕ
+  pub holds : FoundHolds g log version number
+  pub is_table : settled version.table ≡ table
 
 module _ (g : Geometry) (key : Key) (all : List Database) (t : Tale) (sound : IsSound g) (stand : Stand g all t) (calm : Drives) (survey : Survey) (survey_is : IsSurvey (site_of g key) calm survey) (of : IsSurveyOf g (site_of g key) calm (last t) survey)
     (newest : Newest) (a : IsAdoptable survey newest) where
@@ -224,10 +250,10 @@ module _ (g : Geometry) (key : Key) (all : List Database) (t : Tale) (sound : Is
   of_geometry = spelled.1.of_geometry
 
   abbrev room : ℕ
-  room = max (least_room (places_of newest.table.plan.lists)) text
+  room = room_of newest.table
 
   short : room < 2 ^ 63
-  short = omega (arith, room_most (places_of newest.table.plan.lists), spelled.1.in_room)
+  short = omega (arith, room_most (places_of newest.table.plan.lists), first_short (again_of newest.table.plan.lists), spelled.1.in_room)
 
   -- what the boot had in hand, with room for the text, is in order
   has_replica : Contains replicas a.replica
@@ -253,7 +279,7 @@ module _ (g : Geometry) (key : Key) (all : List Database) (t : Tale) (sound : Is
   enough : short_of More a.written.hand.seats newest.table.plan.lists ≡ None
   enough = subst (λ (seats : List Seat). short_of More seats newest.table.plan.lists ≡ None) (sym a.written.seats_are) a.drawn.enough
 
-  to : IsToAdopt g key (record a.written.hand { room = record a.written.hand.room { len = room; cap = room; items = replicate room ZERO_BLOCK; ok = (sym (length-replicate room ZERO_BLOCK), omega arith); small = short } }) newest.table began
+  to : IsToAdopt g key (record a.written.hand { next = seats_of replicas a.written.hand.identity text (again_of newest.table.plan.lists); room = record a.written.hand.room { len = room; cap = room; items = replicate room ZERO_BLOCK; ok = (sym (length-replicate room ZERO_BLOCK), omega arith); small = short } }) newest.table began
   to =
       let seats_are = a.written.seats_are ∙ a.drawn.hand.seats_are in
       to_adopt g key replicas newest _
@@ -264,6 +290,8 @@ module _ (g : Geometry) (key : Key) (all : List Database) (t : Tale) (sound : Is
         number_is = a.written.number_is ∙ a.drawn.number_is ∙ ap (λ (i : Identity). greatest_number i replicas + 1) (sym its);
         seats_are = subst (λ (i : Identity). a.written.hand.seats ≡ seats_of replicas i text (places_of newest.table.plan.lists)) (sym its) seats_are;
         few = (let count = ap length seats_are ∙ length-map (places_of newest.table.plan.lists) (seat_for replicas a.replica.head.master.identity text) in let few = listed_few g newest.table.plan.lists of_geometry.lists in omega (arith, count, few));
+        next_are = refl;
+        next_few = (let count = length-map (again_of newest.table.plan.lists) (seat_for replicas a.written.hand.identity text) in let few = again_few g newest.table.plan.lists of_geometry.lists in omega (arith, count, few));
         room_is = refl;
       })
       (λ r has. (survey_is.each r has).seated) enough marks began was a.replica a.drawn.hand.the.one_of has_replica is_own
@@ -297,7 +325,7 @@ module _ (g : Geometry) (key : Key) (all : List Database) (t : Tale) (sound : Is
   w = after_all world.0 look.events
 
   -- and the version of its log that has this mark is found
-  pub adopted_found : IsFoundBy g (log_of all key) newest.table
+  pub adopted_found : IsNewestBy g (log_of all key) newest.table
   adopted_found =
       let read = to.read in
       let found = finds (Spells g) site a.written.hand.identity d.log w image look.world to.seen look.known to.s to.slot to.mark read.chosen in
@@ -307,8 +335,9 @@ module _ (g : Geometry) (key : Key) (all : List Database) (t : Tale) (sound : Is
       let small : greatest_seen to.seen + 1 < 2 ^ 63 = subst (λ (n : ℕ). n < 2 ^ 63) (sym (a.written.number_is) ∙ to.number_is) a.drawn.small in
       let holds = found_holds (Spells g) g site a.written.hand.identity d.log w image to.seen to.s to.slot v (site_is g key sound) (stand.logs d (current_in key all d current.current)) look.world look.known
       (subst (λ (m : Mark). IsChosen to.seen to.s to.slot m) (sym found.is.marked) read.chosen) found.is.one_of
-      (subst (λ (u : Table). covers (is_majority (is_in (spots_seen to.seen))) (spots_of site u.plan.lists) ≡ true) (sym same) read.quorum) small in
-      subst (λ (lg : Log). IsFoundBy g lg newest.table) (sym same_log) (record { version = v; one_of = found.is.one_of; number = greatest_seen to.seen + 1; holds = holds; is_table = same })
+      (subst (λ (u : Table). covers (is_majority (is_in (spots_seen to.seen))) (spots_of site u.plan.lists) ≡ true) (sym same) read.quorum)
+      (none_stale site d.log to.seen v.mark (stand.anew d (current_in key all d current.current)).again) small in
+      subst (λ (lg : Log). IsNewestBy g lg newest.table) (sym same_log) (record { version = v; one_of = found.is.one_of; number = greatest_seen to.seen + 1; holds = holds; is_table = same })
 
   -- each place that the table lists has its replica
   its_place : (p : Place) → Contains (places_of newest.table.plan.lists) p → HasPlace (Spells g) site a.written.hand.identity image p
@@ -318,8 +347,9 @@ module _ (g : Geometry) (key : Key) (all : List Database) (t : Tale) (sound : Is
       let voted = chosen_voted (Spells g) site a.written.hand.identity (tables_of d.log.family) w image to.seen look.known to.s to.slot to.mark to.read.chosen in
       let have : HavePlaces (Spells g) site a.written.hand.identity d.log image =
       ⊎_elim (λ have. have)
-      (λ none. absurd (none.none (spot_seen to.s) voted.number (record { holds = (look.world.shows.each to.s.line to.s.number to.s.first to.s.head own).holds; newest = voted.newest }))) look.world.listed in
-      have found.version p (subst (λ (lg : Log). Contains lg.family found.version) same_log found.one_of) (subst (λ (u : Table). Contains (places_of u.plan.lists) p) (sym found.is_table) has)
+      (λ shut. absurd (⊎_elim (λ none. none.none (spot_seen to.s) voted.number (record { holds = (look.world.shows.each to.s.line to.s.number to.s.first to.s.head own).holds; newest = voted.newest }))
+      (λ gone. live_or_gone _ gone.0 gone.1 (look.world.matches.there (stand.anew d (current_in key all d current.current)).lives)) shut)) look.world.listed in
+      have found.version p (subst (λ (lg : Log). Contains lg.family found.version) same_log found.one_of) (subst (λ (lg : Log). IsNotOlder found.version.mark lg.family) same_log found.holds.not_older) (subst (λ (u : Table). Contains (places_of u.plan.lists) p) (sym found.is_table) has)
 
   -- whose slots have room for the text
   fits : (p : Place) → Contains (places_of newest.table.plan.lists) p → text ≤ slot_blocks p.blocks
@@ -380,7 +410,8 @@ adopts_found host sound sees h t stands content reads table a =
     let same : contents t ≡ content = λ i drive block. reads drive block i in
     let survey_is = subst (λ (s : Site). IsSurvey s a.calm a.survey) sees a.survey_is in
     let of = subst (λ (c : Image). IsSurveyOf host.drives (site_of host.drives (key_of host)) a.calm c a.survey) (sym same) (subst (λ (s : Site). IsSurveyOf host.drives s a.calm content a.survey) sees a.of) in
-    subst (IsFoundBy host.drives (log_of h.databases (key_of host))) a.is_table (adopted_found host.drives (key_of host) h.databases t sound stands.databases a.calm a.survey survey_is of a.newest a.by)
+    let found = adopted_found host.drives (key_of host) h.databases t sound stands.databases a.calm a.survey survey_is of a.newest a.by in
+    record { version = found.version; one_of = found.one_of; number = found.number; holds = found.holds; is_table = ap settled found.is_table ∙ a.is_table }
 
 -- of drives that stand with a firm log some replica shows a table
 pub firm_shows : (host : Host) (h : History) (t : Tale) → StandsAt host h t → is_firm (log_of h.databases (key_of host)) ≡ true → (content : Image) → IsSame content (contents t) → HasNoTableOn host.drives (key_of host) content → ⊥

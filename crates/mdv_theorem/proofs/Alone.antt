@@ -11,7 +11,7 @@ use Rattle.mdv_base.specs.declared.mark.Identity.{Identity}
 use Rattle.mdv_databases.proofs.Finding.{never_short, short_by}
 use Rattle.mdv_databases.specs.Meeting.{answers_on, is_on}
 use Rattle.mdv_engine_law.specs.Hosts.{key_of}
-use Rattle.mdv_engine_law.specs.Line.{IsReadOf, WritesTo, answered_by}
+use Rattle.mdv_engine_law.specs.Line.{IsReadOf, WritesBy, answered_by}
 use Rattle.mdv_engine_law.specs.Standing.{StandsAt}
 use Rattle.mdv_engine_law.specs.declared.answer.Answer.TheVariants.{Over as Ends}
 use Rattle.mdv_engine_law.specs.declared.answer.Ended.{Ended}
@@ -118,7 +118,7 @@ module _ (host : Host) (sound : IsSound host.drives) (site : host.site ≡ site_
           (subst (λ (x : Site). length places < 2 * count_by (λ (place : Place). is_on (answers_on read.calm survey) (slice_at x.lines place.slice)) places) site up) readable needed short
 
   abbrev By : BootEnd → Type 0
-  By e = (is_memory e ≡ true) ⊎ ((survey : Survey) × IsReadOf calls host l.kept.content l.boots.up e survey × IsEndBy calls (λ hand table. WritesTo l.kept.content l.next.content hand.seats) host.site survey e)
+  By e = (is_memory e ≡ true) ⊎ ((survey : Survey) × IsReadOf calls host l.kept.content l.boots.up e survey × IsEndBy calls (λ hand table gone. WritesBy host.drives host.site.key l.kept.content l.next.content hand.identity hand.number hand.seats table gone) host.site survey e)
 
   two_never : (a b : Identity) (e : BootEnd) → By e → Ends (stop.TwoDatabases a b) ≡ answered_by e → ⊥
   two_never a b (end.TwoDatabases c d) (inl never) is_end = cc (never)

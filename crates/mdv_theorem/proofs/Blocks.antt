@@ -1,5 +1,5 @@
 -- A write of an earlier run that was acknowledged: the block is there at the start, and has its value, or one that was issued later.
-use Rattle.std.proofs.Common.{◌≡◌, ◌⊎◌, inl, inr, ⊎_elim, ℕ, ◌+◌, ◌-◌, ◌<◌, true, Option, List, [], ◌∷◌, ◌++◌, length, slice_index_or, Contains, sym, ◌∙◌, ap, subst, arith}
+use Rattle.std.proofs.Common.{◌≡◌, ◌⊎◌, inl, inr, ⊎_elim, ℕ, ◌+◌, ◌-◌, ◌<◌, true, Option, None, List, [], ◌∷◌, ◌++◌, length, slice_index_or, Contains, refl, sym, ◌∙◌, ap, subst, arith}
 use Rattle.std.proofs.lemmas.List.Elements.{Contains-append_cases, Contains-append_left, Contains-append_right}
 use Rattle.mdv_base.specs.declared.name.Key.{Key}
 use Rattle.mdv_base.specs.declared.name.VolId.{VolId}
@@ -33,6 +33,8 @@ use Rattle.mdv_volumes.proofs.Lists.{contains_first}
 use Rattle.mdv_words.specs.declared.command.Command.TheVariants.{Write}
 use Rattle.mdv_theorem.specs.Exchanges.{Exchange, IsAcknowledged, MayBeWritten, exchanges_by}
 use Rattle.mdv_theorem.specs.Words.{IsOrWasWritten}
+use Rattle.mdv_volumes.proofs.Made.{map_stays}
+use Rattle.mdv_table.specs.Plan.{settled}
 use Rattle.mdv_theorem.proofs.Found.{Found, asked_at, deed_told, es, its, its_course, lasting_found, lined, ok_sated, range_found}
 use Rattle.mdv_theorem.proofs.Lined.{AreLined, AreOfReply, AreReplied, IsLinedAt, host, lined_at, lined_begins}
 use Rattle.mdv_theorem.proofs.Lines.{lets, the_only}
@@ -220,7 +222,7 @@ module _ (drives : Geometry) (name : List ℕ) (made : Image) (before : List Ran
       → (HasNoTableOn own.drives its_key (last t) → ⊥)
       × (v : Map) × ((table : Table) → Found drives name t table → IsMapOf own.drives table volume v) × (number < v.blocks) × ((x : List ℕ) → Among (readings v (last t) number) x → IsOrWasWritten volume number old between x)
   write_left first between write volume number old stood acknowledged =
-      let found = lasting_found drives name made before t sound of_table life (Lies first between write volume number old stood acknowledged) (its_tables first between write volume number old stood acknowledged) in (
+      let found = lasting_found drives name made before t sound of_table life (Lies first between write volume number old stood acknowledged) (λ table lies. map_stays own.drives volume (its_map first between write volume number old stood acknowledged) None table (settled table) (inr refl) lies) (its_tables first between write volume number old stood acknowledged) in (
         found.0,
         its_map first between write volume number old stood acknowledged,
         found.1,

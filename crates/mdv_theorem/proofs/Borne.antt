@@ -15,7 +15,7 @@ use Rattle.mdv_engine_law.specs.Answers.{accepted, refusing}
 use Rattle.mdv_engine_law.specs.Commands as came
 use Rattle.mdv_engine_law.specs.Commands.{CameTo, ComesTo, Effect, Fault, GivesUp, IsAllowed, KeepsTab, Wanting, case_of}
 use Rattle.mdv_engine_law.specs.Hosts.{identity_of, key_of, lines_asked}
-use Rattle.mdv_engine_law.specs.Line.{IsReadOf, IsRebooted, IsSame, IsUpBy, Kept, Memory, WritesTo, answered_by, booted_with, contents, opened_by}
+use Rattle.mdv_engine_law.specs.Line.{IsReadOf, IsRebooted, IsSame, IsUpBy, Kept, Memory, WritesBy, answered_by, booted_with, contents, opened_by}
 use Rattle.mdv_engine_law.specs.Replies.{ok_line, text_of}
 use Rattle.mdv_engine_law.specs.declared.answer.Answer.{Answer}
 use Rattle.mdv_engine_law.specs.declared.answer.Answer.TheVariants.{Said, Over as Ends}
@@ -42,7 +42,11 @@ use Rattle.mdv_shown.specs.Sites.{is_line_of, site_of}
 use Rattle.mdv_store.proofs.Seated.{seat_is}
 use Rattle.mdv_store.proofs.Sitting.{replica_of}
 use Rattle.mdv_store.proofs.Spotting.{line_found}
-use Rattle.mdv_store.specs.Boot.{IsEndBy, TakesBoth, TakesClaimOrBoth, is_memory}
+use Rattle.mdv_store.specs.Boot.{IsEndBy, TakesAll, TakesClaimOrBoth, is_memory, last_found, seats_of}
+use Rattle.mdv_store.specs.Settled.{settles}
+use Rattle.mdv_store.specs.Text.{blocks_for}
+use Rattle.mdv_table.specs.Plan.{last_of, places_of}
+use Rattle.mdv_store.proofs.Adoptions.{takes_stay}
 use Rattle.mdv_store.specs.Create.{replica_on, seats_asked, table_of}
 use Rattle.mdv_store.specs.Opened.{Opened}
 use Rattle.mdv_store.specs.Seats.{AreLeft, TakesSlot, drive_of, replicas_of}
@@ -75,7 +79,7 @@ use Rattle.mdv_store.specs.declared.seats.Need.TheVariants.{Half}
 use Rattle.mdv_store.specs.declared.seats.Share.{Share}
 use Rattle.mdv_store.proofs.Shares.{kept_lists, list_none}
 use Rattle.mdv_table.specs.declared.plan.Lists.{Lists}
-use Rattle.mdv_table.specs.declared.plan.Lists.TheVariants.{One}
+use Rattle.mdv_table.specs.declared.plan.Lists.TheVariants.{One, Two}
 use Rattle.std.proofs.lemmas.List.Folds.{list_any_at}
 use Rattle.mdv_store.proofs.Passes.{mapped, unmapped}
 use Rattle.mdv_table.specs.Tests.{same_place}
@@ -343,13 +347,30 @@ module _ (calm : ℕ → Bool) where
             by true on = λ i. on i && not (read.none lies.at.drive on i)
             by false off = absurd (unfailed lies.at.drive.0 is (read.failed lies.at.drive (law_sites.brought host.drives (key_of host) lies has) off))
 
+          -- the table that it may adopt has their list
+          lists_are : (newest : Newest) → IsAdoptable survey newest → newest.table.plan.lists ≡ One was.places
+          lists_are newest a = lists_one host.drives (key_of host) was.history.databases t sound was.stands.databases read.calm survey read.survey_is of newest a was.places (λ v may. was.lasting.all v may)
+
           -- so is what it has in hand and writes anew
           in_hand_borne : (newest : Newest) (a : IsAdoptable survey newest) → AreBorne a.seats newest.table.plan.lists
           in_hand_borne newest a =
-              let list = lists_one host.drives (key_of host) was.history.databases t sound was.stands.databases read.calm survey read.survey_is of newest a was.places (λ v may. was.lasting.all v may) in
               let are = seats_list host.drives (key_of host) was.history.databases t sound was.stands.databases read.calm survey read.survey_is of newest a was.places (λ v may. was.lasting.all v may) in
-              subst (AreBorne a.seats) (sym list)
+              subst (AreBorne a.seats) (sym (lists_are newest a))
               (borne_list on a.seats (λ s has there. seat_has host.drives (key_of host) was.history.databases t sound was.stands.databases read.calm survey read.survey_is of newest a calm answered s has there) was.places are half_calm)
+
+          -- and what it has of its last list
+          last_borne : (newest : Newest) (a : IsAdoptable survey newest) → AreBorne (last_found survey newest a.replica) (One (last_of newest.table.plan.lists))
+          last_borne newest a = by newest.table.plan.lists (lists_are newest a) a.drawn.hand.seats_are (in_hand_borne newest a) where
+            seats_at : List Place → List Seat
+            seats_at = seats_of survey.replicas a.replica.head.master.identity (blocks_for (length (record_text newest.table)))
+
+            by : (l : Lists) → l ≡ One was.places → a.seats ≡ seats_at (places_of l) → AreBorne a.seats l → AreBorne (seats_at (last_of l)) (One (last_of l))
+            by (One list) one are borne = subst (λ (seats : List Seat). AreBorne seats (One list)) are borne
+            by (Two old new) one are borne = absurd (cc (one))
+
+          never_again : (l : Lists) → l ≡ One was.places → settles l ≡ 1 → ⊥
+          never_again (One list) one is = cc (is)
+          never_again (Two old new) one is = cc (one)
 
           -- it finds something, where more than half of them are on such drives
           never_empty : MostLieOn drives name (λ (drive : DriveNo). calm drive.0 ≡ true) slices → IsChoice survey chosen.Empty → ⊥
@@ -376,7 +397,7 @@ module _ (calm : ℕ → Bool) where
           empty_unclean true calm_all empty = elim more [ inl most ↦ absurd (never_empty most empty) | inr apart ↦ absurd (never_calm apart empty calm_all) ]
 
         abbrev EndsBy : BootEnd → Drives → Type 0
-        EndsBy e up = (is_memory e ≡ true) ⊎ ((survey : Survey) × IsReadOf calls host kept.content up e survey × IsEndBy calls (λ hand table. WritesTo kept.content next.content hand.seats) host.site survey e)
+        EndsBy e up = (is_memory e ≡ true) ⊎ ((survey : Survey) × IsReadOf calls host kept.content up e survey × IsEndBy calls (λ hand table gone. WritesBy host.drives host.site.key kept.content next.content hand.identity hand.number hand.seats table gone) host.site survey e)
 
         end_borne : (e : BootEnd) (up : Drives) (clean : Bool) → IsUpBy calls host e up clean → EndsBy e up → answer ≡ answered_by e → (answer ≡ accepted → next.memory ≡ booted_with (opened_by e) up clean kept.memory.begun) → IsBorneBy answer next
         end_borne (end.Adopted o) up clean by_calls (inl never) is memory = absurd (false≢true never)
@@ -384,7 +405,8 @@ module _ (calm : ℕ → Bool) where
           o = o;
           opened = ap (λ (m : Memory). m.opened) (memory is);
           borne = subst (AreBorne o.seats) (sym (ap (λ (x : Opened). x.table.plan.lists) a.is))
-              (left_borne (TakesBoth _ _) (λ r n took. ap (λ (x : Replica). x.line) took.2) a.newest.table.plan.lists a.seats o.seats a.left (in_hand_borne up survey read a.newest (adoptable kept.content next.content survey a.newest a.replica a.seats a.number a.drawn a.written)));
+              (left_borne (TakesAll a.number a.newest.table) (λ r n took. ap (λ (x : Replica). x.line) (takes_stay a.number a.newest.table r n took)) (One (last_of a.newest.table.plan.lists)) (last_found survey a.newest a.replica) o.seats a.left
+              (last_borne up survey read a.newest (adoptable _ survey a.newest a.replica a.seats a.number a.gone a.drawn a.written)));
         }))
         end_borne end.Empty up clean by_calls (inl never) is memory = absurd (false≢true never)
         end_borne end.Empty up clean by_calls (inr (survey, read, empty)) is memory = subst (λ (x : Answer). IsBorneBy x next) (sym is) (inr (record {
@@ -395,7 +417,13 @@ module _ (calm : ℕ → Bool) where
         end_borne (end.NoQuorum readable needed) up clean by_calls by is memory = subst (λ (x : Answer). IsBorneBy x next) (sym is) tt
         end_borne (end.Lost active listed) up clean by_calls (inl never) is memory = absurd (false≢true never)
         end_borne (end.Lost active listed) up clean by_calls (inr (survey, read, lost)) is memory =
-            absurd (borne_half lost.now lost.newest.table.plan.lists (record { active = active; listed = listed }) (left_borne (TakesClaimOrBoth _ _) claimed lost.newest.table.plan.lists lost.seats lost.now lost.left (in_hand_borne up survey read lost.newest (adoptable kept.content next.content survey lost.newest lost.replica lost.seats lost.number lost.drawn lost.written))) lost.few)
+            let its = adoptable _ survey lost.newest lost.replica lost.seats lost.number [] lost.drawn lost.written in
+            absurd (elim lost.short [
+              | inl first ↦
+                  borne_half first.now lost.newest.table.plan.lists (record { active = active; listed = listed })
+                  (left_borne (TakesClaimOrBoth _ _) claimed lost.newest.table.plan.lists lost.seats first.now first.left (in_hand_borne up survey read lost.newest its)) first.few
+              | inr again ↦ never_again up survey read lost.newest.table.plan.lists (lists_are up survey read lost.newest its) again.0
+            ])
           where
             claimed : (r n : Replica) → TakesClaimOrBoth lost.number (length (record_text lost.newest.table)) r n → n.line ≡ r.line
             claimed r n (inl one) = ap (λ (x : Replica). x.line) one

@@ -117,7 +117,7 @@ module _ (drives : Geometry) (name : List ℕ) (before : List Ran) (script : Scr
   Any table = Unit {0}
 
   any_carried : IsCarried host.drives Any
-  any_carried old new volume slice after is = tt
+  any_carried = (λ old new volume slice after is. tt, λ table is. tt)
 
   never : (P : Table → Type 0) → NeverBlind host (Failed run) P
   never = all_never drives name before script sound of_table run calm

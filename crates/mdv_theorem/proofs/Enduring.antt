@@ -103,7 +103,7 @@ module _ (drives : Geometry) (name : List ℕ) (before : List Ran) (script : Scr
       was = made_before given drives name sound of_table run.made is.made slices is.force is.count is.blocks is.asks is.told before run.t.tale run.life old
 
       old_lists : Offers host (ListsThese was.places) (contents run.t.tale)
-      old_lists = lasting_offers host own refl (ListsThese was.places) was.history run.t.tale (contents run.t.tale) was.stands was.lasting (λ drive block. refl)
+      old_lists = lasting_offers host own refl (ListsThese was.places) (lists_carried host.drives was.places).1 was.history run.t.tale (contents run.t.tale) was.stands was.lasting (λ drive block. refl)
 
       opens_first : (P : Table → Type 0) → IsCarried host.drives P → ((table : Table) → P table → ListsThese was.places table) → Offers host P (contents run.t.tale) → IsOpenWith host P at.kept
       opens_first P carried lists offers =

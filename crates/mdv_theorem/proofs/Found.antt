@@ -17,7 +17,8 @@ use Rattle.mdv_run_law.specs.Standing.{IsWanting}
 use Rattle.mdv_run_law.proofs.Coming.{no_ok, one_asked}
 use Rattle.mdv_run_law.proofs.Deeds.{change_has, deed_has, part_contains}
 use Rattle.mdv_run_law.proofs.Living.{among_reversed, blocks_hold}
-use Rattle.mdv_run_law.proofs.Made.{empty_is_log, some_told}
+use Rattle.mdv_store_law.proofs.Logs.{empty_is_log}
+use Rattle.mdv_run_law.proofs.Made.{some_told}
 use Rattle.mdv_shelf.specs.Everywhere.{Image}
 use Rattle.mdv_shelf.specs.Tale.{Tale, last}
 use Rattle.mdv_status.specs.Values.{values_reply}
@@ -54,7 +55,10 @@ use Rattle.mdv_theorem.proofs.Ranges.{range_lasts}
 use Rattle.mdv_theorem.proofs.Telling.{values_are_none}
 use Rattle.mdv_base.specs.declared.name.Key.TheVariants.{Local}
 use Rattle.mdv_volumes.proofs.Databases.{is_log_of}
-use Rattle.mdv_theorem.proofs.Adopted.{Adopts, IsFoundBy, adopts_found, adopts_geometry, firm_shows}
+use Rattle.mdv_volumes.proofs.Made.{map_stays}
+use Rattle.mdv_store_law.proofs.Families.{made_next}
+use Rattle.mdv_table.specs.Plan.{settled}
+use Rattle.mdv_theorem.proofs.Adopted.{Adopts, IsFoundBy, IsStill, adopts_found, adopts_geometry, firm_shows}
 
 module _ (drives : Geometry) (name : List ℕ) (t : Tale) where
   -- what a boot may adopt there
@@ -103,8 +107,8 @@ module _ (drives : Geometry) (name : List ℕ) (made : Image) (before : List Ran
   pub found_is : (table : Table) → Found drives name t table → IsFoundBy own.drives database table
   found_is table is = adopts_found own its_sound refl now t its.history.stands (last t) (λ drive block. refl) table is
 
-  pub lasting_found : (P : Table → Type 0) → AreLasting own.drives P database → IsFoundWith drives name t P
-  lasting_found P are = (firm_found are.firm, λ table found. (let is = found_is table found in subst P is.is_table (are.all is.version (is.one_of, is.holds.not_older))))
+  pub lasting_found : (P : Table → Type 0) → IsStill P → AreLasting own.drives P database → IsFoundWith drives name t P
+  lasting_found P still are = (firm_found are.firm, λ table found. (let is = found_is table found in subst P is.is_table (still is.version.table (are.all is.version (is.one_of, is.holds.not_older)))))
 
   -- a volume that was there at some event, where it lay then
   pub range_found : (first later : List Event) (volume : VolId) (at count : ℕ) → es ≡ first ++ later → (range : HasRange own.drives (history_after_all new_history first).databases own_key volume at count)
@@ -157,7 +161,7 @@ module _ (drives : Geometry) (name : List ℕ) (made : Image) (before : List Ran
   -- where a range of its blocks was there, the volume is found
   volume_found : (first later : List Event) (volume : VolId) (at count : ℕ) → es ≡ first ++ later → HasRange own.drives (history_after_all new_history first).databases own_key volume at count → IsFoundWith drives name t (HasMap volume)
   volume_found first later volume at count is range =
-      let found = lasting_found (λ table. IsMapOf own.drives table volume range.map) (range_found first later volume at count is range) in
+      let found = lasting_found (λ table. IsMapOf own.drives table volume range.map) (λ table lies. map_stays own.drives volume range.map None table (settled table) (inr refl) lies) (range_found first later volume at count is range) in
       (found.0, λ table is_found. (range.map, found.1 table is_found))
 
   write_found : (one : Exchange) (volume : VolId) (at : ℕ) (block : List ℕ) → Contains (exchanges_by name before) one → Asks one (command.Write volume at block) → IsTold one ok_line → IsFoundWith drives name t (HasMap volume)
@@ -245,7 +249,7 @@ module _ (drives : Geometry) (name : List ℕ) (made : Image) (before : List Ran
             let found = found_is table is in
             let extends = found.holds.told later.0 same in (
               found.version.changes,
-              subst (AreMade own.drives found.version.changes) found.is_table found.holds.made,
+              subst (AreMade own.drives found.version.changes) found.is_table (made_next own.drives None found.version.changes found.version.table (settled found.version.table) found.holds.made (inr refl)),
               subst (λ (l : List Change). Contains l change) (sym extends.is) (Contains-append_right extends.more later.0 change among),
             )),
       )

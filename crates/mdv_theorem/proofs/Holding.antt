@@ -13,12 +13,12 @@ use Rattle.mdv_table.specs.declared.change.Change.TheVariants.{MakeStripe}
 use Rattle.mdv_volumes.proofs.Lists.{contains_behind, contains_first}
 use Rattle.mdv_theorem.specs.Exchanges.{Exchange, IsTold, MayBeMade}
 use Rattle.mdv_theorem.proofs.Steps.{Steps, no_step, one_step, skipped, told_once, sure_first}
-use Rattle.mdv_theorem.proofs.Tables.{IsBare, IsLater, Keeps, OpenLine, ShutLine, booted, created, falls, idle, keeps_boot, keeps_same, never_clean, off, open_line, rests, same_content, shut_line, up, writes, HasComeUp, Offers, adopted, empty, has_come_up, open_keeps, open_offers}
+use Rattle.mdv_theorem.proofs.Tables.{IsBare, IsLater, Keeps, OpenLine, ShutLine, booted, created, falls, idle, keeps_boot, keeps_same, never_clean, off, open_line, rests, same_content, shut_line, up, writes, HasComeUp, Offers, adopted, empty, has_come_up, open_keeps, open_offers, same_or_settled}
 use Rattle.mdv_theorem.proofs.Telling.{ok_is_none}
 use Rattle.mdv_store.specs.Opened.{Opened}
 use Rattle.mdv_run_law.proofs.Extents.{SeesOwn}
 use Rattle.mdv_theorem.proofs.Sure.{IsSure}
-use Rattle.mdv_theorem.proofs.Adopted.{Adopts, none_adopts}
+use Rattle.mdv_theorem.proofs.Adopted.{Adopts, IsStill, none_adopts}
 
 -- each table that a boot may adopt there is one of these
 abbrev pub Finds : Host → (Table → Type 0) → Image → Type 0
@@ -41,14 +41,14 @@ module _ (host : Host) (sound : IsSound host.drives) (sees : SeesOwn host) (P : 
     by (empty none shows same) = bare none (finds_same kept next same finds)
 
   -- of a new table, and of what these lines make of one
-  module _ (fresh : (t : Table) → t.plan.volumes ≡ [] → P t) (Line_of : Exchange → Type 0)
+  module _ (still : IsStill P) (fresh : (t : Table) → t.plan.volumes ≡ [] → P t) (Line_of : Exchange → Type 0)
       (carried : (old new : Table) (volume : VolId) (slice : SliceName) (one : Exchange) → Line_of one → MayBeMade volume slice one → IsAfter host.drives (MakeStripe volume slice) old.plan new.plan → P old → P new) where
     module _ (calls : Outcomes) (one : Exchange) (of : Line_of one) (answer : Answer) (kept next : Kept) (sure : IsSure host kept) (after : IsSure host next) (comes : IsAnswered calls host kept one.text answer next) (said : IsSaid answer) (told : IsTold one (text_of answer)) where
       told_done : answer ≡ accepted → IsTold one ok_line
       told_done ok = subst (λ (a : Answer). IsTold one (text_of a)) ok told
 
       later_holds : (old new : Table) → IsLater host.drives one.text answer old new → P old → P new
-      later_holds old new (inl same) has = subst P (sym same) has
+      later_holds old new (inl same) has = same_or_settled P still old new same has
       later_holds old new (inr (volume, slice, spelled, ok, grew)) has =
           carried old new volume slice one of (record { asks = spelled; begun = λ refusal refuses. absurd (ok_is_none refusal (told_once one _ _ (told_done ok) refuses)) }) grew has
 
@@ -56,7 +56,7 @@ module _ (host : Host) (sound : IsSound host.drives) (sees : SeesOwn host) (P : 
       by_open o opened has (rests later now grew beside) = keeps (up later now (later_holds o.table later.table grew has))
       by_open o opened has (writes volume at block spelled memory place there put told) = keeps (up o (ap (λ (m : Memory). m.opened) memory ∙ opened) has)
       by_open o opened has (falls so none down same) =
-          keeps (off none down (subst (λ (c : Image). Offers host P c) (sym (same_content kept.content next.content same)) (open_offers host sound sees P kept o sure opened has)))
+          keeps (off none down (subst (λ (c : Image). Offers host P c) (sym (same_content kept.content next.content same)) (open_offers host sound sees P still kept o sure opened has)))
 
       new_holds : (opened : Option Opened) → next.memory.opened ≡ opened → IsBare host next → Holds host P next
       new_holds (Some o) is new = keeps (up o is (fresh o.table (new.0 o is)))

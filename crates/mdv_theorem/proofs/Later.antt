@@ -1,5 +1,5 @@
 -- What a host had open at any line stays found: over what the run did since, and over any runs of any hosts, each table that a boot may find has its volumes where they lay.
-use Rattle.std.proofs.Common.{◌≡◌, inl, inr, ℕ, List, [], ◌∷◌, Option, Some, refl, sym, ◌∙◌, ap, subst}
+use Rattle.std.proofs.Common.{◌≡◌, inl, inr, ℕ, List, [], ◌∷◌, Option, Some, None, refl, sym, ◌∙◌, ap, subst}
 use Rattle.std.proofs.lemmas.Slice.Eq.{bytes_eq-Decides}
 use Rattle.std.specs.Str.{bytes_eq}
 use Rattle.mdv_base.specs.declared.mark.Identity.{Identity}
@@ -27,6 +27,7 @@ use Rattle.mdv_store_law.specs.Log.{IsMade, IsRising, Log, Version}
 use Rattle.mdv_store_law.specs.Machine as machine
 use Rattle.mdv_table.specs.Slices.{IsSound}
 use Rattle.mdv_table.specs.declared.change.Change.{Change}
+use Rattle.mdv_table.specs.Plan.{settled}
 use Rattle.mdv_table.specs.declared.plan.Lists.TheVariants.{One}
 use Rattle.mdv_table.specs.declared.table.Table.{Table}
 use Rattle.mdv_volumes.specs.Databases.{Database, log_of}
@@ -36,7 +37,8 @@ use Rattle.mdv_volumes.specs.HistoryLaws.{log_events_of}
 use Rattle.mdv_volumes.specs.Tables.{IsMapOf}
 use Rattle.mdv_volumes.proofs.Found.{AreLasting, lasting_all, newest_found}
 use Rattle.mdv_volumes.proofs.Keys.{databases_live}
-use Rattle.mdv_volumes.proofs.Made.{made_lists, map_stays}
+use Rattle.mdv_store_law.proofs.Anew.{made_lists}
+use Rattle.mdv_volumes.proofs.Made.{map_stays}
 use Rattle.mdv_volumes.proofs.Owners.{AreEach}
 use Rattle.mdv_volumes.proofs.Restarts.{restarts_go}
 use Rattle.mdv_theorem.specs.Running.{Runs, no_run, run_on}
@@ -185,4 +187,4 @@ module _ (drives : Geometry) (name : List ℕ) (table : Table) where
 
   -- So some replica shows a table, and each table that a boot may adopt has the volumes.
   pub lasts_offers : IsSound drives → (ran : List Ran) (t : Tale) → Lasts ran t → (fresh : ℕ) → Offers (host_of drives name fresh) Has (contents t)
-  lasts_offers sound ran t is fresh = lasting_offers (host_of drives name fresh) (view_is_own.sound drives name sound) refl Has is.history t (contents t) is.stands is.lasting (λ drive block. refl)
+  lasts_offers sound ran t is fresh = lasting_offers (host_of drives name fresh) (view_is_own.sound drives name sound) refl Has (λ table has. grows_stay None table (settled table) (inr refl) has) is.history t (contents t) is.stands is.lasting (λ drive block. refl)

@@ -13,28 +13,27 @@ use Rattle.mdv_base.specs.declared.place.Place.{Place}
 use Rattle.mdv_engine_law.specs.Answers.{accepted}
 use Rattle.mdv_engine_law.specs.Commands.{IsLostCommit}
 use Rattle.mdv_engine_law.specs.Hosts.{key_of}
-use Rattle.mdv_engine_law.specs.Line.{AreFormedOn, IsReadOf, IsRebooted, Kept, WritesTo, answered_by, booted_with, opened_by}
+use Rattle.mdv_engine_law.specs.Line.{AreFormedOn, IsReadOf, IsRebooted, Kept, WritesBy, answered_by, booted_with, opened_by}
 use Rattle.mdv_engine_law.specs.Replies.{HasEndCause}
 use Rattle.mdv_engine_law.specs.declared.answer.Answer.{Answer}
 use Rattle.mdv_engine_law.specs.declared.answer.Answer.TheVariants.{Said, Over as Ends}
 use Rattle.mdv_engine_law.specs.declared.host.Host.{Host}
 use Rattle.mdv_name.specs.declared.slice_lines.SliceLine.{SliceLine}
-use Rattle.mdv_record.specs.Text.{record_text}
 use Rattle.mdv_run_law.specs.Run.{IsOfTable, IsSaid}
 use Rattle.mdv_shelf.specs.Everywhere.{Image}
 use Rattle.mdv_shelf.specs.Failing.{Outcomes}
 use Rattle.mdv_shown.specs.declared.site.Site.{Site}
 use Rattle.mdv_store.proofs.Passes.{some_lost}
-use Rattle.mdv_store.proofs.Seating.{seated_at}
+use Rattle.mdv_store.proofs.Adoptions.{takes_stay}
+use Rattle.mdv_store.proofs.Told.{adopted_enough, found_read, lost_read, lost_short}
 use Rattle.mdv_store.proofs.Adoptions.{same_identity_self}
 use Rattle.mdv_store.proofs.Sitting.{left_replica}
 use Rattle.mdv_store.proofs.Spotting.{asked_active, asked_length}
-use Rattle.mdv_store.specs.Boot.{IsAdopted, IsEndBy, IsInHand, IsLost, IsShort, TakesBoth, is_memory, need_of}
+use Rattle.mdv_store.specs.Boot.{IsAdopted, IsEndBy, IsLost, IsShort, TakesAll, is_memory, last_found, need_of}
 use Rattle.mdv_store.specs.Commit as commit
 use Rattle.mdv_store.specs.Create as create
 use Rattle.mdv_store.specs.Opened.{Opened, shortage}
 use Rattle.mdv_store.specs.Seats.{AreLeft, TakesSlot, drive_of, replicas_of}
-use Rattle.mdv_store.specs.Text.{blocks_for}
 use Rattle.mdv_store.specs.declared.booting.BootEnd.{BootEnd}
 use Rattle.mdv_store.specs.declared.booting.BootEnd.TheVariants as end
 use Rattle.mdv_store.specs.declared.seats.Seat.{Seat}
@@ -43,13 +42,13 @@ use Rattle.mdv_survey.specs.declared.choosing.Choice.TheVariants as chosen
 use Rattle.mdv_survey.specs.declared.replica.Newest.{Newest}
 use Rattle.mdv_survey.specs.declared.replica.Replica.{Replica}
 use Rattle.mdv_survey.specs.declared.replica.Survey.{Survey}
-use Rattle.mdv_table.specs.Plan.{places_of}
+use Rattle.mdv_table.specs.Plan.{last_of}
 use Rattle.mdv_table.specs.declared.plan.Lists.{Lists}
 use Rattle.mdv_table.specs.declared.table.Table.{Table}
 use Rattle.mdv_store.specs.Shares.{short_of}
-use Rattle.mdv_store.specs.declared.seats.Need.TheVariants.{Half, More}
+use Rattle.mdv_store.specs.declared.seats.Need.TheVariants.{Half}
 use Rattle.mdv_store.specs.declared.seats.Share.{Share}
-use Rattle.mdv_store.proofs.Shares.{half_less, half_none, more_less, more_suffices, short_fewer}
+use Rattle.mdv_store.proofs.Shares.{half_less, half_none, more_less, short_fewer}
 
 -- with what answer a run may be over, and why
 abbrev pub IsEndOf : Type 0 → Answer → Type 0
@@ -115,14 +114,6 @@ module _ (host : Host) (is_host : IsOfTable host) where
     abbrev pub HasFailedThere : Type 0
     HasFailedThere = (line : SliceLine) × Contains host.site.lines line × (calls line.at.drive.0).some
 
-    -- what a boot has in hand lies on them
-    in_hand_own : (content : Image) (up : Drives) {e : BootEnd} (survey : Survey) (newest : Newest) (replica : Replica) (seats : List Seat) → IsReadOf calls host content up e survey → IsInHand survey newest replica seats → (r : Replica) → Contains (replicas_of seats) r
-        → Contains host.site.lines r.line
-    in_hand_own content up survey newest replica seats read hand r has =
-        let among = subst (λ (l : List Seat). Contains (replicas_of l) r) hand.seats_are has in
-        let at = seated_at survey.replicas replica.head.master.identity (blocks_for (length (record_text newest.table))) (places_of newest.table.plan.lists) r among in
-        (read.of.each r at.1).one_of
-
     -- for a host's own database that is half of them
     own_enough : (seats : List Seat) (lists : Lists) (came : Option Share) → short_of (need_of host.site.key) seats lists ≡ came → short_of Half seats lists ≡ came
     own_enough seats lists came is = subst (λ (k : Key). short_of (need_of k) seats lists ≡ came) (ap (λ (s : Site). s.key) is_host.site ∙ is_host.key) is
@@ -130,17 +121,17 @@ module _ (host : Host) (is_host : IsOfTable host) where
     module _ (content : Image) (up : Drives) {e : BootEnd} (survey : Survey) (read : IsReadOf calls host content up e survey) (Wrote : _) where
       adopted_held : (o : Opened) → IsAdopted calls Wrote host.site survey o → IsHeld o
       adopted_held o a = record {
-        half = ap (λ (x : Opened). short_of Half o.seats x.table.plan.lists) a.is ∙ own_enough o.seats a.newest.table.plan.lists None a.enough;
-        own = left_own calls (TakesBoth a.number (length (record_text a.newest.table))) a.seats o.seats a.left (λ r n took. ap (λ (x : Replica). x.line) took.2) (in_hand_own content up survey a.newest a.replica a.seats read a.drawn.hand);
+        half = own_enough o.seats o.table.plan.lists None (adopted_enough calls Wrote host.site survey o a);
+        own = left_own calls (TakesAll a.number a.newest.table) (last_found survey a.newest a.replica) o.seats a.left (λ r n took. ap (λ (x : Replica). x.line) (takes_stay a.number a.newest.table r n took))
+            (λ r has. (read.of.each r (found_read survey a.newest a.replica a.seats a.drawn.hand (last_of a.newest.table.plan.lists) r has)).one_of);
       }
 
       lost_boot : (active listed : ℕ) → IsLost calls Wrote host.site.key survey active listed → HasFailedThere × (2 * active < listed)
       lost_boot active listed lost =
           let share : Share = record { active = active; listed = listed } in
-          let lists = lost.newest.table.plan.lists in
-          let fewer = short_fewer calls _ More (need_of host.site.key) (more_suffices (need_of host.site.key)) lists lost.seats lost.now share lost.left lost.drawn.enough lost.few in
-          let one = some_lost calls _ lost.seats lost.now lost.left fewer in
-          ((one.0.line, in_hand_own content up survey lost.newest lost.replica lost.seats read lost.drawn.hand one.0 one.1, one.2), half_less lost.now lists share (own_enough lost.now lists (Some share) lost.few))
+          let one = lost_read calls Wrote host.site.key survey active listed lost in
+          let short = lost_short calls Wrote host.site.key survey active listed lost in
+          ((one.0.line, (read.of.each one.0 one.1).one_of, one.2), half_less short.1 short.0 share (own_enough short.1 short.0 (Some share) short.2))
 
     short_boot : (survey : Survey) (readable needed : ℕ) → IsShort survey readable needed → readable < needed
     short_boot survey readable needed (inl choice) = by survey.newest choice where
@@ -160,7 +151,7 @@ module _ (host : Host) (is_host : IsOfTable host) where
     -- a boot: what it opens, and why it is over
     module _ (kept next : Kept) (answer : Answer) where
       abbrev By : BootEnd → Drives → Type 0
-      By end up = (is_memory end ≡ true) ⊎ ((survey : Survey) × IsReadOf calls host kept.content up end survey × IsEndBy calls (λ hand table. WritesTo kept.content next.content hand.seats) host.site survey end)
+      By end up = (is_memory end ≡ true) ⊎ ((survey : Survey) × IsReadOf calls host kept.content up end survey × IsEndBy calls (λ hand table gone. WritesBy host.drives host.site.key kept.content next.content hand.identity hand.number hand.seats table gone) host.site survey end)
 
       open_end : (end : BootEnd) (up : Drives) (clean : Bool) → By end up → answer ≡ answered_by end → (answer ≡ accepted → next.memory ≡ booted_with (opened_by end) up clean kept.memory.begun) → IsSaid answer → Holds next
       open_end (end.Adopted o) up clean (inl never) is memory said = absurd (false≢true never)

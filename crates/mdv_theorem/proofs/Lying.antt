@@ -112,7 +112,7 @@ module _ (drives : Geometry) (name : List ℕ) (before : List Ran) (script : Scr
       Made_there = HasStripe host.drives volume slice
 
       carried : IsCarried host.drives Made_there
-      carried = stripe_stays host.drives volume slice
+      carried = (stripe_stays host.drives volume slice, λ table has. has)
 
       -- a making that an earlier run told of
       by_earlier : (other : Exchange) → Contains (exchanges_by name before) other → Asks other (command.MakeStripe volume slice) → IsTold other ok_line → Keeps host Made_there kept
@@ -139,7 +139,7 @@ module _ (drives : Geometry) (name : List ℕ) (before : List Ran) (script : Scr
     now_made o opened =
         let from_boot = holds_boot host host_sound refl (AllMade lines) booted (started (contents run.t.tale)) first accepted
         (λ table adopts. found_made lines (λ e has. Contains-append_left (exchanges_by name before) here e has) table adopts) boots tt in
-        let now = holds_steps host host_sound refl (AllMade lines) (fresh_made lines) (Contains lines) (changed_made lines) Fails first kept here (λ e has. Contains-append_right (exchanges_by name before) here e has) from_boot steps in
+        let now = holds_steps host host_sound refl (AllMade lines) (λ table made. made) (fresh_made lines) (Contains lines) (changed_made lines) Fails first kept here (λ e has. Contains-append_right (exchanges_by name before) here e has) from_boot steps in
         open_holds host (AllMade lines) kept o opened now
 
     -- it is on one slice, on which each line made it that was told `ok`

@@ -19,6 +19,8 @@ use Rattle.mdv_shown.proofs.Sites.{law_sites}
 use Rattle.mdv_shown.specs.Sites.{is_line_of}
 use Rattle.mdv_survey.specs.Replica.{IsFoundIn}
 use Rattle.mdv_table.specs.Slices.{IsSound}
+use Rattle.mdv_table.specs.Plan.{last_of}
+use Rattle.mdv_table.specs.declared.plan.Lists.{Lists}
 use Rattle.mdv_table.specs.declared.plan.Lists.TheVariants.{One}
 use Rattle.mdv_table.specs.declared.plan.Plan.{Plan}
 use Rattle.mdv_table.specs.declared.table.Table.{Table}
@@ -43,7 +45,7 @@ ListsThese places table = table.plan.lists ≡ One places
 
 -- a change moves none
 pub lists_carried : (g : Geometry) (places : List Place) → IsCarried g (ListsThese places)
-lists_carried g places old new volume slice after is = ap (λ (p : Plan). p.lists) after.1 ∙ is
+lists_carried g places = (λ old new volume slice after is. ap (λ (p : Plan). p.lists) after.1 ∙ is, λ table is. ap (λ (l : Lists). One (last_of l)) is)
 
 module _ (drives : Geometry) (name : List ℕ) (before : List Ran) (script : Script) (sound : IsSound drives) (of_table : Contains drives.hosts name) (run : Running drives name before script) where
   abbrev host : Host
@@ -64,7 +66,7 @@ module _ (drives : Geometry) (name : List ℕ) (before : List Ran) (script : Scr
     ]
 
     pub all_never : (P : Table → Type 0) → NeverBlind host (Failed run) P
-    all_never P calls kept o sure opened has unfailed blind = bare_or_never calls kept.content unfailed blind (open_offers host its_sound refl P kept o sure opened has).found
+    all_never P calls kept o sure opened has unfailed blind = bare_or_never calls kept.content unfailed blind (open_offers host its_sound refl (λ table. Unit {0}) (λ table any. tt) kept o sure opened tt).found
 
     pub all_first : (here : List Exchange) (one : Exchange) (at : Reached run here one) → (HasNoTableOn host.drives (key_of host) (contents run.t.tale) → ⊥) → IsBlind host at.booted (contents run.t.tale) → ⊥
     all_first here one at shown blind = bare_or_never at.booted (contents run.t.tale) at.unbooted blind shown

@@ -37,7 +37,7 @@ use Rattle.mdv_volumes.specs.Happening.{IsCourse}
 use Rattle.mdv_volumes.specs.History.{Event, History, history_after_all}
 use Rattle.mdv_volumes.specs.HistoryLaws.{log_events_of, new_history}
 use Rattle.mdv_volumes.proofs.Keys.{databases_live}
-use Rattle.mdv_volumes.proofs.Made.{made_lists}
+use Rattle.mdv_store_law.proofs.Anew.{made_lists}
 use Rattle.mdv_volumes.proofs.Lists.{contains_behind, contains_first, first_or_behind}
 use Rattle.mdv_theorem.proofs.Adopted.{open_shows}
 use Rattle.mdv_theorem.proofs.Lines.{never_in}
@@ -88,6 +88,9 @@ module _ (g : Geometry) where
         ap (λ (t : Table). t.plan.lists) (sym one.2) ∙ alike.same one.0 other.0 one.1 other.1 ∙ ap (λ (t : Table). t.plan.lists) other.2);
   }
   alike_step lg (log.Told which before) may alike = alike
+  alike_step lg (log.Placing places) may alike = alike
+  alike_step lg log.Clearing may alike = alike
+  alike_step lg log.Gone may alike = alike
 
   alike_all : (lg : Log) (es : List log.Event) → log.IsCourse g lg es → AreAlike lg.family → AreAlike (log.log_after_all lg es).family
   alike_all lg [] course alike = alike

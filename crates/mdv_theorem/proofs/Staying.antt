@@ -29,7 +29,7 @@ abbrev pub HasIt : Geometry → VolId → Table → Type 0
 HasIt g volume table = (v : Map) × IsMapOf g table volume v
 
 pub has_carried : (g : Geometry) (volume : VolId) → IsCarried g (HasIt g volume)
-has_carried g volume old new other slice after has = (has.0, map_carried g volume has.0 old new other slice after has.1)
+has_carried g volume = (λ old new other slice after has. (has.0, (map_carried g volume has.0).0 old new other slice after has.1), λ table has. (has.0, (map_carried g volume has.0).1 table has.1))
 
 -- the open database, whose table is one of these
 pub record IsOpenWith (host : Host) (P : Table → Type 0) (kept : Kept) : Type 0 where
@@ -89,7 +89,9 @@ module _ (drives : Geometry) (name : List ℕ) (before : List Ran) (script : Scr
       HasBoth table = HasIt host.drives volume table × L table
 
       pub both_carried : IsCarried host.drives HasBoth
-      both_carried old new other slice after has = (has_carried host.drives volume old new other slice after has.0, carried old new other slice after has.1)
+      both_carried =
+          let it = has_carried host.drives volume in
+          (λ old new other slice after has. (it.0 old new other slice after has.0, carried.0 old new other slice after has.1), λ table has. (it.1 table has.0, carried.1 table has.1))
 
       pub later_with : NeverBlind host (Failed run) HasBoth → (from : Kept) (es : List Exchange) → Keeps host L from → Steps host (Failed run) from es at.kept → (shown : Exchange) → Contains es shown → ShowsThere volume shown → IsOpenWith host (HasIt host.drives volume) at.kept
       later_with never from es keeps steps shown has shows =

@@ -12,7 +12,7 @@ use Rattle.mdv_engine_law.specs.Answers.{accepted, refusing}
 use Rattle.mdv_engine_law.specs.Commands as came
 use Rattle.mdv_engine_law.specs.Commands.{CameTo, ComesTo, Effect, Fault, IsAllowed, KeepsTab, Wanting, case_of}
 use Rattle.mdv_shelf.specs.Failing.{Outcomes}
-use Rattle.mdv_engine_law.specs.Line.{AreBlocksAt, ArePut, HasVolumeOn, IsCommitted, IsRebooted, IsSame, IsSameBeside, Kept, MayBePut, Memory, Stays, record_room, HasNoTableOn, IsReadOf, WritesTo, answered_by, booted_with, contents, opened_by}
+use Rattle.mdv_engine_law.specs.Line.{AreBlocksAt, ArePut, HasVolumeOn, IsCommitted, IsRebooted, IsSame, IsSameBeside, Kept, MayBePut, Memory, Stays, record_room, HasNoTableOn, IsReadOf, WritesBy, answered_by, booted_with, contents, opened_by}
 use Rattle.mdv_engine_law.specs.Refusals.{bytes_after, held_of_change}
 use Rattle.mdv_engine_law.specs.Replies.{ok_line, refusal_line, text_of}
 use Rattle.mdv_engine_law.specs.declared.answer.Answer.{Answer}
@@ -26,6 +26,10 @@ use Rattle.mdv_shelf.specs.Everywhere.{Image}
 use Rattle.mdv_table.specs.Change as table
 use Rattle.mdv_table.specs.Change.{IsAfter, table_after}
 use Rattle.mdv_table.specs.Slices.{IsSound}
+use Rattle.mdv_table.specs.Plan.{settled}
+use Rattle.mdv_store_law.specs.Log.{IsSameOrSettled}
+use Rattle.mdv_store_law.proofs.Families.{settled_more}
+use Rattle.mdv_volumes.proofs.Made.{map_stays}
 use Rattle.mdv_table.specs.declared.change.Change.{Change}
 use Rattle.mdv_table.specs.declared.change.Change.TheVariants.{MakeStripe}
 use Rattle.mdv_table.specs.declared.table.Table.{Table}
@@ -62,30 +66,34 @@ use Rattle.mdv_survey.specs.declared.replica.Survey.{Survey}
 use Rattle.mdv_shelf.specs.Tale.{Tale, last}
 use Rattle.mdv_shelf.proofs.Everywhere.{last_image}
 use Rattle.mdv_shown.specs.Site.{site_area}
-use Rattle.mdv_theorem.proofs.Adopted.{Adopts, IsBlind, adopts_found, adopts_of, blind_boot, firm_shows}
+use Rattle.mdv_theorem.proofs.Adopted.{Adopts, IsBlind, IsStill, adopts_found, adopts_of, blind_boot, firm_shows}
 use Rattle.mdv_theorem.proofs.Sure.{IsSure, open_lasting, outside_open, sure_plan}
 
 -- the table has each volume of the other, with the same map
 abbrev pub Grows : Geometry → Table → Table → Type 0
 Grows g old new = (volume : VolId) (v : Map) → IsMapOf g old volume v → IsMapOf g new volume v
 
--- what is so of a table is so of that which a change makes of it
+-- what is so of a table is so of that which a change makes of it, or the end of a change of its places
 abbrev pub IsCarried : Geometry → (Table → Type 0) → Type 0
-IsCarried g P = (old new : Table) (volume : VolId) (slice : SliceName) → IsAfter g (MakeStripe volume slice) old.plan new.plan → P old → P new
+IsCarried g P = ((old new : Table) (volume : VolId) (slice : SliceName) → IsAfter g (MakeStripe volume slice) old.plan new.plan → P old → P new) × IsStill P
 
 pub map_carried : (g : Geometry) (volume : VolId) (v : Map) → IsCarried g (λ t. IsMapOf g t volume v)
-map_carried g volume v old new other slice after has = tables_lie.stays g old new other slice volume v after has
+map_carried g volume v = (λ old new other slice after has. tables_lie.stays g old new other slice volume v after has, λ table has. map_stays g volume v None table (settled table) (inr refl) has)
 
 pub grows_carried : (g : Geometry) (table : Table) → IsCarried g (Grows g table)
-grows_carried g table old new volume slice after grows other v has = map_carried g other v old new volume slice after (grows other v has)
+grows_carried g table = (λ old new volume slice after grows other v has. (map_carried g other v).0 old new volume slice after (grows other v has), λ now grows other v has. (map_carried g other v).1 now (grows other v has))
 
--- the same table, or that which a change makes of it, which the line asked and was told to be done
+-- the same table, or the one that it is once a change of its places is over; or that which a change makes of it, which the line asked and was told to be done
 abbrev pub IsLater : Geometry → List ℕ → Answer → Table → Table → Type 0
-IsLater g text answer old new = (new ≡ old) ⊎ ((volume : VolId) × (slice : SliceName) × IsLine text (words.Exec (command.MakeStripe volume slice)) × (answer ≡ accepted) × IsAfter g (MakeStripe volume slice) old.plan new.plan)
+IsLater g text answer old new = IsSameOrSettled old new ⊎ ((volume : VolId) × (slice : SliceName) × IsLine text (words.Exec (command.MakeStripe volume slice)) × (answer ≡ accepted) × IsAfter g (MakeStripe volume slice) old.plan new.plan)
+
+pub same_or_settled : (P : Table → Type 0) → IsStill P → (old new : Table) → IsSameOrSettled old new → P old → P new
+same_or_settled P still old new (inl same) has = subst P (sym same) has
+same_or_settled P still old new (inr over) has = subst P (sym over) (still old has)
 
 pub carried_later : (g : Geometry) (P : Table → Type 0) → IsCarried g P → (text : List ℕ) (answer : Answer) (old new : Table) → IsLater g text answer old new → P old → P new
-carried_later g P carried text answer old new (inl same) has = subst P (sym same) has
-carried_later g P carried text answer old new (inr (volume, slice, spelled, ok, after)) has = carried old new volume slice after has
+carried_later g P carried text answer old new (inl same) has = same_or_settled P carried.1 old new same has
+carried_later g P carried text answer old new (inr (volume, slice, spelled, ok, after)) has = carried.0 old new volume slice after has
 
 -- some replica shows a table there, and each table that a boot may adopt is one of these
 pub record Offers (host : Host) (P : Table → Type 0) (content : Image) : Type 0 where
@@ -151,20 +159,20 @@ NeverBlind host Failed P =
 
 module _ (host : Host) (sound : IsSound host.drives) (sees : SeesOwn host) where
   -- where the drives stand with a history of which each table that a boot may find is one of these
-  pub lasting_offers : (P : Table → Type 0) (h : History) (t : Tale) (content : Image) → StandsAt host h t → AreLasting host.drives P (log_of h.databases (key_of host)) → IsSame content (contents t) → Offers host P content
-  lasting_offers P h t content stands are reads = record {
+  pub lasting_offers : (P : Table → Type 0) → IsStill P → (h : History) (t : Tale) (content : Image) → StandsAt host h t → AreLasting host.drives P (log_of h.databases (key_of host)) → IsSame content (contents t) → Offers host P content
+  lasting_offers P still h t content stands are reads = record {
     found = firm_shows host h t stands are.firm content reads;
-    each = λ table adopts. (let is = adopts_found host sound sees h t stands content reads table adopts in subst P is.is_table (are.all is.version (is.one_of, is.holds.not_older)));
+    each = λ table adopts. (let is = adopts_found host sound sees h t stands content reads table adopts in subst P is.is_table (still is.version.table (are.all is.version (is.one_of, is.holds.not_older))));
   }
 
   -- so where a database is open, as is known
-  pub open_offers : (P : Table → Type 0) (kept : Kept) (o : Opened) → IsSure host kept → kept.memory.opened ≡ Some o → P o.table → Offers host P kept.content
-  open_offers P kept o sure opened has = lasting_offers P sure.history sure.tale kept.content sure.known.stands (open_lasting host kept.memory sure.history sure.tale o sure.known opened P has) sure.reads
+  pub open_offers : (P : Table → Type 0) → IsStill P → (kept : Kept) (o : Opened) → IsSure host kept → kept.memory.opened ≡ Some o → P o.table → Offers host P kept.content
+  open_offers P still kept o sure opened has = lasting_offers P still sure.history sure.tale kept.content sure.known.stands (open_lasting host kept.memory sure.history sure.tale o sure.known opened P has) sure.reads
 
   -- what a boot comes to that is answered
   pub has_come_up : (calls : Outcomes) (kept next : Kept) (answer : Answer) → IsRebooted calls host kept answer next → IsSaid answer → HasComeUp host calls kept next
   has_come_up calls kept next answer r said = by r.end r.by r.beside r.answer_is r.memory where
-    by : (e : BootEnd) → (is_memory e ≡ true) ⊎ ((survey : Survey) × IsReadOf calls host kept.content r.up e survey × IsEndBy calls (λ hand of. WritesTo kept.content next.content hand.seats) host.site survey e) → IsSameBeside (boot_area host.site (has_written e)) kept.content next.content
+    by : (e : BootEnd) → (is_memory e ≡ true) ⊎ ((survey : Survey) × IsReadOf calls host kept.content r.up e survey × IsEndBy calls (λ hand of gone. WritesBy host.drives host.site.key kept.content next.content hand.identity hand.number hand.seats of gone) host.site survey e) → IsSameBeside (boot_area host.site (has_written e)) kept.content next.content
         → answer ≡ answered_by e → (answer ≡ accepted → next.memory ≡ booted_with (opened_by e) r.up r.clean kept.memory.begun) → HasComeUp host calls kept next
     by (ending.Adopted o) (inl never) beside is memory = absurd (cc (never))
     by (ending.Adopted o) (inr (survey, read, a)) beside is memory = adopted o (ap (λ (m : Memory). m.opened) (memory is)) (adopts_of calls host kept.content next.content r.up survey o read a) beside
@@ -193,15 +201,15 @@ module _ (host : Host) (sound : IsSound host.drives) (sees : SeesOwn host) where
     Line_of = OpenLine host calls text answer o kept next
 
     still : next.memory.opened ≡ kept.memory.opened → IsSame kept.content next.content → Line_of
-    still memory same = rests o (memory ∙ opened) (inl refl) (λ drive block out. same drive block)
+    still memory same = rests o (memory ∙ opened) (inl (inl refl)) (λ drive block out. same drive block)
 
     stays : Stays kept next → Line_of
     stays same = still (ap (λ (m : Memory). m.opened) same.memory) same.content
 
     open_boot : IsRebooted calls host kept answer next → IsSaid answer → Line_of
     open_boot boots said = by (has_come_up calls kept next answer boots said) where
-      offers : Offers host (λ table. table ≡ o.table) kept.content
-      offers = open_offers (λ table. table ≡ o.table) kept o sure opened refl
+      offers : Offers host (IsSameOrSettled o.table) kept.content
+      offers = open_offers (IsSameOrSettled o.table) (λ table is. settled_more o.table table (settled table) is (inr refl)) kept o sure opened (inl refl)
 
       by : HasComeUp host calls kept next → Line_of
       by (adopted later now adopts beside) = rests later now (inl (offers.each later.table adopts)) beside
@@ -345,7 +353,7 @@ module _ (host : Host) (sound : IsSound host.drives) (sees : SeesOwn host) where
         by : OpenLine host calls text answer o kept next → Keeps host P next
         by (rests later now grew beside) = up later now (carried_later host.drives P carried text answer o.table later.table grew has)
         by (writes volume at block spelled memory place there put told) = up o (ap (λ (m : Memory). m.opened) memory ∙ opened) has
-        by (falls so none down same) = off none down (offers_same kept next same (open_offers P kept o sure opened has))
+        by (falls so none down same) = off none down (offers_same kept next same (open_offers P carried.1 kept o sure opened has))
       keeps_line calls text answer kept next sure after (off none down offers) comes said = by (shut_line calls text answer kept next none comes said) where
         by : ShutLine host calls answer kept next → Keeps host P next
         by (idle still_none clean same) = keeps_same kept next (off none down offers) (still_none ∙ sym none) clean same

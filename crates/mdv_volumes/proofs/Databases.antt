@@ -3,7 +3,8 @@ use Rattle.std.proofs.Common.{◌≡◌, ℕ, true, ◌==◌, List, ◌∷◌, O
 use Rattle.std.proofs.lemmas.Bool.{and_from, and_parts}
 use Rattle.std.proofs.lemmas.Bool.Decides.{nat_tests}
 use Rattle.std.proofs.lemmas.List.Elements.{All-nil}
-use Rattle.mdv_store_law.specs.Log.{AreMade, IsLog}
+use Rattle.mdv_store_law.specs.Log.{IsLog}
+use Rattle.mdv_store_law.proofs.Logs.{empty_is_log}
 use Rattle.mdv_databases.proofs.Going.{its_log}
 use Rattle.mdv_databases.proofs.Lists.{key_is, key_itself}
 use Rattle.mdv_volumes.specs.Below.{Geometry, Key, Stand, Tale, Version, VolId}
@@ -32,5 +33,5 @@ current_some ds key newest older = by (current_of ds key) refl where
 pub is_log_of : (g : Geometry) (ds : List Database) (t : Tale) → Stand g ds t → (key : Key) → IsLog g (log_of ds key)
 is_log_of g ds t stand key = by (current_of ds key) refl where
   by : (o : Option Database) → current_of ds key ≡ o → IsLog g (log_of ds key)
-  by None none = subst (λ (o : Option Database). IsLog g (log_in o)) (sym none) (record { rising = tt; made = All-nil (λ (v : Version). AreMade g v.changes v.table); descended = tt; held = λ told same. absurd (cc (same)) })
+  by None none = subst (λ (o : Option Database). IsLog g (log_in o)) (sym none) (empty_is_log g)
   by (Some d) is = its_log g ds key d.identity t stand (record { database = d; current = is; as_begun = refl })

@@ -89,6 +89,9 @@ module _ (g : Geometry) (P : Table → Type 0) (none : (table : Table) → table
   found_step lg (log.Writing mark asked before table) is may all new = begun_found P lg mark asked before table (next_table lg asked before mark table may.1 all new) all
   found_step lg log.Written is may all new = written_found P lg.family may all
   found_step lg (log.Told which before) is may all new = all
+  found_step lg (log.Placing places) is may all new = all
+  found_step lg log.Clearing is may all new = all
+  found_step lg log.Gone is may all new = all
 
   -- each table that a boot may find in the end is so, where those at the start are, and those that were asked, and it stays so once a change of places is over
   pub found_all : (lg : Log) (es : List log.Event) → IsLog g lg → log.IsCourse g lg es → AllFound P lg.family → ((table : Table) → IsAsked es table → P table) → AllFound P (log.log_after_all lg es).family
@@ -130,6 +133,9 @@ module _ (g : Geometry) (P : Table → Type 0) (stays : (asked : Option Change) 
   all_step lg (log.Writing mark asked before table) may firm all = begun_found P lg mark asked before table (next_lasts lg asked before table firm all may.1) all
   all_step lg log.Written may firm all = written_found P lg.family may all
   all_step lg (log.Told which before) may firm all = all
+  all_step lg (log.Placing places) may firm all = all
+  all_step lg log.Clearing may firm all = all
+  all_step lg log.Gone may firm all = all
 
   -- whatever happens to the log
   pub kept_all : (lg : Log) (es : List log.Event) → log.IsCourse g lg es → is_firm lg ≡ true → AllFound P lg.family → (is_firm (log.log_after_all lg es) ≡ true) × AllFound P (log.log_after_all lg es).family

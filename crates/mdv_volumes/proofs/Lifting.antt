@@ -26,6 +26,9 @@ module _ (key : Key) where
   lifted_after h identity (log.Writing mark asked before table ∷ es) later = lifted_after (record h { databases = with_event key (log.Writing mark asked before table) h.databases }) identity es later.1
   lifted_after h identity (log.Written ∷ es) later = lifted_after (record h { databases = with_event key log.Written h.databases }) identity es later.1
   lifted_after h identity (log.Told which before ∷ es) later = lifted_after (record h { databases = with_event key (log.Told which before) h.databases }) identity es later.1
+  lifted_after h identity (log.Placing places ∷ es) later = lifted_after (record h { databases = with_event key (log.Placing places) h.databases }) identity es later.1
+  lifted_after h identity (log.Clearing ∷ es) later = lifted_after (record h { databases = with_event key log.Clearing h.databases }) identity es later.1
+  lifted_after h identity (log.Gone ∷ es) later = lifted_after (record h { databases = with_event key log.Gone h.databases }) identity es later.1
 
   -- each may happen there
   lifted_course : (g : Geometry) (h : History) (es : List log.Event) (d : Database) → AreLater es → current_of h.databases key ≡ Some d → log.IsCourse g d.log es → IsCourse g h (lifted key d.identity es)
@@ -43,6 +46,18 @@ module _ (key : Key) where
     record { database = d; current = is; as_begun = refl; later = tt; may = course.0 },
     lifted_course g (record h { databases = with_event key (log.Told which before) h.databases }) es _ later.1 (events_here key (log.Told which before ∷ []) h.databases d is) course.1,
   )
+  lifted_course g h (log.Placing places ∷ es) d later is course = (
+    record { database = d; current = is; as_begun = refl; later = tt; may = course.0 },
+    lifted_course g (record h { databases = with_event key (log.Placing places) h.databases }) es _ later.1 (events_here key (log.Placing places ∷ []) h.databases d is) course.1,
+  )
+  lifted_course g h (log.Clearing ∷ es) d later is course = (
+    record { database = d; current = is; as_begun = refl; later = tt; may = course.0 },
+    lifted_course g (record h { databases = with_event key log.Clearing h.databases }) es _ later.1 (events_here key (log.Clearing ∷ []) h.databases d is) course.1,
+  )
+  lifted_course g h (log.Gone ∷ es) d later is course = (
+    record { database = d; current = is; as_begun = refl; later = tt; may = course.0 },
+    lifted_course g (record h { databases = with_event key log.Gone h.databases }) es _ later.1 (events_here key (log.Gone ∷ []) h.databases d is) course.1,
+  )
 
   -- they begin what the log's begin, and tell what those tell
   more_deeds : (a b : List (Option Change)) (rest : List Deed) → rest ≡ map (deed_of key) b → map (deed_of key) a ++ rest ≡ map (deed_of key) (a ++ b)
@@ -54,6 +69,9 @@ module _ (key : Key) where
   lifted_begins identity (log.Writing mark asked before table ∷ es) later = more_deeds (log.asks_of asked) (log.begun_by es) (issued_by (lifted key identity es)) (lifted_begins identity es later.1)
   lifted_begins identity (log.Written ∷ es) later = lifted_begins identity es later.1
   lifted_begins identity (log.Told which before ∷ es) later = lifted_begins identity es later.1
+  lifted_begins identity (log.Placing places ∷ es) later = lifted_begins identity es later.1
+  lifted_begins identity (log.Clearing ∷ es) later = lifted_begins identity es later.1
+  lifted_begins identity (log.Gone ∷ es) later = lifted_begins identity es later.1
 
   lifted_tells : (identity : Identity) (es : List log.Event) → told_by (lifted key identity es) ≡ map (deed_of key) (log.told_by es)
   lifted_tells identity [] = refl
@@ -61,6 +79,9 @@ module _ (key : Key) where
   lifted_tells identity (log.Writing mark asked before table ∷ es) = lifted_tells identity es
   lifted_tells identity (log.Written ∷ es) = lifted_tells identity es
   lifted_tells identity (log.Told which before ∷ es) = more_deeds (log.tells (log.Told which before)) (log.told_by es) (told_by (lifted key identity es)) (lifted_tells identity es)
+  lifted_tells identity (log.Placing places ∷ es) = lifted_tells identity es
+  lifted_tells identity (log.Clearing ∷ es) = lifted_tells identity es
+  lifted_tells identity (log.Gone ∷ es) = lifted_tells identity es
 
 swapped : (v w : Map) → AreDisjoint v w → AreDisjoint w v
 swapped v w apart a b drive block below above in_w in_v = apart b a drive block above below in_v in_w

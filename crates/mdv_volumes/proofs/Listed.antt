@@ -7,7 +7,7 @@ use Rattle.mdv_volumes.specs.Happening.{MayBeFound}
 use Rattle.mdv_volumes.specs.HistoryLaws.{ListsStay, log_events_of}
 use Rattle.mdv_volumes.proofs.Found.{kept_all}
 use Rattle.mdv_volumes.proofs.Keys.{databases_live}
-use Rattle.mdv_volumes.proofs.Made.{made_lists}
+use Rattle.mdv_store_law.proofs.Anew.{made_lists}
 
 pub lists_stay : ListsStay
 lists_stay g key places h es course has =

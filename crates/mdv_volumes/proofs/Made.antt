@@ -48,9 +48,3 @@ pub map_stays : (g : Geometry) (volume : VolId) (v : Map) (asked : Option Change
 map_stays g volume v None old next (inl same) map = subst (λ (table : Table). IsMapOf g table volume v) (sym same) map
 map_stays g volume v None old next (inr over) map = subst (λ (table : Table). IsMapOf g table volume v) (sym over) (map_settled g old volume v map)
 map_stays g volume v (Some (MakeStripe other slice)) old next made map = tables_lie.stays g old next other slice volume v made.0 map
-
--- a change makes volumes, and moves no place of one list
-pub made_lists : (g : Geometry) (asked : Option Change) (old next : Table) (places : List Place) → IsMade g asked old next → old.plan.lists ≡ One places → next.plan.lists ≡ One places
-made_lists g None old next places (inl same) one = ap (λ (t : Table). t.plan.lists) same ∙ one
-made_lists g None old next places (inr over) one = ap (λ (t : Table). t.plan.lists) over ∙ ap (λ (l : Lists). One (last_of l)) one
-made_lists g (Some (MakeStripe volume slice)) old next places made one = ap (λ (p : Plan). p.lists) made.0.1 ∙ one

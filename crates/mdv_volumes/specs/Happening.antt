@@ -38,6 +38,9 @@ IsLater (log.Issued identity) = ⊥
 IsLater (log.Writing mark asked before table) = Unit {0}
 IsLater log.Written = Unit {0}
 IsLater (log.Told which before) = Unit {0}
+IsLater (log.Placing places) = Unit {0}
+IsLater log.Clearing = Unit {0}
+IsLater log.Gone = Unit {0}
 
 -- an event of the key's current database, which has this identity
 pub record IsOfCurrent (g : Geometry) (databases : List Database) (key : Key) (identity : Identity) (e : log.Event) : Type 0 where

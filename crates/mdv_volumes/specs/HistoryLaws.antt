@@ -20,6 +20,9 @@ AsksTable (log.Writing mark None before other) table = ⊥
 AsksTable (log.Writing mark (Some change) before other) table = other ≡ table
 AsksTable log.Written table = ⊥
 AsksTable (log.Told which before) table = ⊥
+AsksTable (log.Placing places) table = ⊥
+AsksTable log.Clearing table = ⊥
+AsksTable log.Gone table = ⊥
 
 -- one of them begins it
 abbrev pub IsAsked : List log.Event → Table → Type 0
@@ -128,6 +131,9 @@ lifted key identity (log.Issued other ∷ es) = lifted key identity es
 lifted key identity (log.Writing mark asked before table ∷ es) = OfDatabase key identity (log.Writing mark asked before table) ∷ lifted key identity es
 lifted key identity (log.Written ∷ es) = OfDatabase key identity log.Written ∷ lifted key identity es
 lifted key identity (log.Told which before ∷ es) = OfDatabase key identity (log.Told which before) ∷ lifted key identity es
+lifted key identity (log.Placing places ∷ es) = OfDatabase key identity (log.Placing places) ∷ lifted key identity es
+lifted key identity (log.Clearing ∷ es) = OfDatabase key identity log.Clearing ∷ lifted key identity es
+lifted key identity (log.Gone ∷ es) = OfDatabase key identity log.Gone ∷ lifted key identity es
 
 abbrev pub identity_in : Option Database → Identity
 identity_in None = record { fresh = 0; number = 0 }

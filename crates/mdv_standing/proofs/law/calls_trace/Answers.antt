@@ -17,8 +17,8 @@ returns c = record {
     slotting = λ read site identity log t m line k first head slot mark table bytes body by_majority took at is_body above spare n. traced_slotting (Reads read) site identity log t line k first head mark table bytes body by_majority took at is_body above n m slot spare;
     slotted = λ read site identity log t m line k first head slot mark table bytes body by_majority took at is_body above n. traced_slotted (Reads read) site identity log t line k first head mark table bytes body by_majority took at is_body above n m slot;
     answered = λ read site identity log t mark table by_majority took. traced_answer (Reads read) site identity log t mark table by_majority took;
-    may = λ read g site identity log t line k first head mark table next n asked took at made lists change small. may_change (Reads read) site identity log t line k first head mark table next asked took at lists small n g made change;
-    changes = λ read site identity log t line k first head mark table next n asked took at lists small. traced_change (Reads read) site identity log t line k first head mark table next asked took at lists small n;
+    may = λ read g site identity log t line k first head mark table next n asked took at made lists change small. may_change (Reads read) site identity log t line k first head mark table next asked took at n lists small g made change;
+    changes = λ read site identity log t line k first head mark table next n asked took at lists small. traced_change (Reads read) site identity log t line k first head mark table next asked took at n lists small;
   };
   creations = record {
     none = λ read site identity log t none. none_started (Reads read) site identity log t none;

@@ -6,6 +6,6 @@ pub returns : goal.returns
 returns c = record {
   claims = λ read g key identity log w old new other line k first head number is small world. claims_leave (Reads read) g key identity log w old new other line k first head is world number small;
   slots = λ read g key identity log w old new other line k first head slot mark bytes body is table world. slots_leave (Reads read) g key identity log w old new other line k first head is world slot mark bytes body table;
-  first_formats = λ read g key identity log w old new other its line blocks count number before sound another f known world none. first_formats_take (Reads read) g key identity log w old new other its line sound another world none blocks count number before f known;
-  later_formats = λ read g key identity log w old new other its line k number first sound another some f has world none. later_formats_take (Reads read) g key identity log w old new other its line sound another world none k number first some f has;
+  first_formats = λ read g key identity log w old new other its line blocks count number before sound another f known world lives none. first_formats_take (Reads read) g key identity log w old new other its line sound another world lives none blocks count number before f known;
+  later_formats = λ read g key identity log w old new other its line k number first sound another some f has world lives none. later_formats_take (Reads read) g key identity log w old new other its line sound another world lives none k number first some f has;
 }

@@ -11,7 +11,7 @@ returns c = record {
     cleared = λ site t m line blocks count leaves image is. (let from = leaves image is in no_first_now site line blocks count from.0 image from.2);
     later = λ read g all key identity lines t m line blocks count k sound has within none clear. clears_later read g all key identity lines t m clear sound line blocks count k has within none;
     still = λ site t m line at none leaves image is. (let from = leaves image is in no_first_still site line at from.0 image from.2 (none from.0 from.1));
-    stands = λ read g all d lines t has empty clear. clear_stands read g all d lines t has empty clear;
+    stands = λ read g all d lines t has empty lives clear. clear_stands read g all d lines t has empty lives clear;
   };
   blanks = record {
     wiping = λ t m line blocks from count at blank leaves image is. (let was = leaves image is in blank_wiping line blocks from count was.0 image at was.2 (blank was.0 was.1));

@@ -1,7 +1,11 @@
-use Rattle.std.proofs.Common.{◌∙◌, ℕ, length, nat_eq, ap}
+use Rattle.std.proofs.Common.{◌∙◌, ℕ, length, nat_eq, ap, subst}
 use Rattle.mdv_shelf.specs.Shelves.{DriveFailures}
 use Rattle.mdv_store.specs.Seats.{active_of}
-use Rattle.mdv_store.proofs.Rewrites.{all_took, as_needed, both_kept, claimed_laid, claimed_room, done_answer, done_counted, done_end, done_open, first_answer, first_counted, first_moments, first_synced, lost_answer, lost_counted, room_short, second_moments, second_synced}
+use Rattle.mdv_standing.specs.Adopting.{drawn}
+use Rattle.mdv_store.specs.Settling.{CameOfSettling}
+use Rattle.mdv_store.specs.declared.seats.Need.{Need}
+use Rattle.mdv_store.proofs.Anew.{anew_laid, anew_open, two_draft, one_answer, one_counted, one_end, two_answer, two_counted, two_end, two_kept, two_moments, two_synced}
+use Rattle.mdv_store.proofs.Rewrites.{as_needed, both_kept, claimed_laid, claimed_room, first_answer, first_counted, first_moments, first_synced, lost_answer, lost_counted, room_short, second_moments, second_synced, twice}
 use Rattle.mdv_store.proofs.booting.rewrite.Goals as goal
 
 pub returns-in-Some-clause-answer : goal.returns-in-Some-clause-answer
@@ -81,58 +85,145 @@ returns-in-Some-short-clause-counted g c =
           slotted.moments slotted.end slotted.passed slotted.kept,
     )
 
-pub invariant_of-result : goal.invariant_of-result
-invariant_of-result g c =
+pub opened-requires : goal.opened-requires
+opened-requires g c =
     let claimed = c.claim_all.ensures in
     let slotted = c.slot_all.ensures in
-    done_open c.args.hand c.args.table c.requires.ready (DriveFailures g.S.Shelf c.args.shelf.now c.slot_all.new.shelf) c.spell-text.result.bytes c.args.key.now c.slot_all.new.seats (all_took g.S.Shelf c.args.key.now c.args.hand c.args.table c.requires.ready c.args.shelf.now c.claim_all.new.shelf c.claim_all.new.seats claimed.left claimed.moments claimed.end claimed.passed claimed.kept
+    let w = twice g.S.Shelf c.args.key.now c.args.hand c.args.table c.requires.ready c.args.shelf.now c.claim_all.new.shelf c.claim_all.new.seats claimed.left claimed.moments claimed.end claimed.passed claimed.kept
     (as_needed c.args.key.now _ c.claim_all.new.seats _ c.args.table.plan.lists _ c.need_of-need.ensures c.as_slice-2.ensures c.short.ensures ∙ c.in_default.is) c.spell-text.result.bytes c.spell-text.result.body.now c.spell-text.ensures.spelled c.slot_all.new.shelf c.slot_all.new.seats slotted.left
     slotted.moments slotted.end slotted.passed slotted.kept
-    (as_needed c.args.key.now _ c.slot_all.new.seats _ c.args.table.plan.lists _ c.need_of-need.ensures c.as_slice-3.ensures c.short-2.ensures ∙ c.in_default-short.is)) _ c.requires.ready.whole
+    (as_needed c.args.key.now _ c.slot_all.new.seats _ c.args.table.plan.lists _ c.need_of-need.ensures c.as_slice-3.ensures c.short-2.ensures ∙ c.in_default-short.is) in
+    let calm = ap (λ (n : ℕ). nat_eq n c.active-readable.result) (c.active.ensures ∙ ap active_of c.as_slice-4.ensures) ∙ ap (λ (n : ℕ). nat_eq (active_of c.slot_all.new.seats) n) (c.active-readable.ensures ∙ ap active_of c.as_slice.ensures) in
+    record { «open» = anew_open g.S.Shelf c.args.key.now c.args.hand c.args.table c.requires.ready c.args.shelf.now c.slot_all.new.shelf c.slot_all.new.seats w _ c.requires.ready.whole }
 
-pub returns-clause-answer : goal.returns-clause-answer
-returns-clause-answer g c =
+pub settle-requires-clause-laid : goal.settle-requires-clause-laid
+settle-requires-clause-laid g c =
     let claimed = c.claim_all.ensures in
     let slotted = c.slot_all.ensures in
-    done_answer g.S.Shelf c.args.key.now c.args.hand c.args.table c.requires.ready c.args.shelf.now c.claim_all.new.shelf c.claim_all.new.seats claimed.left claimed.moments claimed.end claimed.passed claimed.kept
+    let w = twice g.S.Shelf c.args.key.now c.args.hand c.args.table c.requires.ready c.args.shelf.now c.claim_all.new.shelf c.claim_all.new.seats claimed.left claimed.moments claimed.end claimed.passed claimed.kept
     (as_needed c.args.key.now _ c.claim_all.new.seats _ c.args.table.plan.lists _ c.need_of-need.ensures c.as_slice-2.ensures c.short.ensures ∙ c.in_default.is) c.spell-text.result.bytes c.spell-text.result.body.now c.spell-text.ensures.spelled c.slot_all.new.shelf c.slot_all.new.seats slotted.left
     slotted.moments slotted.end slotted.passed slotted.kept
-    (as_needed c.args.key.now _ c.slot_all.new.seats _ c.args.table.plan.lists _ c.need_of-need.ensures c.as_slice-3.ensures c.short-2.ensures ∙ c.in_default-short.is) _ (ap (λ (n : ℕ). nat_eq n c.active-readable.result) (c.active.ensures ∙ ap active_of c.as_slice-4.ensures) ∙ ap (λ (n : ℕ). nat_eq (active_of c.slot_all.new.seats) n) (c.active-readable.ensures ∙ ap active_of c.as_slice.ensures))
+    (as_needed c.args.key.now _ c.slot_all.new.seats _ c.args.table.plan.lists _ c.need_of-need.ensures c.as_slice-3.ensures c.short-2.ensures ∙ c.in_default-short.is) in
+    let calm = ap (λ (n : ℕ). nat_eq n c.active-readable.result) (c.active.ensures ∙ ap active_of c.as_slice-4.ensures) ∙ ap (λ (n : ℕ). nat_eq (active_of c.slot_all.new.seats) n) (c.active-readable.ensures ∙ ap active_of c.as_slice.ensures) in
+    anew_laid g.S.Shelf c.args.key.now c.args.hand c.args.table c.requires.ready c.args.shelf.now c.slot_all.new.shelf c.slot_all.new.seats w (g.S.Shelf.sizes c.args.shelf.now) (g.S.Shelf.sizes c.slot_all.new.shelf) w.kept.keeps.same_sizes c.requires.laid
 
-pub returns-clause-moments : goal.returns-clause-moments
-returns-clause-moments g c =
+pub settle-requires-clause-draft : goal.settle-requires-clause-draft
+settle-requires-clause-draft g c =
     let claimed = c.claim_all.ensures in
     let slotted = c.slot_all.ensures in
-    second_moments g.S.Shelf c.args.key.now c.args.hand c.args.table c.requires.ready c.args.shelf.now c.claim_all.new.shelf c.claim_all.new.seats claimed.left claimed.moments claimed.end claimed.passed claimed.kept
+    let w = twice g.S.Shelf c.args.key.now c.args.hand c.args.table c.requires.ready c.args.shelf.now c.claim_all.new.shelf c.claim_all.new.seats claimed.left claimed.moments claimed.end claimed.passed claimed.kept
     (as_needed c.args.key.now _ c.claim_all.new.seats _ c.args.table.plan.lists _ c.need_of-need.ensures c.as_slice-2.ensures c.short.ensures ∙ c.in_default.is) c.spell-text.result.bytes c.spell-text.result.body.now c.spell-text.ensures.spelled c.slot_all.new.shelf c.slot_all.new.seats slotted.left
     slotted.moments slotted.end slotted.passed slotted.kept
+    (as_needed c.args.key.now _ c.slot_all.new.seats _ c.args.table.plan.lists _ c.need_of-need.ensures c.as_slice-3.ensures c.short-2.ensures ∙ c.in_default-short.is) in
+    let calm = ap (λ (n : ℕ). nat_eq n c.active-readable.result) (c.active.ensures ∙ ap active_of c.as_slice-4.ensures) ∙ ap (λ (n : ℕ). nat_eq (active_of c.slot_all.new.seats) n) (c.active-readable.ensures ∙ ap active_of c.as_slice.ensures) in
+    two_draft g.S.Shelf c.args.key.now c.args.hand c.args.table c.requires.ready c.args.shelf.now c.slot_all.new.shelf c.slot_all.new.seats w c.in-Two.field-0 c.in-Two.field-1 c.in-Two.is _ c.requires.ready.whole
 
-pub returns-clause-end : goal.returns-clause-end
-returns-clause-end g c =
+pub returns-in-One-clause-answer : goal.returns-in-One-clause-answer
+returns-in-One-clause-answer g c =
     let claimed = c.claim_all.ensures in
     let slotted = c.slot_all.ensures in
-    done_end g.S.Shelf c.args.key.now c.args.hand c.args.table c.requires.ready c.args.shelf.now c.claim_all.new.shelf c.claim_all.new.seats claimed.left claimed.moments claimed.end claimed.passed claimed.kept
+    let w = twice g.S.Shelf c.args.key.now c.args.hand c.args.table c.requires.ready c.args.shelf.now c.claim_all.new.shelf c.claim_all.new.seats claimed.left claimed.moments claimed.end claimed.passed claimed.kept
     (as_needed c.args.key.now _ c.claim_all.new.seats _ c.args.table.plan.lists _ c.need_of-need.ensures c.as_slice-2.ensures c.short.ensures ∙ c.in_default.is) c.spell-text.result.bytes c.spell-text.result.body.now c.spell-text.ensures.spelled c.slot_all.new.shelf c.slot_all.new.seats slotted.left
     slotted.moments slotted.end slotted.passed slotted.kept
-    (as_needed c.args.key.now _ c.slot_all.new.seats _ c.args.table.plan.lists _ c.need_of-need.ensures c.as_slice-3.ensures c.short-2.ensures ∙ c.in_default-short.is)
+    (as_needed c.args.key.now _ c.slot_all.new.seats _ c.args.table.plan.lists _ c.need_of-need.ensures c.as_slice-3.ensures c.short-2.ensures ∙ c.in_default-short.is) in
+    let calm = ap (λ (n : ℕ). nat_eq n c.active-readable.result) (c.active.ensures ∙ ap active_of c.as_slice-4.ensures) ∙ ap (λ (n : ℕ). nat_eq (active_of c.slot_all.new.seats) n) (c.active-readable.ensures ∙ ap active_of c.as_slice.ensures) in
+    one_answer g.S.Shelf c.args.key.now c.args.hand c.args.table c.requires.ready c.args.shelf.now c.slot_all.new.shelf c.slot_all.new.seats w _ c.in-One.is _ calm c.opened.result c.opened.ensures
 
-pub returns-clause-synced : goal.returns-clause-synced
-returns-clause-synced g c =
+pub returns-in-One-clause-moments : goal.returns-in-One-clause-moments
+returns-in-One-clause-moments g c =
     let claimed = c.claim_all.ensures in
     let slotted = c.slot_all.ensures in
-    second_synced g.S.Shelf c.args.key.now c.args.hand c.args.table c.requires.ready c.args.shelf.now c.claim_all.new.shelf c.claim_all.new.seats claimed.left claimed.moments claimed.end claimed.passed claimed.kept
+    let w = twice g.S.Shelf c.args.key.now c.args.hand c.args.table c.requires.ready c.args.shelf.now c.claim_all.new.shelf c.claim_all.new.seats claimed.left claimed.moments claimed.end claimed.passed claimed.kept
     (as_needed c.args.key.now _ c.claim_all.new.seats _ c.args.table.plan.lists _ c.need_of-need.ensures c.as_slice-2.ensures c.short.ensures ∙ c.in_default.is) c.spell-text.result.bytes c.spell-text.result.body.now c.spell-text.ensures.spelled c.slot_all.new.shelf c.slot_all.new.seats slotted.left
     slotted.moments slotted.end slotted.passed slotted.kept
+    (as_needed c.args.key.now _ c.slot_all.new.seats _ c.args.table.plan.lists _ c.need_of-need.ensures c.as_slice-3.ensures c.short-2.ensures ∙ c.in_default-short.is) in
+    let calm = ap (λ (n : ℕ). nat_eq n c.active-readable.result) (c.active.ensures ∙ ap active_of c.as_slice-4.ensures) ∙ ap (λ (n : ℕ). nat_eq (active_of c.slot_all.new.seats) n) (c.active-readable.ensures ∙ ap active_of c.as_slice.ensures) in
+    w.moments
 
-pub returns-clause-counted : goal.returns-clause-counted
-returns-clause-counted g c =
+pub returns-in-One-clause-end : goal.returns-in-One-clause-end
+returns-in-One-clause-end g c =
     let claimed = c.claim_all.ensures in
-    let slotted = c.slot_all.ensures in (
-      done_counted g.S.Shelf c.args.key.now c.args.hand c.args.table c.requires.ready c.args.shelf.now c.claim_all.new.shelf c.claim_all.new.seats claimed.left claimed.moments claimed.end claimed.passed claimed.kept
-          (as_needed c.args.key.now _ c.claim_all.new.seats _ c.args.table.plan.lists _ c.need_of-need.ensures c.as_slice-2.ensures c.short.ensures ∙ c.in_default.is) c.spell-text.result.bytes c.spell-text.result.body.now c.spell-text.ensures.spelled c.slot_all.new.shelf c.slot_all.new.seats slotted.left
-          slotted.moments slotted.end slotted.passed slotted.kept
-          (as_needed c.args.key.now _ c.slot_all.new.seats _ c.args.table.plan.lists _ c.need_of-need.ensures c.as_slice-3.ensures c.short-2.ensures ∙ c.in_default-short.is) _ (ap (λ (n : ℕ). nat_eq n c.active-readable.result) (c.active.ensures ∙ ap active_of c.as_slice-4.ensures) ∙ ap (λ (n : ℕ). nat_eq (active_of c.slot_all.new.seats) n) (c.active-readable.ensures ∙ ap active_of c.as_slice.ensures)),
-      both_kept g.S.Shelf c.args.key.now c.args.hand c.args.table c.requires.ready c.args.shelf.now c.claim_all.new.shelf c.claim_all.new.seats claimed.left claimed.moments claimed.end claimed.passed claimed.kept
-          (as_needed c.args.key.now _ c.claim_all.new.seats _ c.args.table.plan.lists _ c.need_of-need.ensures c.as_slice-2.ensures c.short.ensures ∙ c.in_default.is) c.spell-text.result.bytes c.spell-text.result.body.now c.spell-text.ensures.spelled c.slot_all.new.shelf c.slot_all.new.seats slotted.left
-          slotted.moments slotted.end slotted.passed slotted.kept,
-    )
+    let slotted = c.slot_all.ensures in
+    let w = twice g.S.Shelf c.args.key.now c.args.hand c.args.table c.requires.ready c.args.shelf.now c.claim_all.new.shelf c.claim_all.new.seats claimed.left claimed.moments claimed.end claimed.passed claimed.kept
+    (as_needed c.args.key.now _ c.claim_all.new.seats _ c.args.table.plan.lists _ c.need_of-need.ensures c.as_slice-2.ensures c.short.ensures ∙ c.in_default.is) c.spell-text.result.bytes c.spell-text.result.body.now c.spell-text.ensures.spelled c.slot_all.new.shelf c.slot_all.new.seats slotted.left
+    slotted.moments slotted.end slotted.passed slotted.kept
+    (as_needed c.args.key.now _ c.slot_all.new.seats _ c.args.table.plan.lists _ c.need_of-need.ensures c.as_slice-3.ensures c.short-2.ensures ∙ c.in_default-short.is) in
+    let calm = ap (λ (n : ℕ). nat_eq n c.active-readable.result) (c.active.ensures ∙ ap active_of c.as_slice-4.ensures) ∙ ap (λ (n : ℕ). nat_eq (active_of c.slot_all.new.seats) n) (c.active-readable.ensures ∙ ap active_of c.as_slice.ensures) in
+    one_end g.S.Shelf c.args.key.now c.args.hand c.args.table c.requires.ready c.args.shelf.now c.slot_all.new.shelf c.slot_all.new.seats w _ c.in-One.is _ calm c.opened.result c.opened.ensures
+
+pub returns-in-One-clause-synced : goal.returns-in-One-clause-synced
+returns-in-One-clause-synced g c =
+    let claimed = c.claim_all.ensures in
+    let slotted = c.slot_all.ensures in
+    let w = twice g.S.Shelf c.args.key.now c.args.hand c.args.table c.requires.ready c.args.shelf.now c.claim_all.new.shelf c.claim_all.new.seats claimed.left claimed.moments claimed.end claimed.passed claimed.kept
+    (as_needed c.args.key.now _ c.claim_all.new.seats _ c.args.table.plan.lists _ c.need_of-need.ensures c.as_slice-2.ensures c.short.ensures ∙ c.in_default.is) c.spell-text.result.bytes c.spell-text.result.body.now c.spell-text.ensures.spelled c.slot_all.new.shelf c.slot_all.new.seats slotted.left
+    slotted.moments slotted.end slotted.passed slotted.kept
+    (as_needed c.args.key.now _ c.slot_all.new.seats _ c.args.table.plan.lists _ c.need_of-need.ensures c.as_slice-3.ensures c.short-2.ensures ∙ c.in_default-short.is) in
+    let calm = ap (λ (n : ℕ). nat_eq n c.active-readable.result) (c.active.ensures ∙ ap active_of c.as_slice-4.ensures) ∙ ap (λ (n : ℕ). nat_eq (active_of c.slot_all.new.seats) n) (c.active-readable.ensures ∙ ap active_of c.as_slice.ensures) in
+    w.synced
+
+pub returns-in-One-clause-counted : goal.returns-in-One-clause-counted
+returns-in-One-clause-counted g c =
+    let claimed = c.claim_all.ensures in
+    let slotted = c.slot_all.ensures in
+    let w = twice g.S.Shelf c.args.key.now c.args.hand c.args.table c.requires.ready c.args.shelf.now c.claim_all.new.shelf c.claim_all.new.seats claimed.left claimed.moments claimed.end claimed.passed claimed.kept
+    (as_needed c.args.key.now _ c.claim_all.new.seats _ c.args.table.plan.lists _ c.need_of-need.ensures c.as_slice-2.ensures c.short.ensures ∙ c.in_default.is) c.spell-text.result.bytes c.spell-text.result.body.now c.spell-text.ensures.spelled c.slot_all.new.shelf c.slot_all.new.seats slotted.left
+    slotted.moments slotted.end slotted.passed slotted.kept
+    (as_needed c.args.key.now _ c.slot_all.new.seats _ c.args.table.plan.lists _ c.need_of-need.ensures c.as_slice-3.ensures c.short-2.ensures ∙ c.in_default-short.is) in
+    let calm = ap (λ (n : ℕ). nat_eq n c.active-readable.result) (c.active.ensures ∙ ap active_of c.as_slice-4.ensures) ∙ ap (λ (n : ℕ). nat_eq (active_of c.slot_all.new.seats) n) (c.active-readable.ensures ∙ ap active_of c.as_slice.ensures) in
+    (one_counted g.S.Shelf c.args.key.now c.args.hand c.args.table c.requires.ready c.args.shelf.now c.slot_all.new.shelf c.slot_all.new.seats w _ c.in-One.is _ calm c.opened.result c.opened.ensures, w.kept)
+
+pub returns-in-Two-clause-answer : goal.returns-in-Two-clause-answer
+returns-in-Two-clause-answer g c =
+    let claimed = c.claim_all.ensures in
+    let slotted = c.slot_all.ensures in
+    let w = twice g.S.Shelf c.args.key.now c.args.hand c.args.table c.requires.ready c.args.shelf.now c.claim_all.new.shelf c.claim_all.new.seats claimed.left claimed.moments claimed.end claimed.passed claimed.kept
+    (as_needed c.args.key.now _ c.claim_all.new.seats _ c.args.table.plan.lists _ c.need_of-need.ensures c.as_slice-2.ensures c.short.ensures ∙ c.in_default.is) c.spell-text.result.bytes c.spell-text.result.body.now c.spell-text.ensures.spelled c.slot_all.new.shelf c.slot_all.new.seats slotted.left
+    slotted.moments slotted.end slotted.passed slotted.kept
+    (as_needed c.args.key.now _ c.slot_all.new.seats _ c.args.table.plan.lists _ c.need_of-need.ensures c.as_slice-3.ensures c.short-2.ensures ∙ c.in_default-short.is) in
+    let calm = ap (λ (n : ℕ). nat_eq n c.active-readable.result) (c.active.ensures ∙ ap active_of c.as_slice-4.ensures) ∙ ap (λ (n : ℕ). nat_eq (active_of c.slot_all.new.seats) n) (c.active-readable.ensures ∙ ap active_of c.as_slice.ensures) in
+    two_answer g.S.Shelf c.args.key.now c.args.hand c.args.table c.requires.ready c.args.shelf.now c.slot_all.new.shelf c.slot_all.new.seats w _ _ c.in-Two.is c.settle.new.shelf c.settle.ensures.now c.settle.ensures.wrote _ calm c.settle.result (subst (λ (n : Need). CameOfSettling n (record { key = c.args.key.now; identity = c.args.hand.identity; mark = drawn c.args.hand.number; table = c.args.table; seats = c.slot_all.new.seats; room = c.args.hand.room }) c.settle.ensures.now (nat_eq c.active.result c.active-readable.result) c.settle.result) c.need_of-need.ensures c.settle.ensures.came)
+
+pub returns-in-Two-clause-moments : goal.returns-in-Two-clause-moments
+returns-in-Two-clause-moments g c =
+    let claimed = c.claim_all.ensures in
+    let slotted = c.slot_all.ensures in
+    let w = twice g.S.Shelf c.args.key.now c.args.hand c.args.table c.requires.ready c.args.shelf.now c.claim_all.new.shelf c.claim_all.new.seats claimed.left claimed.moments claimed.end claimed.passed claimed.kept
+    (as_needed c.args.key.now _ c.claim_all.new.seats _ c.args.table.plan.lists _ c.need_of-need.ensures c.as_slice-2.ensures c.short.ensures ∙ c.in_default.is) c.spell-text.result.bytes c.spell-text.result.body.now c.spell-text.ensures.spelled c.slot_all.new.shelf c.slot_all.new.seats slotted.left
+    slotted.moments slotted.end slotted.passed slotted.kept
+    (as_needed c.args.key.now _ c.slot_all.new.seats _ c.args.table.plan.lists _ c.need_of-need.ensures c.as_slice-3.ensures c.short-2.ensures ∙ c.in_default-short.is) in
+    let calm = ap (λ (n : ℕ). nat_eq n c.active-readable.result) (c.active.ensures ∙ ap active_of c.as_slice-4.ensures) ∙ ap (λ (n : ℕ). nat_eq (active_of c.slot_all.new.seats) n) (c.active-readable.ensures ∙ ap active_of c.as_slice.ensures) in
+    two_moments g.S.Shelf c.args.key.now c.args.hand c.args.table c.requires.ready c.args.shelf.now c.slot_all.new.shelf c.slot_all.new.seats w _ _ c.in-Two.is c.settle.new.shelf c.settle.ensures.now c.settle.ensures.wrote
+
+pub returns-in-Two-clause-end : goal.returns-in-Two-clause-end
+returns-in-Two-clause-end g c =
+    let claimed = c.claim_all.ensures in
+    let slotted = c.slot_all.ensures in
+    let w = twice g.S.Shelf c.args.key.now c.args.hand c.args.table c.requires.ready c.args.shelf.now c.claim_all.new.shelf c.claim_all.new.seats claimed.left claimed.moments claimed.end claimed.passed claimed.kept
+    (as_needed c.args.key.now _ c.claim_all.new.seats _ c.args.table.plan.lists _ c.need_of-need.ensures c.as_slice-2.ensures c.short.ensures ∙ c.in_default.is) c.spell-text.result.bytes c.spell-text.result.body.now c.spell-text.ensures.spelled c.slot_all.new.shelf c.slot_all.new.seats slotted.left
+    slotted.moments slotted.end slotted.passed slotted.kept
+    (as_needed c.args.key.now _ c.slot_all.new.seats _ c.args.table.plan.lists _ c.need_of-need.ensures c.as_slice-3.ensures c.short-2.ensures ∙ c.in_default-short.is) in
+    let calm = ap (λ (n : ℕ). nat_eq n c.active-readable.result) (c.active.ensures ∙ ap active_of c.as_slice-4.ensures) ∙ ap (λ (n : ℕ). nat_eq (active_of c.slot_all.new.seats) n) (c.active-readable.ensures ∙ ap active_of c.as_slice.ensures) in
+    two_end g.S.Shelf c.args.key.now c.args.hand c.args.table c.requires.ready c.args.shelf.now c.slot_all.new.shelf c.slot_all.new.seats w _ _ c.in-Two.is c.settle.new.shelf c.settle.ensures.now c.settle.ensures.wrote _ calm c.settle.result (subst (λ (n : Need). CameOfSettling n (record { key = c.args.key.now; identity = c.args.hand.identity; mark = drawn c.args.hand.number; table = c.args.table; seats = c.slot_all.new.seats; room = c.args.hand.room }) c.settle.ensures.now (nat_eq c.active.result c.active-readable.result) c.settle.result) c.need_of-need.ensures c.settle.ensures.came)
+
+pub returns-in-Two-clause-synced : goal.returns-in-Two-clause-synced
+returns-in-Two-clause-synced g c =
+    let claimed = c.claim_all.ensures in
+    let slotted = c.slot_all.ensures in
+    let w = twice g.S.Shelf c.args.key.now c.args.hand c.args.table c.requires.ready c.args.shelf.now c.claim_all.new.shelf c.claim_all.new.seats claimed.left claimed.moments claimed.end claimed.passed claimed.kept
+    (as_needed c.args.key.now _ c.claim_all.new.seats _ c.args.table.plan.lists _ c.need_of-need.ensures c.as_slice-2.ensures c.short.ensures ∙ c.in_default.is) c.spell-text.result.bytes c.spell-text.result.body.now c.spell-text.ensures.spelled c.slot_all.new.shelf c.slot_all.new.seats slotted.left
+    slotted.moments slotted.end slotted.passed slotted.kept
+    (as_needed c.args.key.now _ c.slot_all.new.seats _ c.args.table.plan.lists _ c.need_of-need.ensures c.as_slice-3.ensures c.short-2.ensures ∙ c.in_default-short.is) in
+    let calm = ap (λ (n : ℕ). nat_eq n c.active-readable.result) (c.active.ensures ∙ ap active_of c.as_slice-4.ensures) ∙ ap (λ (n : ℕ). nat_eq (active_of c.slot_all.new.seats) n) (c.active-readable.ensures ∙ ap active_of c.as_slice.ensures) in
+    two_synced g.S.Shelf c.args.key.now c.args.hand c.args.table c.requires.ready c.args.shelf.now c.slot_all.new.shelf c.slot_all.new.seats w _ _ c.in-Two.is c.settle.new.shelf c.settle.ensures.now c.settle.ensures.wrote
+
+pub returns-in-Two-clause-counted : goal.returns-in-Two-clause-counted
+returns-in-Two-clause-counted g c =
+    let claimed = c.claim_all.ensures in
+    let slotted = c.slot_all.ensures in
+    let w = twice g.S.Shelf c.args.key.now c.args.hand c.args.table c.requires.ready c.args.shelf.now c.claim_all.new.shelf c.claim_all.new.seats claimed.left claimed.moments claimed.end claimed.passed claimed.kept
+    (as_needed c.args.key.now _ c.claim_all.new.seats _ c.args.table.plan.lists _ c.need_of-need.ensures c.as_slice-2.ensures c.short.ensures ∙ c.in_default.is) c.spell-text.result.bytes c.spell-text.result.body.now c.spell-text.ensures.spelled c.slot_all.new.shelf c.slot_all.new.seats slotted.left
+    slotted.moments slotted.end slotted.passed slotted.kept
+    (as_needed c.args.key.now _ c.slot_all.new.seats _ c.args.table.plan.lists _ c.need_of-need.ensures c.as_slice-3.ensures c.short-2.ensures ∙ c.in_default-short.is) in
+    let calm = ap (λ (n : ℕ). nat_eq n c.active-readable.result) (c.active.ensures ∙ ap active_of c.as_slice-4.ensures) ∙ ap (λ (n : ℕ). nat_eq (active_of c.slot_all.new.seats) n) (c.active-readable.ensures ∙ ap active_of c.as_slice.ensures) in
+    (two_counted g.S.Shelf c.args.key.now c.args.hand c.args.table c.requires.ready c.args.shelf.now c.slot_all.new.shelf c.slot_all.new.seats w _ _ c.in-Two.is c.settle.new.shelf c.settle.ensures.now c.settle.ensures.wrote _ calm c.settle.result (subst (λ (n : Need). CameOfSettling n (record { key = c.args.key.now; identity = c.args.hand.identity; mark = drawn c.args.hand.number; table = c.args.table; seats = c.slot_all.new.seats; room = c.args.hand.room }) c.settle.ensures.now (nat_eq c.active.result c.active-readable.result) c.settle.result) c.need_of-need.ensures c.settle.ensures.came), two_kept g.S.Shelf c.args.key.now c.args.hand c.args.table c.requires.ready c.args.shelf.now c.slot_all.new.shelf c.slot_all.new.seats w _ _ c.in-Two.is c.settle.new.shelf c.settle.ensures.now c.settle.ensures.wrote)

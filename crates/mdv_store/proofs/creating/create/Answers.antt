@@ -3,10 +3,11 @@ use Rattle.std.proofs.lemmas.Result.{err_from_is_err_and}
 use Rattle.mdv_shelf.specs.Drives.{KeptAmong}
 use Rattle.mdv_shelf.specs.Shelves.{AtEachTale, AtEnd, DriveFailures}
 use Rattle.mdv_standing.specs.Creating.{first_mark}
-use Rattle.mdv_store.specs.Acts.{HaveGone, HaveStopped, blanks_asked, forms_asked}
+use Rattle.mdv_acts.specs.Acts.{HaveGone, HaveStopped, blanks_asked, forms_asked}
 use Rattle.mdv_store.specs.Below.{Table, places_of, record_text}
 use Rattle.mdv_store.specs.Counts.{ArePassCounted}
-use Rattle.mdv_store.specs.Create.{CreateEnds, IsCreated, IsCreationCounted, drives_asked, seats_asked, table_of}
+use Rattle.mdv_acts.specs.Asked.{drives_asked}
+use Rattle.mdv_store.specs.Create.{CreateEnds, IsCreated, IsCreationCounted, seats_asked, table_of}
 use Rattle.mdv_store.specs.Opened.{IsOpen, least_room}
 use Rattle.mdv_store.specs.Seats.{AreLaid, AreLeft, HaveRoom, TakesSlot, drives_of}
 use Rattle.mdv_store.specs.Shares.{short_of}
@@ -15,7 +16,7 @@ use Rattle.mdv_store.specs.Text.{blocks_for}
 use Rattle.mdv_store.specs.Writing.{WereWritten, WritingEnds, WritingMoment, text_size}
 use Rattle.mdv_store.specs.declared.creating.CreateFault.{CreateFault}
 use Rattle.mdv_store.specs.declared.seats.Seat.{Seat}
-use Rattle.mdv_store.proofs.Acting.{gone_then, stopped_front, stopped_then}
+use Rattle.mdv_acts.proofs.Acting.{gone_then, stopped_front, stopped_then}
 use Rattle.mdv_store.proofs.Given.{IsOwner}
 use Rattle.mdv_store.proofs.Making.{all_kept, lost_counted, lost_created, lost_end, made_counted, made_created, made_end, made_open, memory_created, memory_moments, stopped_counted, stopped_created, stopped_end, stopped_moments, written_moments}
 use Rattle.mdv_record.proofs.Rooms.{room_most}
@@ -51,8 +52,8 @@ table_asked-table-requires g c =
     (let few = c.requires.asked.few in omega (arith, asked_length c.args.key.now c.args.identity c.args.count c.args.blocks c.args.lines.now, few))
 
 -- a call failed while masters were blanked
-cleared : (g : _) (c : After-clear_all g) → HaveStopped g.S.Shelf c.args.shelf.now c.clear_all.new.shelf (drives_asked c.args.lines.now) (blanks_asked c.args.lines.now c.args.count c.args.blocks) → HaveStopped g.S.Shelf c.args.shelf.now c.clear_all.new.shelf (drives_asked c.args.lines.now) ((blanks_asked c.args.lines.now c.args.count c.args.blocks) ++ (forms_asked c.args.key.now c.args.identity c.args.lines.now c.args.count c.args.blocks))
-cleared g c stopped = stopped_front g.S.Shelf (drives_asked c.args.lines.now) (blanks_asked c.args.lines.now c.args.count c.args.blocks) (forms_asked c.args.key.now c.args.identity c.args.lines.now c.args.count c.args.blocks) c.args.shelf.now c.clear_all.new.shelf stopped
+cleared : (g : _) (c : After-clear_all g) → HaveStopped g.S.Shelf c.args.shelf.now c.clear_all.new.shelf (drives_asked c.args.lines.now) (blanks_asked c.args.lines.now c.args.count c.args.blocks) → HaveStopped g.S.Shelf c.args.shelf.now c.clear_all.new.shelf (drives_asked c.args.lines.now) ((blanks_asked c.args.lines.now c.args.count c.args.blocks) ++ (forms_asked c.args.key.now c.args.identity 1 c.args.lines.now c.args.count c.args.blocks))
+cleared g c stopped = stopped_front g.S.Shelf (drives_asked c.args.lines.now) (blanks_asked c.args.lines.now c.args.count c.args.blocks) (forms_asked c.args.key.now c.args.identity 1 c.args.lines.now c.args.count c.args.blocks) c.args.shelf.now c.clear_all.new.shelf stopped
 
 pub returns-in_err-clear_all-clause-moments : goal.returns-in_err-clear_all-clause-moments
 returns-in_err-clear_all-clause-moments g c = stopped_moments g.S.Shelf c.args.key.now c.args.identity c.args.lines.now c.args.count c.args.blocks c.args.shelf.now c.requires.asked (owner g (goal.at.returns-in_err-clear_all-clause-moments g c).After-check_owner) c.clear_all.new.shelf (cleared g (goal.at.returns-in_err-clear_all-clause-moments g c).After-clear_all c.in_err-clear_all.ensures.stopped)
@@ -73,9 +74,9 @@ returns-in_err-clear_all-clause-counted g c =
     rw (p.1, p.2) (stopped_counted g.S.Shelf c.args.key.now c.args.identity c.args.lines.now c.args.count c.args.blocks c.args.shelf.now c.requires.asked (owner g (goal.at.returns-in_err-clear_all-clause-counted g c).After-check_owner) c.clear_all.new.shelf (cleared g (goal.at.returns-in_err-clear_all-clause-counted g c).After-clear_all c.in_err-clear_all.ensures.stopped))
 
 -- or while places were formatted
-halted : (g : _) (c : After-format_all g) → HaveGone g.S.Shelf c.args.shelf.now c.clear_all.new.shelf (drives_asked c.args.lines.now) (blanks_asked c.args.lines.now c.args.count c.args.blocks) → HaveStopped g.S.Shelf c.clear_all.new.shelf c.format_all.new.shelf (drives_asked c.args.lines.now) (forms_asked c.args.key.now c.args.identity c.args.lines.now c.args.count c.args.blocks)
-    → HaveStopped g.S.Shelf c.args.shelf.now c.format_all.new.shelf (drives_asked c.args.lines.now) ((blanks_asked c.args.lines.now c.args.count c.args.blocks) ++ (forms_asked c.args.key.now c.args.identity c.args.lines.now c.args.count c.args.blocks))
-halted g c gone stopped = stopped_then g.S.Shelf (drives_asked c.args.lines.now) (blanks_asked c.args.lines.now c.args.count c.args.blocks) (forms_asked c.args.key.now c.args.identity c.args.lines.now c.args.count c.args.blocks) c.args.shelf.now c.clear_all.new.shelf c.format_all.new.shelf gone stopped
+halted : (g : _) (c : After-format_all g) → HaveGone g.S.Shelf c.args.shelf.now c.clear_all.new.shelf (drives_asked c.args.lines.now) (blanks_asked c.args.lines.now c.args.count c.args.blocks) → HaveStopped g.S.Shelf c.clear_all.new.shelf c.format_all.new.shelf (drives_asked c.args.lines.now) (forms_asked c.args.key.now c.args.identity 1 c.args.lines.now c.args.count c.args.blocks)
+    → HaveStopped g.S.Shelf c.args.shelf.now c.format_all.new.shelf (drives_asked c.args.lines.now) ((blanks_asked c.args.lines.now c.args.count c.args.blocks) ++ (forms_asked c.args.key.now c.args.identity 1 c.args.lines.now c.args.count c.args.blocks))
+halted g c gone stopped = stopped_then g.S.Shelf (drives_asked c.args.lines.now) (blanks_asked c.args.lines.now c.args.count c.args.blocks) (forms_asked c.args.key.now c.args.identity 1 c.args.lines.now c.args.count c.args.blocks) c.args.shelf.now c.clear_all.new.shelf c.format_all.new.shelf gone stopped
 
 pub returns-in_err-format_all-clause-moments : goal.returns-in_err-format_all-clause-moments
 returns-in_err-format_all-clause-moments g c = stopped_moments g.S.Shelf c.args.key.now c.args.identity c.args.lines.now c.args.count c.args.blocks c.args.shelf.now c.requires.asked (owner g (goal.at.returns-in_err-format_all-clause-moments g c).After-check_owner) c.format_all.new.shelf (halted g (goal.at.returns-in_err-format_all-clause-moments g c).After-format_all c.in_ok-clear_all.ensures.gone c.in_err-format_all.ensures.stopped)
@@ -126,8 +127,8 @@ least g c = room_asked c.args.key.now c.args.identity c.args.count c.args.blocks
 text : (g : _) (c : After-deref_mut g) → length (record_text (table_of (seats g c))) ≡ 24 + 12 * (length c.args.lines.now * c.args.count)
 text g c = text_asked c.args.key.now c.args.identity c.args.count c.args.blocks c.args.lines.now (sizes g c) c.requires.asked
 
-gone : (g : _) (c : After-deref_mut g) → HaveGone g.S.Shelf c.args.shelf.now c.format_all.new.shelf (drives_asked c.args.lines.now) ((blanks_asked c.args.lines.now c.args.count c.args.blocks) ++ (forms_asked c.args.key.now c.args.identity c.args.lines.now c.args.count c.args.blocks))
-gone g c = gone_then g.S.Shelf (drives_asked c.args.lines.now) (blanks_asked c.args.lines.now c.args.count c.args.blocks) (forms_asked c.args.key.now c.args.identity c.args.lines.now c.args.count c.args.blocks) c.args.shelf.now c.clear_all.new.shelf c.format_all.new.shelf c.in_ok-clear_all.ensures.gone c.in_ok-format_all.ensures.gone
+gone : (g : _) (c : After-deref_mut g) → HaveGone g.S.Shelf c.args.shelf.now c.format_all.new.shelf (drives_asked c.args.lines.now) ((blanks_asked c.args.lines.now c.args.count c.args.blocks) ++ (forms_asked c.args.key.now c.args.identity 1 c.args.lines.now c.args.count c.args.blocks))
+gone g c = gone_then g.S.Shelf (drives_asked c.args.lines.now) (blanks_asked c.args.lines.now c.args.count c.args.blocks) (forms_asked c.args.key.now c.args.identity 1 c.args.lines.now c.args.count c.args.blocks) c.args.shelf.now c.clear_all.new.shelf c.format_all.new.shelf c.in_ok-clear_all.ensures.gone c.in_ok-format_all.ensures.gone
 
 pub write_all-requires-clause-laid : goal.write_all-requires-clause-laid
 write_all-requires-clause-laid g c =

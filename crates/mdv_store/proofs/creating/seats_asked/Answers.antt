@@ -2,7 +2,7 @@ use Rattle.std.proofs.Common.{List, ◌++◌, sym, ◌∙◌, ap, slice_index_or
 use Rattle.mdv_store.specs.Below.{SliceLine}
 use Rattle.mdv_store.specs.Create.{seats_on}
 use Rattle.mdv_store.specs.declared.seats.Seat.{Seat}
-use Rattle.mdv_store.proofs.Acting.{flat_more, no_line}
+use Rattle.mdv_acts.proofs.Acting.{flat_more, no_line}
 use Rattle.mdv_store.proofs.creating.seats_asked.Goals as goal
 
 pub loop-line-preserved : goal.loop-line-preserved

@@ -18,7 +18,7 @@ returns c =
     record {
       replica = replica;
       one_of = subst (λ (l : List Replica). slice_get l newest.replica ≡ Some replica) all (slice_get-get_or rs newest.replica c.index-replicas-newest.result (omega (arith, c.requires, ap length all)));
-      letters_are = so_far_all (seen_at c.args.site.now looked.survey looked.calm identity newest.mark c.blocks_for.result) c.as_slice-place-items.result.now c.loop-place.place-index c.loop-place.was c.loop-place.seen c.loop-place-test.false c.loop-place.invariant
-          ∙ ap (λ (n : ℕ). letters_from (seen_at c.args.site.now looked.survey looked.calm identity newest.mark n) false c.as_slice-place-items.result.now) text
-          ∙ ap (letters_from (seen_at c.args.site.now looked.survey looked.calm identity newest.mark (blocks_for (length (record_text newest.table)))) false) (c.as_slice-place-items.ensures.value ∙ c.each-places.ensures.value);
+      letters_are = so_far_all (seen_at c.args.site.now looked.survey looked.calm identity newest.mark c.blocks_for.result) c.last-place-items.result.now c.loop-place.place-index c.loop-place.was c.loop-place.seen c.loop-place-test.false c.loop-place.invariant
+          ∙ ap (λ (n : ℕ). letters_from (seen_at c.args.site.now looked.survey looked.calm identity newest.mark n) false c.last-place-items.result.now) text
+          ∙ ap (letters_from (seen_at c.args.site.now looked.survey looked.calm identity newest.mark (blocks_for (length (record_text newest.table)))) false) c.last-place-items.ensures.value;
     }

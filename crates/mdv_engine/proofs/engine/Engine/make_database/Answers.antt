@@ -1,5 +1,6 @@
 use Rattle.std.proofs.Common.{Ok, Err, refl, sym, subst, ◌∙◌}
-use Rattle.mdv_store.specs.Create.{CreateEnds, CreateMoment, IsCreated, IsCreationCounted, drives_asked}
+use Rattle.mdv_acts.specs.Asked.{drives_asked}
+use Rattle.mdv_store.specs.Create.{CreateEnds, CreateMoment, IsCreated, IsCreationCounted}
 use Rattle.mdv_shelf.specs.Drives.{KeptAmong}
 use Rattle.mdv_shelf.specs.Shelves.{AtEachTale, AtEnd, DriveFailures}
 use Rattle.mdv_engine_law.specs.Answers.{accepted, refusing}

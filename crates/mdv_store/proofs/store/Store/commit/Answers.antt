@@ -1,4 +1,4 @@
-use Rattle.std.proofs.Common.{◌≡◌, inl, ℕ, List, ◌≤◌, ◌∙◌, None, Err, ap, arith, length, subst, sym, vec_len}
+use Rattle.std.proofs.Common.{◌≡◌, inl, ℕ, List, ◌≤◌, ◌<◌, ◌+◌, ◌^◌, ◌∙◌, None, Err, ap, arith, length, subst, sym, vec_len}
 use Rattle.mdv_shelf.specs.Moments.{Ends, Moments}
 use Rattle.mdv_shelf.specs.Shelves.{AtEnd, DriveFailures}
 use Rattle.mdv_store.specs.Below.{Failures, Geometry, IsOfGeometry, record_text}
@@ -10,7 +10,7 @@ use Rattle.mdv_store.specs.Writing.{AreWrittenBy, WritingEnds}
 use Rattle.mdv_store.specs.declared.seats.Need.TheVariants.{Half}
 use Rattle.mdv_store.specs.declared.seats.Seat.{Seat}
 use Rattle.mdv_store.specs.declared.store.CommitFault.{CommitFault}
-use Rattle.mdv_store.proofs.Committing.{IsCommitting, commit_ends, commit_moments, committed, left_ends, lost_now, lost_open, new_open, none_moments}
+use Rattle.mdv_store.proofs.Committing.{commit_ends, commit_moments, committed, left_ends, lost_now, lost_open, new_open, none_moments}
 use Rattle.mdv_store.proofs.Marks.{slot_laid}
 use Rattle.mdv_store.proofs.Rooms.{have_room}
 use Rattle.mdv_store.proofs.Sitting.{left_laid}
@@ -44,18 +44,18 @@ write_all-requires-clause-some g c =
 abbrev opened : (g : _) → After-write_all g → Opened
 opened g c = record { key = c.self.inside.key; identity = c.self.inside.identity; mark = c.self.inside.mark; table = c.self.inside.table; seats = c.self.inside.seats }
 
-committing : (g : _) (c : After-write_all g) → IsCommitting (opened g c) c.args.next
-committing g c =
-    let half : short_of Half c.self.inside.seats c.self.inside.table.plan.lists ≡ None = subst (λ (o : Opened). shortage o ≡ None) (sym c.self.view_is) (sym c.shortage.ensures ∙ c.in_default.is) in
-    record {
-      seats = c.self.invariant.seats;
-      boot = c.self.invariant.boot;
-      small = omega arith;
-      half = half;
-      none_above = c.self.invariant.marks half;
-      lists = c.requires.lists ∙ ap (λ (o : Opened). o.table.plan.lists) (sym c.self.view_is);
-      fits = subst (λ (o : Opened). length (record_text c.args.next) ≤ room_in o.table) (sym c.self.view_is) c.in_ok-check_room.ensures.ok;
-    }
+-- at least half of each of its lists is active
+half : (g : _) (c : After-write_all g) → shortage (opened g c) ≡ None
+half g c = subst (λ (o : Opened). shortage o ≡ None) (sym c.self.view_is) (sym c.shortage.ensures ∙ c.in_default.is)
+
+lists : (g : _) (c : After-write_all g) → c.args.next.plan.lists ≡ (opened g c).table.plan.lists
+lists g c = c.requires.lists ∙ ap (λ (o : Opened). o.table.plan.lists) (sym c.self.view_is)
+
+fits : (g : _) (c : After-write_all g) → length (record_text c.args.next) ≤ room_in (opened g c).table
+fits g c = subst (λ (o : Opened). length (record_text c.args.next) ≤ room_in o.table) (sym c.self.view_is) c.in_ok-check_room.ensures.ok
+
+small : (g : _) (c : After-write_all g) → (opened g c).mark.count + 1 < 2 ^ 63
+small g c = omega arith
 
 abbrev failed : (g : _) → After-write_all g → ℕ → Failures
 failed g c = DriveFailures g.S.Shelf c.args.shelf.now c.write_all.new.shelf
@@ -83,23 +83,23 @@ left_show : (g : _) (c : After-write_all g) → AtEnd g.S.Shelf (λ t u. (geomet
     c.args.shelf.now c.write_all.new.shelf
 left_show g c =
     subst (λ (o : Opened). Ends (λ t u. (geometry : Geometry) → IsOfGeometry geometry c.args.next → IsOpenedAt geometry o t → IsOpenedAt geometry (record (opened g c) { mark = next_mark o.mark; table = c.args.next; seats = c.write_all.new.seats }) u) (g.S.Shelf.tale c.args.shelf.now) (g.S.Shelf.tale c.write_all.new.shelf)) c.self.view_is
-    (left_ends (opened g c) c.args.next (committing g c) (failed g c) c.write_all.new.seats c.write_all.ensures.left _ _ c.write_all.ensures.end)
+    (left_ends (opened g c) c.args.next c.self.invariant.seats c.self.invariant.boot (small g c) (half g c) (c.self.invariant.marks (half g c)) (lists g c) (fits g c) (failed g c) c.write_all.new.seats c.write_all.ensures.left _ _ c.write_all.ensures.end)
 
 pub returns-in-Some-short-clause-answer : goal.returns-in-Some-short-clause-answer
 returns-in-Some-short-clause-answer g c =
     let w = (goal.at.returns-in-Some-short-clause-answer g c).After-write_all in
     let few = ap (λ (l : List Seat). short_of Half l c.self.inside.table.plan.lists) (sym c.as_slice.ensures) ∙ sym c.in-Some-short.ensures in
     let new : Opened = record (opened g w) { seats = c.write_all.new.seats } in
-    let now = subst (λ (o : Opened). IsLostNow (failed g w) o new c.args.next) c.self.view_is (lost_now (opened g w) c.args.next (committing g w) (failed g w) c.write_all.new.seats c.write_all.ensures.left) in
+    let now = subst (λ (o : Opened). IsLostNow (failed g w) o new c.args.next) c.self.view_is (lost_now (opened g w) c.args.next c.self.invariant.seats c.self.invariant.boot (small g w) (half g w) (c.self.invariant.marks (half g w)) (lists g w) (fits g w) (failed g w) c.write_all.new.seats c.write_all.ensures.left) in
     record { came = subst (λ (fault : CommitFault). CameOfCommit (failed g w) c.args.self.now new c.args.next (Err fault)) (sym c.lost-in-Some-short.ensures) (few, inl now); laid = laid g w; steps = λ tried. steps g w; passed = λ tried. written g w; shown = λ tried. left_show g w }
 
 pub returns-clause-answer : goal.returns-clause-answer
 returns-clause-answer g c =
     let w = (goal.at.returns-clause-answer g c).After-write_all in
-    let half = ap (λ (l : List Seat). short_of Half l c.self.inside.table.plan.lists) (sym c.as_slice.ensures) ∙ sym c.short.ensures ∙ c.in_default-short.is in
+    let enough = ap (λ (l : List Seat). short_of Half l c.self.inside.table.plan.lists) (sym c.as_slice.ensures) ∙ sym c.short.ensures ∙ c.in_default-short.is in
     let new : Opened = record (opened g w) { mark = next_mark c.self.inside.mark; table = c.args.next; seats = c.write_all.new.seats } in
     record {
-      came = subst (λ (o : Opened). IsCommitted (failed g w) o new c.args.next) c.self.view_is (committed (opened g w) c.args.next (committing g w) (failed g w) c.write_all.new.seats c.write_all.ensures.left half);
+      came = subst (λ (o : Opened). IsCommitted (failed g w) o new c.args.next) c.self.view_is (committed (opened g w) c.args.next c.self.invariant.seats c.self.invariant.boot (small g w) (half g w) (c.self.invariant.marks (half g w)) (lists g w) (fits g w) (failed g w) c.write_all.new.seats c.write_all.ensures.left enough);
       laid = laid g w;
       steps = λ tried. steps g w;
       passed = λ tried. written g w;
@@ -110,7 +110,7 @@ returns-clause-answer g c =
 writing : (g : _) (c : After-write_all g) → Moments (CommitMoment c.args.self.now c.args.next) (g.S.Shelf.tale c.args.shelf.now) (g.S.Shelf.tale c.write_all.new.shelf)
 writing g c =
     subst (λ (o : Opened). Moments (CommitMoment o c.args.next) (g.S.Shelf.tale c.args.shelf.now) (g.S.Shelf.tale c.write_all.new.shelf)) c.self.view_is
-    (commit_moments (opened g c) c.args.next (committing g c) _ _ c.write_all.ensures.moments)
+    (commit_moments (opened g c) c.args.next c.self.invariant.seats c.self.invariant.boot (small g c) (half g c) (c.self.invariant.marks (half g c)) (lists g c) (fits g c) _ _ c.write_all.ensures.moments)
 
 pub returns-in-Some-short-clause-moments : goal.returns-in-Some-short-clause-moments
 returns-in-Some-short-clause-moments g c = writing g (goal.at.returns-in-Some-short-clause-moments g c).After-write_all
@@ -122,17 +122,17 @@ pub invariant_of-self : goal.invariant_of-self
 invariant_of-self g c =
     let w = (goal.at.invariant_of-self g c).After-write_all in
     let few = ap (λ (l : List Seat). short_of Half l c.self.inside.table.plan.lists) (sym c.as_slice.ensures) ∙ sym c.in-Some-short.ensures in
-    lost_open (opened g w) c.args.next (committing g w) (failed g w) c.write_all.new.seats c.write_all.ensures.left (vec_len c.self.inside.room) c.self.invariant.whole c.self.invariant.short c.in-Some-short.share few
+    lost_open (opened g w) c.args.next c.self.invariant.seats c.self.invariant.boot (small g w) (half g w) (c.self.invariant.marks (half g w)) (lists g w) (fits g w) (failed g w) c.write_all.new.seats c.write_all.ensures.left (vec_len c.self.inside.room) c.self.invariant.whole c.self.invariant.short c.in-Some-short.share few
 
 pub invariant_of-self-2 : goal.invariant_of-self-2
 invariant_of-self-2 g c =
     let w = (goal.at.invariant_of-self-2 g c).After-write_all in
-    new_open (opened g w) c.args.next (committing g w) (failed g w) c.write_all.new.seats c.write_all.ensures.left (vec_len c.self.inside.room) c.self.invariant.whole c.self.invariant.short
+    new_open (opened g w) c.args.next c.self.invariant.seats c.self.invariant.boot (small g w) (half g w) (c.self.invariant.marks (half g w)) (lists g w) (fits g w) (failed g w) c.write_all.new.seats c.write_all.ensures.left (vec_len c.self.inside.room) c.self.invariant.whole c.self.invariant.short
 
 pub returns-clause-end : goal.returns-clause-end
 returns-clause-end g c =
     let w = (goal.at.returns-clause-end g c).After-write_all in
-    let half = ap (λ (l : List Seat). short_of Half l c.self.inside.table.plan.lists) (sym c.as_slice.ensures) ∙ sym c.short.ensures ∙ c.in_default-short.is in
+    let enough = ap (λ (l : List Seat). short_of Half l c.self.inside.table.plan.lists) (sym c.as_slice.ensures) ∙ sym c.short.ensures ∙ c.in_default-short.is in
     let new : Opened = record (opened g w) { mark = next_mark c.self.inside.mark; table = c.args.next; seats = c.write_all.new.seats } in
     subst (λ (o : Opened). Ends (CommitDone o new c.args.next) (g.S.Shelf.tale c.args.shelf.now) (g.S.Shelf.tale c.write_all.new.shelf)) c.self.view_is
-    (commit_ends (opened g w) c.args.next (committing g w) (failed g w) c.write_all.new.seats c.write_all.ensures.left _ _ half c.write_all.ensures.end)
+    (commit_ends (opened g w) c.args.next c.self.invariant.seats c.self.invariant.boot (small g w) (half g w) (c.self.invariant.marks (half g w)) (lists g w) (fits g w) (failed g w) c.write_all.new.seats c.write_all.ensures.left _ _ enough c.write_all.ensures.end)

@@ -1,4 +1,0 @@
-use Rattle.mdv_store.proofs.creating.+clear_behind.Given as goal
-
-abbrev pub decreases-clear_behind : goal.decreases-clear_behind
-decreases-clear_behind g l = l.number
