@@ -17,6 +17,7 @@ use Rattle.mdv_store.specs.Seats.{seats_area}
 use Rattle.mdv_store.specs.declared.booting.BootEnd.{BootEnd}
 use Rattle.mdv_store.specs.declared.booting.BootEnd.TheVariants as end
 use Rattle.mdv_store.proofs.Reading.{same_identity_is}
+use Rattle.mdv_store_law.proofs.Anew.{none_again}
 use Rattle.mdv_databases.specs.Below.{Core, CoversWith, Database, Geometry, Identity, IsBlank, IsReadyWith, Key, KeptOutside, Lists, Log, Opened, Seat, Spells, Tale, current_of, log_of, site_of, spots_of}
 use Rattle.mdv_databases.specs.Booting.{IsBootedIn}
 use Rattle.mdv_databases.specs.Going.{GoOn, IsCurrentOf}
@@ -73,7 +74,7 @@ module _ (g : Geometry) (all : List Database) (key : Key) (identity : Identity) 
     worlds = covers_anything (Spells g) (site_of g key) identity (log_of all key) t (its_worlds g all key identity t stand its)
 
     abbrev traced : GoesTraced (Spells g) g (site_of g key) identity [] Anything (AreOfBoot (site_of g key) own read seated) Then After t m (log_of all key)
-    traced = goes (log_of all key) worlds (its_anew g all key identity t stand its).again
+    traced = goes (log_of all key) worlds (none_again (log_of all key) (its_anew g all key identity t stand its))
 
     gone_on : Gone g all key identity [] traced.es Then After m
     gone_on = go_on g all key identity [] Anything (AreOfBoot (site_of g key) own read seated) Then After t m stand its worlds (writes.rest all (rest_of (Spells g) g all t identity stand.worlds)) writes.blank traced

@@ -161,8 +161,8 @@ module _ (g : Geometry) (all : List Database) (key : Key) (identity : Identity) 
     none = λ image is. none_found (Spells g) g all image key identity (c.stand.worlds image is) c.fresh;
     rest = rest_of (Spells g) g now t identity begun_stand.worlds;
     taken = λ line has image is d rest. elim (keys d.key key) [
-      | inl same ↦ inr ((begun_stand.anew d rest.0).lives, subst (λ (k : Key). ShowsNoTable (Spells g) (site_of g k) d.identity image) (sym same) (c.none d.identity image is))
-      | inr differ ↦ elim (apart line has d rest.0 differ) [ inl out ↦ inl out | inr blank ↦ inr ((begun_stand.anew d rest.0).lives, blank image is) ]
+      | inl same ↦ inr (inl ((begun_stand.anew d rest.0).lives, subst (λ (k : Key). ShowsNoTable (Spells g) (site_of g k) d.identity image) (sym same) (c.none d.identity image is)))
+      | inr differ ↦ elim (apart line has d rest.0 differ) [ inl out ↦ inl out | inr blank ↦ inr (inl ((begun_stand.anew d rest.0).lives, blank image is)) ]
     ];
   }
 

@@ -41,7 +41,7 @@ use Rattle.mdv_store.proofs.Rooms.{room_least}
 use Rattle.mdv_store.proofs.Seating.{seats_places}
 use Rattle.mdv_store.proofs.Shares.{in_first, in_last, list_none, list_suffices, lists_none, short_list}
 use Rattle.mdv_store.proofs.Sitting.{contains_behind, contains_first, first_or_behind}
-use Rattle.mdv_store.proofs.Spotting.{line_found}
+use Rattle.mdv_standing.proofs.Named.{line_found}
 use Rattle.mdv_store_law.specs.Log.{Version, is_firm}
 use Rattle.mdv_store.specs.Boot.{IsShort, is_seated, seat_for, seats_of}
 use Rattle.mdv_store.specs.Opened.{least_room}

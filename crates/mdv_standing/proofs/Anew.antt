@@ -1,11 +1,11 @@
 -- As long as no log has two lists of places, each place that a table lists has a replica.
-use Rattle.std.proofs.Common.{◌≡◌, inl, inr, List, [], ◌∷◌, refl, sym, ◌∙◌, ap, subst, Contains, true, ℕ, arith}
+use Rattle.std.proofs.Common.{◌≡◌, List, [], ◌∷◌, refl, sym, ◌∙◌, subst, Contains, true, ℕ, arith}
 use Rattle.std.proofs.lemmas.List.Elements.{All-cons}
 use Rattle.mdv_shown.proofs.Slots.{never_below}
 use Rattle.mdv_store_law.specs.Anew.{IsAnew}
 use Rattle.mdv_store_law.specs.Log.{IsNotOlder, IsRising}
 use Rattle.mdv_table.specs.Plan.{places_of}
-use Rattle.mdv_standing.specs.Below.{Identity, Image, IsBelow, Lists, Log, One, Place, Site, Table, Version}
+use Rattle.mdv_standing.specs.Below.{Identity, Image, IsBelow, Lists, Log, Place, Site, Table, Version}
 use Rattle.mdv_standing.specs.Listed.{HasPlace, HavePlaces}
 
 -- no table is newer than the newest one

@@ -20,7 +20,7 @@ use Rattle.mdv_standing.specs.Below.{Lives, Everywhere, FirstIs, Geometry, HasFi
 use Rattle.mdv_standing.specs.Blanking.{AreBlank, HasNoFirst, IsFormatOn, MayClear}
 use Rattle.mdv_standing.specs.Databases.{Database}
 use Rattle.mdv_standing.specs.Holding.{AllStand, AreKnown, HasWorld}
-use Rattle.mdv_standing.specs.Laws.{HasNone}
+use Rattle.mdv_standing.specs.Laws.{HasNone, ShowsNoTable}
 use Rattle.mdv_standing.specs.Matching.{tables_of}
 use Rattle.mdv_standing.specs.Rest.{HoldsRest, IsRest, MayBeTaken}
 use Rattle.mdv_standing.proofs.Holding.{joined}
@@ -118,7 +118,8 @@ module _ (Spells : List ℕ → Table → Type 0) (g : Geometry) (old new : Imag
     pub taken_before : (line : SliceLine) (d : Database) → MayBeTaken Spells g line old d → MayBeTaken Spells g line new d
     taken_before line d taken = elim taken [
       | inl out ↦ inl out
-      | inr (lives, none) ↦ inr (lives, λ l j m h own. none l j m h (record { found = before d.key l j m h own.found; of_identity = own.of_identity }))
+      | inr (inl (lives, none)) ↦ inr (inl (lives, λ l j m h own. none l j m h (record { found = before d.key l j m h own.found; of_identity = own.of_identity })))
+      | inr (inr loose) ↦ inr (inr (λ v has found j m h own. loose v has found j m h (record { found = before d.key line j m h own.found; of_identity = own.of_identity })))
     ]
 
   module _ (sound : IsSound g) (key : Key) (line : SliceLine) (has : Contains (site_of g key).lines line) (outside : SameOutside (line_area line) old new) where
@@ -195,8 +196,8 @@ module _ (read : List ℕ → Option Table) (g : Geometry) (sound : IsSound g) (
             | inl looks ↦ absurd (out looks)
             | inr apart ↦ (w.0, world_apart Spells g d.key d.identity d.log w.0 old new line apart (wipe_within line 0 blocks count old new within change) w.1)
           ]
-          | inr (lives, none) ↦
-              let to = first_formats_take Spells g d.key d.identity d.log w.0 old new key identity line sound (λ at same. is.1 (sym same)) w.1 lives none blocks 1 number before (single (site_of g key) identity line blocks count number f old) located
+          | inr lose ↦
+              let to = first_formats_take Spells g d.key d.identity d.log w.0 old new key identity line sound (λ at same. is.1 (sym same)) w.1 lose blocks 1 number before (single (site_of g key) identity line blocks count number f old) located
               (as_format line blocks count number (master_on (site_of g key) identity line blocks 1 0) old new change) in
               (after_all w.0 to.events, to.world)
         ])
@@ -248,32 +249,52 @@ module _ (Spells : List ℕ → Table → Type 0) (g : Geometry) (sound : IsSoun
         (λ block from to. sym (line_still line l (apart l found.one_of) old new outside block (omega (arith, from)) (omega (arith, to, fits)))) found)
   ]
 
+  -- another database shows no table that showed none
+  blank_made : ((ask : Key) → AreFoundOrMade Spells (site_of g ask) key identity old new) → (ask : Key) (other : Identity) → (other ≡ identity → ⊥) → ShowsNoTable Spells (site_of g ask) other old → ShowsNoTable Spells (site_of g ask) other new
+  blank_made before ask other another none l j m h own = elim (before ask l j m h own.found) [
+    | inl was ↦ none l j m h (record { found = was; of_identity = own.of_identity })
+    | inr made ↦ absurd (another (sym own.of_identity ∙ made.1))
+  ]
+
   taken_made : ((ask : Key) → AreFoundOrMade Spells (site_of g ask) key identity old new) → (other : SliceLine) (d : Database) → (d.identity ≡ identity → ⊥) → MayBeTaken Spells g other old d → MayBeTaken Spells g other new d
   taken_made before other d another taken = elim taken [
     | inl out ↦ inl out
-    | inr (lives, none) ↦ inr (
-      lives,
-      λ l j m h own. elim (before d.key l j m h own.found) [
-        | inl was ↦ none l j m h (record { found = was; of_identity = own.of_identity })
-        | inr made ↦ absurd (another (sym own.of_identity ∙ made.1))
-      ],
-    )
+    | inr (inl (lives, none)) ↦ inr (inl (lives, blank_made before d.key d.identity another none))
+    | inr (inr loose) ↦ inr (inr (λ v has found j m h own. elim (before d.key other j m h own.found) [
+      | inl was ↦ loose v has found j m h (record { found = was; of_identity = own.of_identity })
+      | inr made ↦ absurd (another (sym own.of_identity ∙ made.1))
+    ]))
   ]
 
-  pub first_taken : (blocks count number : ℕ) (before : Option Master) → IsFormat (site_of g key) identity old line blocks count 0 number → FirstIs (site_of g key) old line before
-      → MayFormat (place_on line blocks count 0) (master_on (site_of g key) identity line blocks count 0) number old new → (other : SliceLine) (d : Database) → (d.identity ≡ identity → ⊥) → MayBeTaken Spells g other old d → MayBeTaken Spells g other new d
-  first_taken blocks count number before f located change =
-      taken_made (made_before f.one_of (format_within line 0 blocks count old new f.within f.lies.least (master_on (site_of g key) identity line blocks count 0) number change) (λ ask looks.
-      first_before Spells (site_of g ask) line old new key identity blocks count number before (format_for g key ask line looks sound identity old blocks count 0 number f) (first_for ask before located) change))
+  pub first_made : (blocks count number : ℕ) (before : Option Master) → IsFormat (site_of g key) identity old line blocks count 0 number → FirstIs (site_of g key) old line before
+      → MayFormat (place_on line blocks count 0) (master_on (site_of g key) identity line blocks count 0) number old new → (ask : Key) → AreFoundOrMade Spells (site_of g ask) key identity old new
+  first_made blocks count number before f located change =
+      made_before f.one_of (format_within line 0 blocks count old new f.within f.lies.least (master_on (site_of g key) identity line blocks count 0) number change) (λ ask looks.
+      first_before Spells (site_of g ask) line old new key identity blocks count number before (format_for g key ask line looks sound identity old blocks count 0 number f) (first_for ask before located) change)
     where
       first_for : (ask : Key) (o : Option Master) → FirstIs (site_of g key) old line o → FirstIs (site_of g ask) old line o
       first_for ask None is = is
       first_for ask (Some x) is = is
 
-  pub later_taken : (k number : ℕ) (first : Master) → 0 < k → IsFormat (site_of g key) identity old line first.blocks first.count k number → HasFirst (site_of g key) old line first
-      → MayFormat (place_on line first.blocks first.count k) (master_on (site_of g key) identity line first.blocks first.count k) number old new → (other : SliceLine) (d : Database) → (d.identity ≡ identity → ⊥) → MayBeTaken Spells g other old d
-      → MayBeTaken Spells g other new d
-  later_taken k number first some f has change =
-      taken_made (made_before f.one_of (format_within line k first.blocks first.count old new f.within f.lies.least (master_on (site_of g key) identity line first.blocks first.count k) number change) (λ ask looks.
+  pub later_made : (k number : ℕ) (first : Master) → 0 < k → IsFormat (site_of g key) identity old line first.blocks first.count k number → HasFirst (site_of g key) old line first
+      → MayFormat (place_on line first.blocks first.count k) (master_on (site_of g key) identity line first.blocks first.count k) number old new → (ask : Key) → AreFoundOrMade Spells (site_of g ask) key identity old new
+  later_made k number first some f has change =
+      made_before f.one_of (format_within line k first.blocks first.count old new f.within f.lies.least (master_on (site_of g key) identity line first.blocks first.count k) number change) (λ ask looks.
       later_before Spells (site_of g ask) line old new key identity k number first some (format_for g key ask line looks sound identity old first.blocks first.count k number f)
-      (record { site_is = site_is g ask sound; one_of = looks; located = has.located }) change))
+      (record { site_is = site_is g ask sound; one_of = looks; located = has.located }) change)
+
+  module _ (blocks count number : ℕ) (before : Option Master) (f : IsFormat (site_of g key) identity old line blocks count 0 number) (located : FirstIs (site_of g key) old line before)
+      (change : MayFormat (place_on line blocks count 0) (master_on (site_of g key) identity line blocks count 0) number old new) where
+    pub first_taken : (other : SliceLine) (d : Database) → (d.identity ≡ identity → ⊥) → MayBeTaken Spells g other old d → MayBeTaken Spells g other new d
+    first_taken = taken_made (first_made blocks count number before f located change)
+
+    pub first_unshown : (ask : Key) (other : Identity) → (other ≡ identity → ⊥) → ShowsNoTable Spells (site_of g ask) other old → ShowsNoTable Spells (site_of g ask) other new
+    first_unshown = blank_made (first_made blocks count number before f located change)
+
+  module _ (k number : ℕ) (first : Master) (some : 0 < k) (f : IsFormat (site_of g key) identity old line first.blocks first.count k number) (has : HasFirst (site_of g key) old line first)
+      (change : MayFormat (place_on line first.blocks first.count k) (master_on (site_of g key) identity line first.blocks first.count k) number old new) where
+    pub later_taken : (other : SliceLine) (d : Database) → (d.identity ≡ identity → ⊥) → MayBeTaken Spells g other old d → MayBeTaken Spells g other new d
+    later_taken = taken_made (later_made k number first some f has change)
+
+    pub later_unshown : (ask : Key) (other : Identity) → (other ≡ identity → ⊥) → ShowsNoTable Spells (site_of g ask) other old → ShowsNoTable Spells (site_of g ask) other new
+    later_unshown = blank_made (later_made k number first some f has change)

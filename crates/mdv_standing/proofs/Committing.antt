@@ -2,8 +2,8 @@
 use Rattle.std.proofs.Common.{◌≡◌, ◌⊎◌, ⊎_elim, suc, inl, inr, ℕ, ◌+◌, ◌<◌, ◌^◌, ◌==◌, ◌&&◌, ◌||◌, Bool, true, false, List, [], ◌∷◌, ◌++◌, refl, sym, ◌∙◌, ap, subst, map, cond, All, Contains, Option, None, Some, append-nil, arith}
 use Rattle.std.proofs.lemmas.Bool.{and_from, cases_lt, cond-false, cond-true, eq-eqb, false_from_ne_true, false≢true, eqb-true, lt-ltb, or_left, or_right}
 use Rattle.std.proofs.lemmas.List.{reverse-append}
-use Rattle.std.proofs.lemmas.List.Elements.{All-contains, All-filter, Contains-append_cases, Contains-get_or, Contains-push_cases, filter_map-append}
-use Rattle.std.specs.Prelude.{filter, nat_lt, not, reverse}
+use Rattle.std.proofs.lemmas.List.Elements.{All-contains, Contains-append_cases, Contains-get_or, Contains-push_cases, filter_map-append}
+use Rattle.std.specs.Prelude.{nat_lt, not, reverse}
 use Rattle.std.specs.List.{cons_option, filter_map, list_all}
 use Rattle.mdv_votes.specs.Spots.{same_spot, same_spots}
 use Rattle.mdv_votes.proofs.Meeting.{same_self}
@@ -19,16 +19,13 @@ use Rattle.mdv_standing.specs.Listed.{HasPlace, HavePlaces}
 use Rattle.mdv_standing.specs.Matching.{IsVersionAt, Matches, Reached, lists_of, spot_in, spots_in, spots_of, version_at}
 use Rattle.mdv_standing.specs.Worlds.{IsTaking, IsWorld, Turned}
 use Rattle.mdv_standing.specs.Committing.{IsCommit, MayChangeLists, MayFollow, next_mark}
+use Rattle.mdv_standing.proofs.Named.{of_filter}
 use Rattle.mdv_standing.proofs.Reaching.{reached_more, standing}
 use Rattle.mdv_standing.proofs.Voting.{all_that, numbered}
 use Rattle.mdv_standing.proofs.Listed.{has_lies, past_reading}
 use Rattle.mdv_standing.proofs.Following.{GoesOn, some_is}
 use Rattle.mdv_standing.proofs.Beginning.{LeadsBy, begun_taking, begun_world}
 use Rattle.mdv_standing.proofs.Taking.{last_lists, last_version, some_table}
-
--- what passes a test was there
-pub of_filter : (test : Place → Bool) (list : List Place) (place : Place) → Contains (filter test list) place → Contains list place
-of_filter test list place has = All-contains (Contains list) (filter test list) place (All-filter test (Contains list) list (λ k d lt. Contains-get_or list k d lt)) has
 
 -- a plan's changes, where the book agrees on its numbers
 kept_same : (book other : ℕ → Option Change) (plan : List ℕ) → ((n : ℕ) → Contains plan n → other n ≡ book n) → filter_map other plan ≡ filter_map book plan
@@ -186,7 +183,7 @@ module _ (Spells : List ℕ → Table → Type 0) (site : Site) (identity : Iden
     | inl follows ↦ old (next_listed site v.table.plan.lists table.plan.lists place follows listed)
     | inr (written, second) ↦ elim (Contains-append_cases second.old (beside second.old second.new) place (subst (λ (l : Lists). Contains (places_of l) place) second.two listed)) [
       | inl before ↦ old (subst (λ (l : Lists). Contains (places_of l) place) (sym second.one) before)
-      | inr comes ↦ second.have place (of_filter _ second.new place comes)
+      | inr comes ↦ second.have place comes
     ]
   ]
     where

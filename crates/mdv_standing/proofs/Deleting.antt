@@ -1,9 +1,9 @@
 -- The master of a database's only place is blanked.
 use Rattle.std.proofs.Common.{◌≡◌, ◌⊎◌, inl, inr, ℕ, zero, suc, ◌+◌, ◌-◌, ◌*◌, ◌<◌, ◌≤◌, ◌||◌, true, false, List, [], ◌∷◌, refl, sym, ◌∙◌, ap, subst, cond, not, Option, None, Some, arith}
-use Rattle.std.proofs.lemmas.Bool.{and_from, cond-true, false_from_ne_true, le-leb, not_from_false, or_left, or_right}
+use Rattle.std.proofs.lemmas.Bool.{and_from, cond-true, false_from_ne_true, le-leb, or_left, or_right}
 use Rattle.std.specs.Prelude.{max, nat_le}
 use Rattle.mdv_quorum.specs.May.{MayAll, is_firm_in, is_only, is_only_place, is_single, may_wipe}
-use Rattle.mdv_quorum.specs.World.{given_up, wiped_at, without}
+use Rattle.mdv_quorum.specs.World.{given_up, wiped_at}
 use Rattle.mdv_replica.specs.Images.{Wipes}
 use Rattle.mdv_shown.specs.Wipes.{spots_behind, spots_from, wiped_all}
 use Rattle.mdv_shown.proofs.Wiped.{in_from, wipe_ends}
@@ -15,7 +15,7 @@ use Rattle.mdv_standing.specs.Placing.{AreWipedOrNone, IsEnding}
 use Rattle.mdv_standing.specs.Worlds.{IsReadyWith, IsWorld, Turned}
 use Rattle.mdv_standing.proofs.Creating.{floor_wiped, since_wiped, wipe_each}
 use Rattle.mdv_standing.proofs.Idle.{idle_firm, idle_lists}
-use Rattle.mdv_standing.proofs.Others.{cut_is}
+use Rattle.mdv_standing.proofs.Cutting.{cut_is, cut_loose}
 use Rattle.mdv_standing.proofs.Reaching.{reached_more}
 
 -- the first of them is that of the slice's first place
@@ -28,15 +28,6 @@ first_spot line b (suc n) some fits =
   where
     back : (k : ℕ) → k ≡ suc k - 1
     back k = omega arith
-
--- no seats, and none that the firm table names, are blanked behind a crash
-cut_loose : (spots : List Spot) (w : Core) → w.stage ≡ Reading [] → ((q : Spot) → is_in spots q ≡ true → (q.mediator ≡ false) × (is_firm_in w.family w.firm q ≡ false)) → MayAll w (wiped_all spots)
-cut_loose [] w e are = tt
-cut_loose (p ∷ ps) w e are =
-    let mine = are p (or_left (same_spot p p) (is_in ps p) (same_self p)) in (
-      subst (λ (s : Stage). may_wipe w p s ≡ true) (sym e) (and_from (not p.mediator) (not (is_firm_in w.family w.firm p)) (not_from_false p.mediator mine.0) (not_from_false (is_firm_in w.family w.firm p) mine.1)),
-      subst (λ (v : Core). MayAll v (wiped_all ps)) (sym (ap (wiped_at w p) e)) (cut_loose ps (without w p) e (λ q has. are q (or_right (same_spot p q) (is_in ps q) has))),
-    )
 
 module _ (Spells : List ℕ → Table → Type 0) (site : Site) (identity : Identity) (log : Log) (w : Core) (old new : Image) (v : Version) (took : List Spot) (line : SliceLine) (first : Master)
     (e : IsEnding Spells site identity log w old v took line first) where

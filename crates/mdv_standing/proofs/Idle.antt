@@ -20,7 +20,7 @@ use Rattle.mdv_standing.specs.Listed.{HasPlace, HavePlaces}
 use Rattle.mdv_standing.specs.Matching.{Matches, lists_of, spot_floor, spot_in, spot_of_place, spots_in, spots_of, tables_of, version_at}
 use Rattle.mdv_standing.specs.Placing.{IsIdle}
 use Rattle.mdv_standing.specs.Worlds.{IsReadyWith, Turned}
-use Rattle.mdv_standing.proofs.Committing.{of_filter}
+use Rattle.mdv_standing.proofs.Named.{of_filter}
 use Rattle.mdv_standing.proofs.Creating.{floor_wiped, since_wiped, wipe_each}
 use Rattle.mdv_standing.proofs.Following.{Follows, matches_follow}
 use Rattle.mdv_standing.proofs.Listed.{past_reading}

@@ -1,7 +1,7 @@
 -- Standing over crashes, on new drives, and what a boot finds.
 use Rattle.std.proofs.Common.{◌≡◌, inl, inr, ℕ, ◌+◌, ◌<◌, ◌^◌, ◌*◌, Bool, true, false, List, [], ◌∷◌, length, refl, sym, ◌∙◌, ap, subst, map, Contains, Option, None, Some, arith}
 use Rattle.std.proofs.lemmas.Bool.{and_parts, cases_Bool, false≢true, false_from_ne_true, le-leb, lt-ltb, ltb-true, or_cases, or_left, or_right}
-use Rattle.std.proofs.lemmas.List.Elements.{All-contains, All-nil}
+use Rattle.std.proofs.lemmas.List.Elements.{All-contains}
 use Rattle.std.specs.Prelude.{count_by, not}
 use Rattle.mdv_votes.specs.Quorum.{is_written_list}
 use Rattle.mdv_votes.specs.Spots.{covers_second, is_half, same_spot}
@@ -19,7 +19,7 @@ use Rattle.mdv_store_law.specs.Laws.{restarted}
 use Rattle.mdv_store_law.specs.Log.{AreMade, IsLog, empty_log}
 use Rattle.mdv_store_law.proofs.Logs.{empty_is_log}
 use Rattle.mdv_store_law.proofs.Families.{extends_more, extends_written}
-use Rattle.mdv_standing.specs.Below.{Again, Lives, Over, Area, AreApart, Change, Core, First, Geometry, HaveRead, Head, Identity, Image, IsBelow, IsChosen, IsImage, IsSite, KeptOutside, Claimed, Claiming, Lists, One, Two, Log, Mark, Open, Place, Second, Seen, Site, Slot, Spot, SpotLists, FamilyTable, Table, Tale, Version, covers, gate_of, greatest_seen, is_in, is_majority, is_none, is_written, place_at, place_on, shows, site_area, slice_at, spot_on, spot_seen, spots_seen, start, table_at}
+use Rattle.mdv_standing.specs.Below.{Lives, Over, Area, AreApart, Change, Core, First, Geometry, HaveRead, Head, Identity, Image, IsBelow, IsChosen, IsImage, IsSite, KeptOutside, Claimed, Claiming, Lists, One, Two, Log, Mark, Open, Place, Second, Seen, Site, Slot, Spot, SpotLists, FamilyTable, Table, Tale, Version, covers, gate_of, greatest_seen, is_in, is_majority, is_none, is_written, place_at, place_on, shows, site_area, slice_at, spot_on, spot_seen, spots_seen, start, table_at}
 use Rattle.mdv_standing.specs.Listed.{HoldsNewest}
 use Rattle.mdv_standing.specs.Matching.{HasStaleVote, Matches, is_set, lists_of, spot_in, spots_of, tables_of, version_at}
 use Rattle.mdv_standing.specs.Worlds.{IsWorld, HasClaimed}

@@ -12,7 +12,11 @@ pub mod Committing
 pub mod Lawful
 pub mod Creating
 pub mod Holding
+pub mod Named
+pub mod Cutting
+pub mod Shedding
 pub mod Others
+pub mod Wiping
 pub mod Turning
 pub mod Knowing
 pub mod Since
@@ -28,5 +32,7 @@ pub mod Idle
 pub mod Unlisting
 pub mod Adding
 pub mod Deleting
+pub mod Clearing
+pub mod Naming
 pub mod PlacesTracing
 pub mod Anew

@@ -1,6 +1,6 @@
 -- What is written for another database.
 use Rattle.std.proofs.Common.{◌≡◌, ◌⊎◌, inl, inr, ℕ, zero, suc, ◌+◌, ◌-◌, ◌*◌, ◌<◌, ◌≤◌, ◌^◌, true, false, List, [], ◌∷◌, refl, sym, ◌∙◌, ap, subst, Contains, Option, None, Some, arith}
-use Rattle.std.proofs.lemmas.Bool.{and_from, cases_Bool, cond-false, cond-true, false_from_ne_true, not_from_false}
+use Rattle.std.proofs.lemmas.Bool.{and_from, cases_Bool, cond-false, cond-true, false≢true, false_from_ne_true, not_from_false}
 use Rattle.std.proofs.lemmas.List.Folds.{Any-from_list_any}
 use Rattle.std.specs.Prelude.{max, nat_le, not}
 use Rattle.mdv_name.specs.Sound.{IsSound}
@@ -20,17 +20,19 @@ use Rattle.mdv_shown.proofs.Formatting.{others_first, others_later}
 use Rattle.mdv_shown.proofs.Framed.{shows_rest}
 use Rattle.mdv_shown.proofs.Others.{other_claims, other_slots}
 use Rattle.mdv_shown.proofs.Sites.{lines_apart, site_is}
-use Rattle.mdv_shown.proofs.Wiped.{IsWiped, all_wiped}
+use Rattle.mdv_shown.proofs.Wiped.{IsWiped, all_wiped, in_from}
 use Rattle.mdv_standing.specs.Below.{Lives, Core, Crash, FamilyTable, FirstIs, Geometry, HasFirst, Head, Identity, Image, IsFormat, IsTable, Key, Log, Mark, Master, MayClaim, MayFill, MayFormat, PlaceAt, Reading, Shows, Site, SliceLine, Slot, Spot, Stage, Table, after_all, is_in, master_on, place_at, place_on, site_area, spot_on}
 use Rattle.mdv_standing.specs.Laws.{ShowsNoTable}
 use Rattle.mdv_standing.specs.Listed.{IsUnshown}
 use Rattle.mdv_standing.specs.Matching.{Matches, spot_floor, tables_of}
-use Rattle.mdv_standing.specs.Others.{Anything, IsAnother, IsBeside, IsLoss}
+use Rattle.mdv_standing.specs.Others.{Anything, IsAnother, IsBeside, IsLoss, MayLose}
 use Rattle.mdv_standing.specs.Worlds.{IsWorld, Turned}
 use Rattle.mdv_standing.proofs.Reaching.{reached_more}
 use Rattle.mdv_standing.proofs.Lawful.{not_firm, nothing_shown}
 use Rattle.mdv_standing.proofs.Listed.{AreStill, claim_still, frame_still, listed_still, slot_still}
+use Rattle.mdv_standing.proofs.Shedding.{IsOnLine, crashes, sheds}
 use Rattle.mdv_standing.proofs.Within.{apart_or_in, claim_within, fill_within, format_for, format_within, found_for}
+use Rattle.mdv_standing.proofs.Cutting.{cut_is}
 use Rattle.mdv_standing.proofs.Creating.{floor_wiped, places_agree, since_wiped, wipe_each}
 
 -- what is done on a slice that isn't one of the site's leaves the blocks of the site
@@ -86,14 +88,13 @@ module _ (Spells : List ℕ → Table → Type 0) (g : Geometry) (key : Key) (id
       | inr apart ↦ world_apart line apart (fill_within line k first.blocks first.count old new is.found.within is.found.located.lies.least slot mark bytes body table.in_slot change) world
     ]
 
--- Places of a slice are blanked in a world that has no firm table, behind a crash.
-pub cut_is : (spots : List Spot) (w : Core) → w.stage ≡ Reading [] → after_all w (wiped_all spots) ≡ record w { places = wipe_each w.places spots }
-cut_is [] w e = refl
-cut_is (p ∷ ps) w e = ap (λ (v : Core). after_all v (wiped_all ps)) (ap (wiped_at w p) e) ∙ cut_is ps (without w p) e
-
 pub ArePlaces : List Spot → Type 0
 ArePlaces [] = Unit {0}
 ArePlaces (p ∷ ps) = (p.mediator ≡ false) × ArePlaces ps
+
+none_places : ArePlaces []
+unfolding ArePlaces
+none_places = tt
 
 cut_may : (spots : List Spot) (w : Core) → w.stage ≡ Reading [] → w.firm ≡ None → ArePlaces spots → MayAll w (wiped_all spots)
 unfolding ArePlaces
@@ -185,28 +186,47 @@ module _ (Spells : List ℕ → Table → Type 0) (site : Site) (identity : Iden
           })
           (subst (λ (f : List FamilyTable). ShowsPlaces Spells site identity (tables_of log.family) f (after_all w (wiped_all spots)).places new) a.family shown)
 
-  pub keeps : Shows Spells site identity (tables_of log.family) w new → Turned Spells site identity log w new IsLoss Anything
-  unfolding ArePlaces
-  keeps shows = loses [] tt shows
-
 module _ (Spells : List ℕ → Table → Type 0) (g : Geometry) (key : Key) (identity : Identity) (log : Log) (w : Core) (old new : Image) (other : Key) (its : Identity) (line : SliceLine) (sound : IsSound g) (another : IsAnother key identity other its)
-    (world : IsWorld Spells (site_of g key) identity log w old) (lives : log.fate ≡ Lives) (none : ShowsNoTable Spells (site_of g key) identity old) where
+    (world : IsWorld Spells (site_of g key) identity log w old) (lose : MayLose Spells g key identity log old line) where
   abbrev mine : Site
   mine = site_of g key
+
+  within : (blocks count k number : ℕ) → IsFormat (site_of g other) its old line blocks count k number → MayFormat (place_on line blocks count k) (master_on (site_of g other) its line blocks count k) number old new
+      → SameOutside (line_area line) old new
+  within blocks count k number f change = format_within line k blocks count old new f.within f.lies.least (master_on (site_of g other) its line blocks count k) number change
 
   beside : (blocks count k number : ℕ) → IsFormat (site_of g other) its old line blocks count k number → ((b : SliceLine) → Contains mine.lines b → AreApart (line_area line) (line_area b))
       → MayFormat (place_on line blocks count k) (master_on (site_of g other) its line blocks count k) number old new → Turned Spells mine identity log w new IsLoss Anything
   beside blocks count k number f apart change =
-      keeps Spells mine identity log w old new world lives none
-      (world_apart Spells g key identity log w old new line apart (format_within line k blocks count old new f.within f.lies.least (master_on (site_of g other) its line blocks count k) number change) world).shows
+      crashes Spells mine identity log w new (world_apart Spells g key identity log w old new line apart (within blocks count k number f change) world)
+
+  -- what is found there is lost, or nothing
+  lost_by : (spots : List Spot) → Contains mine.lines line → SameOutside (line_area line) old new → ((q : Spot) → is_in spots q ≡ true → (q.mediator ≡ false) × IsOnLine line q) → ArePlaces spots
+      → Shows Spells mine identity (tables_of log.family) (after_all w (wiped_all spots)) new → Turned Spells mine identity log w new IsLoss Anything
+  lost_by spots has outside on are shown = elim lose [
+    | inl (lives, none) ↦ loses Spells mine identity log w old new world lives none spots are shown
+    | inr loose ↦ sheds Spells g sound key identity log w old new world line has loose outside spots on shown
+  ]
+
+  none_lost : (q : Spot) → is_in [] q ≡ true → (q.mediator ≡ false) × IsOnLine line q
+  none_lost q e = absurd (false≢true e)
+
+  on_line : (b from n : ℕ) → 16 ≤ b → (q : Spot) → is_in (spots_from line b from n) q ≡ true → (q.mediator ≡ false) × IsOnLine line q
+  on_line b from n least q e =
+      let is = in_from line b from n q e in
+      (ap (λ (s : Spot). s.mediator) (sym is.spot), record { number = is.number; blocks = b; least = least; within = is.within; spot = is.spot })
+
+  lost_on : (before : Option Master) → FirstIs (site_of g other) old line before → (q : Spot) → is_in (lost_with line before) q ≡ true → (q.mediator ≡ false) × IsOnLine line q
+  lost_on None known q e = absurd (false≢true e)
+  lost_on (Some first) known q e = on_line first.blocks 0 (max 1 first.count - 0) known.lies.least q e
 
   pub first_formats_take : (blocks count number : ℕ) (before : Option Master) → IsFormat (site_of g other) its old line blocks count 0 number → FirstIs (site_of g other) old line before
       → MayFormat (place_on line blocks count 0) (master_on (site_of g other) its line blocks count 0) number old new → Turned Spells mine identity log w new IsLoss Anything
   first_formats_take blocks count number before f known change = elim (apart_or_in mine.lines line (λ b has. lines_apart g sound other key line b f.one_of has)) [
     | inr apart ↦ beside blocks count 0 number f apart change
     | inl has ↦ elim (others_first Spells mine identity (tables_of log.family) w old new line world.shows other its (λ k i. another k i) blocks count number before (format_for g other key line has sound its old blocks count 0 number f) (first_mine before known) change) [
-      | inl same ↦ keeps Spells mine identity log w old new world lives none same
-      | inr lost ↦ loses Spells mine identity log w old new world lives none (lost_with line before) (lost_places line before) lost
+      | inl same ↦ lost_by [] has (within blocks count 0 number f change) none_lost none_places same
+      | inr lost ↦ lost_by (lost_with line before) has (within blocks count 0 number f change) (lost_on before known) (lost_places line before) lost
     ]
   ]
     where
@@ -220,7 +240,9 @@ module _ (Spells : List ℕ → Table → Type 0) (g : Geometry) (key : Key) (id
     | inr apart ↦ beside first.blocks first.count k number f apart change
     | inl has ↦ elim (others_later Spells mine identity (tables_of log.family) w old new line world.shows other its (λ c i. another c i) k number first some (format_for g other key line has sound its old first.blocks first.count k number f)
         (record { site_is = site_is g key sound; one_of = has; located = has_first.located }) change) [
-          | inl same ↦ keeps Spells mine identity log w old new world lives none same
-          | inr lost ↦ loses Spells mine identity log w old new world lives none (spots_behind line first k) (from_places line first.blocks k (max 1 first.count - k)) lost
+          | inl same ↦ lost_by [] has (within first.blocks first.count k number f change) none_lost none_places same
+          | inr lost ↦
+              lost_by (spots_behind line first k) has (within first.blocks first.count k number f change) (on_line first.blocks k (max 1 first.count - k) has_first.located.lies.least)
+              (from_places line first.blocks k (max 1 first.count - k)) lost
         ]
   ]

@@ -1,5 +1,5 @@
 -- The same in each world, with the events of each call, while places are blanked and formatted again, and while a database is deleted.
-use Rattle.std.proofs.Common.{◌≡◌, ◌⊎◌, ℕ, ◌+◌, ◌<◌, ◌^◌, true, List, [], refl, sym, subst, Option}
+use Rattle.std.proofs.Common.{Contains, None, ◌*◌, ◌≡◌, ◌⊎◌, ℕ, ◌+◌, ◌<◌, ◌^◌, true, List, [], refl, sym, subst, Option}
 use Rattle.mdv_replica.specs.Images.{Wipes}
 use Rattle.mdv_shelf.proofs.Everywhere.{last_image}
 use Rattle.mdv_shelf.specs.Tale.{last}
@@ -7,12 +7,12 @@ use Rattle.mdv_shown.specs.Formats.{lost_beside, lost_with}
 use Rattle.mdv_shown.specs.Wipes.{spots_behind, wiped_all}
 use Rattle.mdv_shown.proofs.Slots.{OneTable, shows_one}
 use Rattle.mdv_store_law.specs.Log.{Clearing, Gone, IsLog, Placing, is_firm}
-use Rattle.mdv_standing.specs.Below.{Core, Everywhere, FirstIs, Formats, Geometry, Identity, Image, IsChosen, IsImage, IsSite, Leaves, Log, Mark, Master, MayFormat, MayWipe, Over, Place, Seen, Site, SliceLine, Slot, Spot, Table, Tale, Version, after_all, covers, greatest_seen, is_in, is_majority, log_after, master_on, place_on, spot_on, spots_seen}
+use Rattle.mdv_standing.specs.Below.{Reads, Core, Everywhere, FirstIs, Formats, Geometry, Identity, Image, IsChosen, IsImage, IsSite, Leaves, Log, Mark, Master, MayFormat, MayWipe, Over, Place, Seen, Site, SliceLine, Slot, Spot, Table, Tale, Version, after_all, covers, greatest_seen, is_in, is_majority, log_after, master_on, place_on, spot_on, spots_seen}
 use Rattle.mdv_standing.specs.Forming.{IsBehind}
 use Rattle.mdv_standing.specs.Laws.{ShowsNoTable}
 use Rattle.mdv_standing.specs.Matching.{HasStaleVote, IsDeleted, spots_of}
 use Rattle.mdv_standing.specs.Others.{Anything}
-use Rattle.mdv_standing.specs.Placing.{AreWipedOrNone, IsAdded, IsAdding, IsEnding, IsIdle, IsUnlisted}
+use Rattle.mdv_standing.specs.Placing.{AreWipedOrNone, IsAdded, IsAdding, IsBare, IsEnding, IsIdle, IsUnlisted}
 use Rattle.mdv_standing.specs.PlacesTracing.{IsAnswered, IsToAdd, IsToEnd}
 use Rattle.mdv_standing.specs.Standing.{Covers}
 use Rattle.mdv_standing.specs.Tracing.{Traces}
@@ -20,6 +20,7 @@ use Rattle.mdv_standing.specs.Turning.{IsBootRead}
 use Rattle.mdv_standing.specs.Worlds.{IsReadyWith, IsWorld}
 use Rattle.mdv_standing.proofs.Adding.{first_added, first_adding, later_added, later_adding}
 use Rattle.mdv_standing.proofs.Adopting.{finds}
+use Rattle.mdv_standing.proofs.Clearing.{first_going, world_rests}
 use Rattle.mdv_standing.proofs.Deleting.{ending_wiped, ending_wiping}
 use Rattle.mdv_standing.proofs.Lawful.{is_there}
 use Rattle.mdv_standing.proofs.Looking.{looks}
@@ -129,3 +130,17 @@ module _ (Spells : List ℕ → Table → Type 0) (site : Site) (identity : Iden
       (subst (λ (k : Mark). HasStaleVote site log seen k → ⊥) (sym found.is.marked) fair) small in
       let gone = (look.world.matches.gone over).1 in
       cc (live, gone)
+
+-- Masters of a slice are blanked on which the newest version lists no place.
+module _ (read : List ℕ → Option Table) (site : Site) (identity : Identity) (log : Log) (t m : Tale) (took : List Spot) (line : SliceLine) (blocks count : ℕ) (looks : Contains site.lines line) where
+  pub traced_clearing_first : (v : Version) (before : Option Master) → IsAnswered site log v took → 16 + 0 * blocks < line.at.blocks → IsBare site v line → Everywhere (λ image. FirstIs site image line before) t
+      → Leaves (MayWipe (place_on line blocks count 0)) t m → Traces (Reads read) site identity log log (IsReadyWith took) (AreWipedOrNone (lost_with line before)) (IsReadyWith took) t m
+  traced_clearing_first v before a within bare located leaves =
+      trace_by (Reads read) site identity (MayWipe (place_on line blocks count 0)) log log (IsReadyWith took) (AreWipedOrNone (lost_with line before)) (IsReadyWith took) t m leaves
+      (λ w old new is world known change. first_going read site identity log w old new v took line blocks count (idle (Reads read) site identity log t m v took a w old world known) looks within bare before (located old is) change)
+
+  pub traced_resting : (k : ℕ) → IsSite site → 16 + k * blocks < line.at.blocks → Everywhere (λ image. FirstIs site image line None) t → Leaves (MayWipe (place_on line blocks count k)) t m
+      → Traces (Reads read) site identity log log (IsReadyWith took) (λ es. es ≡ []) (IsReadyWith took) t m
+  traced_resting k ok within none leaves =
+      trace_by (Reads read) site identity (MayWipe (place_on line blocks count k)) log log (IsReadyWith took) (λ es. es ≡ []) (IsReadyWith took) t m leaves
+      (λ w old new is world known change. record { events = []; are = refl; may = tt; world = world_rests read site identity log w old new line blocks count k ok looks within (none old is) change world; known = known })

@@ -1,17 +1,18 @@
 -- The other databases while one is written.
-use Rattle.std.proofs.Common.{◌≡◌, inl, inr, ℕ, ◌<◌, ◌^◌, List, sym, ◌∙◌, Option, Contains}
+use Rattle.std.proofs.Common.{◌≡◌, inl, inr, ℕ, ◌+◌, ◌*◌, ◌<◌, ◌^◌, List, sym, ◌∙◌, Option, Contains}
 use Rattle.mdv_name.specs.Sound.{IsSound}
 use Rattle.mdv_shown.specs.Found.{Counts}
 use Rattle.mdv_shown.specs.Sites.{site_of}
 use Rattle.mdv_shown.proofs.Sites.{lines_apart}
-use Rattle.mdv_standing.specs.Below.{FirstIs, Geometry, HasFirst, Head, Identity, Image, IsFormat, IsOwn, IsTable, Key, Mark, Master, MayClaim, MayFill, MayFormat, SliceLine, Slot, Table, after_all, master_on, place_on}
+use Rattle.mdv_standing.specs.Below.{FirstIs, Geometry, HasFirst, Head, Identity, Image, IsFormat, IsOwn, IsTable, Key, Mark, Master, MayClaim, MayFill, MayFormat, MayWipe, SliceLine, Slot, Table, after_all, master_on, place_on}
 use Rattle.mdv_standing.specs.Databases.{Database}
 use Rattle.mdv_standing.specs.Holding.{HasWorld, IsOneOf}
-use Rattle.mdv_standing.specs.Others.{Anything, IsBeside, IsLoss}
+use Rattle.mdv_standing.specs.Others.{Anything, IsAlone, IsBeside, IsLoss}
 use Rattle.mdv_standing.specs.Rest.{HoldsRest, IsRest, MayBeTaken}
 use Rattle.mdv_standing.specs.Worlds.{Turned}
-use Rattle.mdv_standing.proofs.Knowing.{known_claims, known_first, known_later, known_slots}
+use Rattle.mdv_standing.proofs.Knowing.{known_claims, known_first, known_later, known_slots, known_wipes}
 use Rattle.mdv_standing.proofs.Others.{claims_leave, first_formats_take, later_formats_take, slots_leave, world_apart}
+use Rattle.mdv_standing.proofs.Wiping.{wipes_leave}
 use Rattle.mdv_standing.proofs.Within.{apart_or_in, format_within}
 
 module _ (Spells : List ℕ → Table → Type 0) (g : Geometry) (all : List Database) (old new : Image) (sound : IsSound g) (key : Key) (identity : Identity) (rest : HoldsRest Spells g all identity old) (line : SliceLine) where
@@ -54,7 +55,7 @@ module _ (Spells : List ℕ → Table → Type 0) (g : Geometry) (all : List Dat
     rest_first blocks count number before f located change = record {
       worlds = λ d is. (let w = rest.worlds d is in elim (taken d is) [
         | inl out ↦ away blocks count 0 number f change d out w
-        | inr (lives, none) ↦ turned d w.0 (first_formats_take Spells g d.key d.identity d.log w.0 old new key identity line sound (other d is) w.1 lives none blocks count number before f located change)
+        | inr lose ↦ turned d w.0 (first_formats_take Spells g d.key d.identity d.log w.0 old new key identity line sound (other d is) w.1 lose blocks count number before f located change)
       ]);
       known = known_first Spells g all old new sound rest.known key line identity one blocks count number before f located change;
       once = rest.once;
@@ -65,8 +66,18 @@ module _ (Spells : List ℕ → Table → Type 0) (g : Geometry) (all : List Dat
     rest_later k number first some f has change = record {
       worlds = λ d is. (let w = rest.worlds d is in elim (taken d is) [
         | inl out ↦ away first.blocks first.count k number f change d out w
-        | inr (lives, none) ↦ turned d w.0 (later_formats_take Spells g d.key d.identity d.log w.0 old new key identity line sound (other d is) w.1 lives none k number first some f has change)
+        | inr lose ↦ turned d w.0 (later_formats_take Spells g d.key d.identity d.log w.0 old new key identity line sound (other d is) w.1 lose k number first some f has change)
       ]);
       known = known_later Spells g all old new sound rest.known key line identity one k number first some f has change;
       once = rest.once;
     }
+
+-- One of the database's places is blanked.
+module _ (Spells : List ℕ → Table → Type 0) (g : Geometry) (all : List Database) (old new : Image) (sound : IsSound g) (key : Key) (identity : Identity) (rest : HoldsRest Spells g all identity old) (line : SliceLine) (k : ℕ) (first : Master)
+    (has : HasFirst (site_of g key) old line first) (within : 16 + k * first.blocks < line.at.blocks) (alone : IsAlone Spells g identity old line k) where
+  pub rest_wipes : MayWipe (place_on line first.blocks first.count k) old new → HoldsRest Spells g all identity new
+  rest_wipes change = record {
+    worlds = λ d is. (let w = rest.worlds d is in (w.0, wipes_leave Spells g sound d.key d.identity d.log w.0 old new key identity line k first (λ same. is.1 (sym same)) has within alone w.1 change));
+    known = known_wipes Spells g all old new sound rest.known key line k first has within change;
+    once = rest.once;
+  }

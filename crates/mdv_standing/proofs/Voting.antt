@@ -1,14 +1,15 @@
 -- What the votes say of a boot that chose a version of the log.
 use Rattle.std.proofs.Common.{◌≡◌, inl, inr, ℕ, suc, ◌<◌, ◌&&◌, true, List, [], ◌∷◌, length, refl, sym, ◌∙◌, ap, subst, not, All, Contains, Option, None, Some, arith}
-use Rattle.std.proofs.lemmas.Bool.{and_from, and_parts, cases_lt, false≢true, false_from_ne_true, ltb-true, not_from_false}
-use Rattle.std.proofs.lemmas.List.Elements.{Contains-get_or}
-use Rattle.std.specs.Prelude.{nat_lt, slice_index_or}
+use Rattle.std.proofs.lemmas.Bool.{and_from, and_parts, cases_Bool, cases_lt, cond-false, cond-true, false≢true, false_from_ne_true, ltb-true, not_from_false}
+use Rattle.std.proofs.lemmas.List.Elements.{All-head, All-tail, Contains-get_or}
+use Rattle.std.specs.Prelude.{max, nat_lt, slice_index_or}
 use Rattle.mdv_quorum.specs.May.{is_fair, is_stale_vote, shows_none}
 use Rattle.mdv_quorum.specs.Standing.{BootsAt, Standing}
 use Rattle.mdv_shown.proofs.Choice.{shows_nothing}
 use Rattle.mdv_shown.proofs.Slots.{never_below}
-use Rattle.mdv_standing.specs.Below.{Again, Claiming, Core, HaveRead, Identity, Image, IsBelow, Log, Mark, Seen, Site, Spot, SpotLists, Table, Version, is_named, place_at, spot_seen, spots_seen, table_at}
-use Rattle.mdv_standing.specs.Matching.{HasStaleVote, Matches, Reached, floor_among, lists_of, spot_floor, tables_of, version_at}
+use Rattle.mdv_store_law.specs.Anew.{HasNoneAgain}
+use Rattle.mdv_standing.specs.Below.{Again, Claiming, Core, HaveRead, Identity, Image, IsBelow, Log, Mark, Seen, Site, Spot, SpotLists, Table, Version, is_named, place_at, same_spot, spot_seen, spots_seen, table_at}
+use Rattle.mdv_standing.specs.Matching.{HasStaleVote, Matches, Reached, floor_among, lists_of, spot_floor, spot_of_place, tables_of, version_at}
 use Rattle.mdv_standing.specs.Worlds.{HasClaimed}
 use Rattle.mdv_standing.proofs.Versions.{has_version}
 use Rattle.mdv_standing.proofs.Reaching.{same_number, standing}
@@ -52,10 +53,21 @@ is_fair_in Spells site identity log w image m seen r i mark known marked never =
         and_from (not stale) (is_fair w i (spots_seen some)) (not_from_false stale (false_from_ne_true stale (is_stale s (among s (0, omega arith, refl)))))
         (all some (λ x has. among x (suc has.0, omega (arith, has.1), has.2)))
 
--- where no place was formatted again there is none
-pub none_stale : (site : Site) (log : Log) (seen : List Seen) (mark : Mark) → log.again ≡ [] → HasStaleVote site log seen mark → ⊥
+floor_none : (site : Site) (again : List Again) (p : Spot) → All (λ (a : Again). a.number ≡ 0) again → floor_among site again p ≡ 0
+floor_none site [] p none = refl
+floor_none site (a ∷ again) p none =
+    let here : a.number ≡ 0 = All-head (λ (x : Again). x.number ≡ 0) a again none in
+    let rest = floor_none site again p (All-tail (λ (x : Again). x.number ≡ 0) a again none) in
+    let most = floor_among site again p in
+    elim (cases_Bool (same_spot (spot_of_place site a.place) p)) [
+      | inl is ↦ (let one = cond-true (same_spot (spot_of_place site a.place) p) (max a.number most) most is in omega (arith, one, here, rest))
+      | inr isnt ↦ cond-false (same_spot (spot_of_place site a.place) p) (max a.number most) most isnt ∙ rest
+    ]
+
+-- where no place was formatted again since a version dropped it there is none
+pub none_stale : (site : Site) (log : Log) (seen : List Seen) (mark : Mark) → HasNoneAgain log → HasStaleVote site log seen mark → ⊥
 none_stale site log seen mark none stale =
-    let floor : spot_floor site log (spot_seen stale.replica) ≡ 0 = ap (λ (again : List Again). floor_among site again (spot_seen stale.replica)) none in
+    let floor = floor_none site log.again (spot_seen stale.replica) none in
     let later = stale.later in
     absurd (omega (arith, later, floor))
 

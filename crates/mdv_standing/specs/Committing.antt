@@ -2,6 +2,7 @@
 use Rattle.std.specs.Prelude.{◌≡◌, ◌⊎◌, ℕ, ◌+◌, ◌<◌, ◌^◌, true, false, List, [], ◌∷◌, Option, Contains, IsTrue}
 use Rattle.mdv_store_law.specs.Log.{IsMade}
 use Rattle.mdv_standing.specs.Below.{Change, Core, Geometry, Identity, Image, IsOwnAt, LeftClosed, Lists, Log, Mark, MayHappen, NextLists, One, Place, Two, Reads, Site, Slotted, Spot, Table, Version, WritesLog, is_named, last_of, log_after}
+use Rattle.mdv_table.specs.Plan.{beside}
 use Rattle.mdv_standing.specs.Listed.{HasPlace}
 use Rattle.mdv_standing.specs.Matching.{spots_of}
 use Rattle.mdv_standing.specs.Worlds.{IsReadyWith, IsTaking, IsWorld, Turned}
@@ -13,13 +14,13 @@ next_mark v = record v.mark { count = v.mark.count + 1 }
 abbrev pub MayFollow : Lists → Lists → Type 0
 MayFollow was next = (next ≡ was) ⊎ (next ≡ One (last_of was))
 
--- a second list comes beside the only one, and the image has its places
+-- a second list comes beside the only one, and the image has those of its places that this one lacks
 pub record IsSecond (Spells : List ℕ → Table → Type 0) (site : Site) (identity : Identity) (was next : Lists) (image : Image) : Type 0 where
   pub old : List Place
   pub new : List Place
   pub one : was ≡ One old
   pub two : next ≡ Two old new
-  pub have : (place : Place) → Contains new place → HasPlace Spells site identity image place
+  pub have : (place : Place) → Contains (beside old new) place → HasPlace Spells site identity image place
 
 -- the lists may follow those of this version, or a second one comes, whose write was answered
 abbrev pub MayListNext : (List ℕ → Table → Type 0) → Site → Identity → Version → Table → Image → Type 0

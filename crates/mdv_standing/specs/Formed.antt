@@ -1,8 +1,8 @@
--- The replicas that a creation formatted, while it formats others.
+-- Replicas that were formatted, while others are formatted or blanked.
 use Rattle.std.specs.Prelude.{ℕ, ◌+◌, ◌*◌, ◌<◌, ◌≤◌, List, Option}
 use Rattle.mdv_replica.specs.Form.{formatted_head}
 use Rattle.mdv_shown.specs.Site.{line_area}
-use Rattle.mdv_standing.specs.Below.{AreApart, Everywhere, FirstIs, Formats, Head, Identity, IsFormat, IsOwn, IsSite, Leaves, Master, MayFormat, Reads, Site, SliceLine, Table, Tale, master_on, place_on}
+use Rattle.mdv_standing.specs.Below.{AreApart, Everywhere, FirstIs, Formats, Head, Identity, IsFormat, IsOwn, IsSite, Leaves, Master, MayFormat, MayWipe, Reads, Site, SliceLine, Table, Tale, master_on, place_on}
 use Rattle.mdv_standing.specs.Forming.{IsBehind}
 
 pub record FormedStay : Type 0 where
@@ -19,6 +19,13 @@ pub record FormedStay : Type 0 where
   -- it stays while a place behind it is formatted, or one of another slice
   pub formatting : (read : List ℕ → Option Table) (site : Site) (identity : Identity) (t m : Tale) (line : SliceLine) (j k number : ℕ) (first master : Master) (head : Head) → j < k
       → Everywhere (λ image. IsOwn (Reads read) site identity line j image first head) t → Leaves (MayFormat (place_on line first.blocks first.count k) master number) t m
+      → Everywhere (λ image. IsOwn (Reads read) site identity line j image first head) m
+  -- or while a place behind it is blanked, or one of another slice
+  pub wiping : (read : List ℕ → Option Table) (site : Site) (identity : Identity) (t m : Tale) (line : SliceLine) (j k : ℕ) (first : Master) (head : Head) → j < k
+      → Everywhere (λ image. IsOwn (Reads read) site identity line j image first head) t → Leaves (MayWipe (place_on line first.blocks first.count k)) t m
+      → Everywhere (λ image. IsOwn (Reads read) site identity line j image first head) m
+  pub wiping_beside : (read : List ℕ → Option Table) (site : Site) (identity : Identity) (t m : Tale) (line other : SliceLine) (j its many k : ℕ) (first : Master) (head : Head) → AreApart (line_area other) (line_area line) → 16 + k * its < other.at.blocks
+      → Everywhere (λ image. IsOwn (Reads read) site identity line j image first head) t → Leaves (MayWipe (place_on other its many k)) t m
       → Everywhere (λ image. IsOwn (Reads read) site identity line j image first head) m
   pub beside : (read : List ℕ → Option Table) (site : Site) (identity : Identity) (t m : Tale) (line other : SliceLine) (j its many k number : ℕ) (first master : Master) (head : Head) → AreApart (line_area other) (line_area line) → 16 ≤ its → 16 + k * its + its ≤ other.at.blocks
       → Everywhere (λ image. IsOwn (Reads read) site identity line j image first head) t → Leaves (MayFormat (place_on other its many k) master number) t m

@@ -1,5 +1,5 @@
 -- The same in each world, with the events of each call, while places are blanked and formatted again, and while a database is deleted.
-use Rattle.std.specs.Prelude.{◌≡◌, ◌⊎◌, ℕ, ◌+◌, ◌*◌, ◌<◌, ◌≤◌, ◌^◌, true, List, [], ◌∷◌, Option, IsTrue}
+use Rattle.std.specs.Prelude.{Contains, None, ◌≡◌, ◌⊎◌, ℕ, ◌+◌, ◌*◌, ◌<◌, ◌≤◌, ◌^◌, true, List, [], ◌∷◌, Option, IsTrue}
 use Rattle.mdv_shown.specs.Formats.{lost_beside, lost_with}
 use Rattle.mdv_shown.specs.Wipes.{spots_behind, wiped_all}
 use Rattle.mdv_replica.specs.Images.{Wipes}
@@ -53,6 +53,12 @@ pub record NotesTrace : Type 0 where
 
 -- places that the newest version doesn't list are blanked
 pub record UnlistedTrace : Type 0 where
+  pub clearing : (read : List ℕ → Option Table) (site : Site) (identity : Identity) (log : Log) (t m : Tale) (v : Version) (took : List Spot) (line : SliceLine) (blocks count : ℕ) (before : Option Master)
+      → IsAnswered site log v took → Contains site.lines line → 16 + 0 * blocks < line.at.blocks → IsBare site v line → Everywhere (λ image. FirstIs site image line before) t → Leaves (MayWipe (place_on line blocks count 0)) t m
+      → Traces (Reads read) site identity log log (IsReadyWith took) (AreWipedOrNone (lost_with line before)) (IsReadyWith took) t m
+  pub resting : (read : List ℕ → Option Table) (site : Site) (identity : Identity) (log : Log) (t m : Tale) (took : List Spot) (line : SliceLine) (blocks count k : ℕ) → IsSite site → Contains site.lines line → 16 + k * blocks < line.at.blocks
+      → Everywhere (λ image. FirstIs site image line None) t → Leaves (MayWipe (place_on line blocks count k)) t m
+      → Traces (Reads read) site identity log log (IsReadyWith took) (λ es. es ≡ []) (IsReadyWith took) t m
   pub wiping : (read : List ℕ → Option Table) (site : Site) (identity : Identity) (log : Log) (t m : Tale) (v : Version) (took : List Spot) (line : SliceLine) (k : ℕ) (first : Master)
       → IsAnswered site log v took → Everywhere (λ image. IsUnlisted site v image line k first) t → Leaves (MayWipe (place_on line first.blocks first.count k)) t m
       → Traces (Reads read) site identity log log (IsReadyWith took) (AreWipedOrNone (spots_behind line first k)) (IsReadyWith took) t m

@@ -1,12 +1,13 @@
 -- How a database's worlds and its log go on while places are blanked and formatted again, and while the database is deleted.
-use Rattle.std.specs.Prelude.{◌≡◌, ◌⊎◌, ℕ, ◌+◌, ◌*◌, ◌<◌, ◌≤◌, ◌^◌, false, true, List, [], ◌∷◌, ◌++◌, Option, Some, Contains, IsTrue}
+use Rattle.std.specs.Prelude.{◌≡◌, ◌⊎◌, ℕ, ◌+◌, ◌*◌, ◌<◌, ◌≤◌, ◌^◌, false, true, List, [], ◌∷◌, ◌++◌, Option, None, Some, Contains, IsTrue}
 use Rattle.mdv_shown.specs.Formats.{lost_beside, lost_with}
 use Rattle.mdv_shown.specs.Wipes.{spots_behind, wiped_all}
 use Rattle.mdv_store_law.specs.Log.{Clearing, Gone, IsLog, Placing, is_firm}
 use Rattle.mdv_replica.specs.Images.{Wipes}
+use Rattle.mdv_table.specs.Plan.{first_of, last_of}
 use Rattle.mdv_standing.specs.Below.{Core, Ends, Event, FirstIs, Formatted, Formats, Geometry, HasFirst, HaveRead, Head, Identity, Image, IsChosen, IsFormat, IsInChain, IsSite, Log, Master, MayFormat, MayWipe, NextLists, One, Place, Reads, Seen, Site, SliceLine, Slot, Spot, Table, Two, Version, covers, greatest_seen, is_in, is_majority, is_named, log_after, master_on, place_on, raised, slice_at, spot_on, spots_seen}
 use Rattle.mdv_standing.specs.Laws.{ShowsNoTable}
-use Rattle.mdv_standing.specs.Matching.{HasStaleVote, IsDeleted, lists_of, spot_floor, spot_of_place, spot_since, spots_of, tables_of}
+use Rattle.mdv_standing.specs.Matching.{HasStaleVote, IsDeleted, LiesOn, lists_of, spot_floor, spot_of_place, spot_since, spots_of, tables_of}
 use Rattle.mdv_standing.specs.Worlds.{IsReadyWith, IsWorld, Turned}
 
 -- each slice of the site is found by its name
@@ -63,6 +64,20 @@ AreWipedOrNone spots es = (es ≡ []) ⊎ (es ≡ wiped_all spots)
 abbrev pub IsAdded : List Spot → Site → List Place → List Place → Spot → List Event → Type 0
 IsAdded spots site old new p es = es ≡ wiped_all spots ++ (NextLists (spots_of site (Two old new)) ∷ (Formatted p ∷ []))
 
+-- each place of its lists lies on a slice of the site
+abbrev pub AllLie : Site → Version → Type 0
+AllLie site v = (place : Place) → Contains (first_of v.table.plan.lists) place ⊎ Contains (last_of v.table.plan.lists) place → LiesOn site place
+
+-- None of its places is on this slice from that number on: they lie on other slices, or in front.
+abbrev pub LieInFront : Version → SliceLine → ℕ → Type 0
+LieInFront v line start = (place : Place) → Contains (first_of v.table.plan.lists) place ⊎ Contains (last_of v.table.plan.lists) place → place.slice ≡ line.name → place.start < start
+
+-- What the places that a version lists say of the spots that it names.
+pub record NamesGo : Type 0 where
+  pub bare : (site : Site) (v : Version) (line : SliceLine) → IsSite site → AreNamed site → AllLie site v → Contains site.lines line → LieInFront v line 0 → IsBare site v line
+  pub unlisted : (site : Site) (v : Version) (image : Image) (line : SliceLine) (k : ℕ) (first : Master) → IsSite site → AreNamed site → AllLie site v → HasFirst site image line first → 16 + k * first.blocks < line.at.blocks
+      → LieInFront v line (16 + k * first.blocks) → IsUnlisted site v image line k first
+
 -- What the log notes: the world stays.
 pub record NotesGo : Type 0 where
   pub placing : (read : List ℕ → Option Table) (site : Site) (identity : Identity) (log : Log) (w : Core) (image : Image) (places : List Place) → IsWorld (Reads read) site identity log w image
@@ -79,6 +94,13 @@ pub record NotesGo : Type 0 where
 
 -- A place that the newest version doesn't list is blanked, with those behind it.
 pub record UnlistedGo : Type 0 where
+  -- the first master of a slice where it lists none, whatever that led to
+  pub clearing : (read : List ℕ → Option Table) (site : Site) (identity : Identity) (log : Log) (w : Core) (old new : Image) (v : Version) (took : List Spot) (line : SliceLine) (blocks count : ℕ) (before : Option Master)
+      → IsIdle (Reads read) site identity log w old v took → Contains site.lines line → 16 + 0 * blocks < line.at.blocks → IsBare site v line → FirstIs site old line before → MayWipe (place_on line blocks count 0) old new
+      → Turned (Reads read) site identity log w new (AreWipedOrNone (lost_with line before)) (IsReadyWith took)
+  -- then nothing is found there, whatever is blanked
+  pub resting : (read : List ℕ → Option Table) (site : Site) (identity : Identity) (log : Log) (w : Core) (old new : Image) (line : SliceLine) (blocks count k : ℕ) → IsSite site → Contains site.lines line → 16 + k * blocks < line.at.blocks
+      → FirstIs site old line None → MayWipe (place_on line blocks count k) old new → IsWorld (Reads read) site identity log w old → IsWorld (Reads read) site identity log w new
   pub wiping : (read : List ℕ → Option Table) (site : Site) (identity : Identity) (log : Log) (w : Core) (old new : Image) (v : Version) (took : List Spot) (line : SliceLine) (k : ℕ) (first : Master)
       → IsIdle (Reads read) site identity log w old v took → IsUnlisted site v old line k first → MayWipe (place_on line first.blocks first.count k) old new
       → Turned (Reads read) site identity log w new (AreWipedOrNone (spots_behind line first k)) (IsReadyWith took)

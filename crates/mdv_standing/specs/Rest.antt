@@ -1,13 +1,13 @@
 -- How all databases stand while one of them is written: the others, and that one.
-use Rattle.std.specs.Prelude.{◌≡◌, ◌⊎◌, ℕ, ◌<◌, ◌^◌, List, Option, Some, Contains}
+use Rattle.std.specs.Prelude.{◌≡◌, ◌⊎◌, ℕ, ◌+◌, ◌*◌, ◌<◌, ◌^◌, List, Option, Some, Contains}
 use Rattle.mdv_name.specs.Sound.{IsSound}
 use Rattle.mdv_shown.specs.Found.{Counts}
 use Rattle.mdv_shown.specs.Sites.{site_of}
 use Rattle.mdv_store_law.specs.Log as log
-use Rattle.mdv_standing.specs.Below.{Lives, Everywhere, FirstIs, Geometry, HasFirst, Head, Identity, Image, IsFormat, IsOwn, IsTable, Key, Leaves, Mark, Master, MayClaim, MayFill, MayFormat, Reads, SliceLine, Slot, Table, Tale, master_on, place_on}
+use Rattle.mdv_standing.specs.Below.{Everywhere, FirstIs, Geometry, HasFirst, Head, Identity, Image, IsFormat, IsOwn, IsTable, Key, Leaves, Mark, Master, MayClaim, MayFill, MayFormat, MayWipe, Reads, SliceLine, Slot, Table, Tale, master_on, place_on}
 use Rattle.mdv_standing.specs.Databases.{Database, current_of, with_event}
 use Rattle.mdv_standing.specs.Holding.{AllStand, AreKnown, AreOnce, HasWorld, IsOneOf}
-use Rattle.mdv_standing.specs.Laws.{ShowsNoTable}
+use Rattle.mdv_standing.specs.Others.{IsAlone, MayLose}
 use Rattle.mdv_standing.specs.Standing.{Covers}
 
 -- another database than the one with this identity
@@ -23,9 +23,9 @@ pub record HoldsRest (Spells : List ℕ → Table → Type 0) (g : Geometry) (al
 abbrev pub RestStands : (List ℕ → Table → Type 0) → Geometry → List Database → Identity → Tale → Type 0
 RestStands Spells g all identity = Everywhere (HoldsRest Spells g all identity)
 
--- the database's boots don't look on that slice, or it wasn't about to be deleted and none of its replicas shows a table
+-- the database's boots don't look on that slice, or what lies there may be taken from it
 abbrev pub MayBeTaken : (List ℕ → Table → Type 0) → Geometry → SliceLine → Image → Database → Type 0
-MayBeTaken Spells g line image d = (Contains (site_of g d.key).lines line → ⊥) ⊎ ((d.log.fate ≡ Lives) × ShowsNoTable Spells (site_of g d.key) d.identity image)
+MayBeTaken Spells g line image d = (Contains (site_of g d.key).lines line → ⊥) ⊎ MayLose Spells g d.key d.identity d.log image line
 
 -- so it is of each of the rest
 abbrev pub RestMayBeTaken : (List ℕ → Table → Type 0) → Geometry → List Database → Identity → SliceLine → Tale → Type 0
@@ -41,6 +41,10 @@ pub record DatabasesTurn : Type 0 where
   pub slots : (read : List ℕ → Option Table) (g : Geometry) (all : List Database) (key : Key) (identity : Identity) (t m : Tale) (line : SliceLine) (k : ℕ) (first : Master) (head : Head) (slot : Slot) (mark : Mark) (bytes : ℕ) (body : List (List ℕ)) → IsSound g
       → Everywhere (λ image. IsOwn (Reads read) (site_of g key) identity line k image first head) t → IsTable (Counts (Reads read)) (place_on line first.blocks first.count k) mark bytes body → RestStands (Reads read) g all identity t
       → Leaves (MayFill (place_on line first.blocks first.count k) slot mark bytes body) t m → RestStands (Reads read) g all identity m
+  -- while one of its places is blanked, where nothing else is found from there on
+  pub wipes : (read : List ℕ → Option Table) (g : Geometry) (all : List Database) (key : Key) (identity : Identity) (t m : Tale) (line : SliceLine) (k : ℕ) (first : Master) → IsSound g
+      → Everywhere (λ image. HasFirst (site_of g key) image line first) t → 16 + k * first.blocks < line.at.blocks → Everywhere (λ image. IsAlone (Reads read) g identity image line k) t → RestStands (Reads read) g all identity t
+      → Leaves (MayWipe (place_on line first.blocks first.count k)) t m → RestStands (Reads read) g all identity m
   -- while a place is formatted for it
   pub first_formats : (read : List ℕ → Option Table) (g : Geometry) (all : List Database) (key : Key) (identity : Identity) (t m : Tale) (line : SliceLine) (blocks count number : ℕ) (before : Option Master) → IsSound g → IsOneOf all key identity
       → Everywhere (λ image. IsFormat (site_of g key) identity image line blocks count 0 number) t → Everywhere (λ image. FirstIs (site_of g key) image line before) t → RestMayBeTaken (Reads read) g all identity line t

@@ -1,6 +1,6 @@
 ghost use Rattle.mdv_standing.specs.Forming.{CreationsTurn};
 ghost use Rattle.mdv_standing.specs.Rest.{DatabasesTurn};
-ghost use Rattle.mdv_standing.specs.Placing.{AddingGo, EndingGo, NotesGo, UnlistedGo};
+ghost use Rattle.mdv_standing.specs.Placing.{AddingGo, EndingGo, NamesGo, NotesGo, UnlistedGo};
 ghost use Rattle.mdv_standing.specs.PlacesTracing.{AddingTrace, EndingTrace, NotesTrace, UnlistedTrace};
 ghost use Rattle.mdv_standing.specs.Blanking.{BlanksStay, ClearsTurn};
 ghost use Rattle.mdv_standing.specs.Formed.{FormedStay};
@@ -98,7 +98,7 @@ pub fn slices_clear()
     ensures blanks { BlanksStay }
 {}
 
-/// A place that was formatted has a replica, which stays while a creation formats the places behind it, and those of other slices.
+/// A place that was formatted has a replica, which stays while the places behind it are formatted or blanked, and those of other slices.
 pub fn formed_stay()
     ensures { FormedStay }
 {}
@@ -106,6 +106,7 @@ pub fn formed_stay()
 /// Where nothing is in work, places that the newest table doesn't list are blanked and formatted again, which its log notes; and the master
 /// of its only place is blanked, and then no boot goes past reading: each image goes on showing a world of the log.
 pub fn places_go()
+    ensures names { NamesGo }
     ensures notes { NotesGo }
     ensures unlisted { UnlistedGo }
     ensures adding { AddingGo }

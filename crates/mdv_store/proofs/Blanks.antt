@@ -94,21 +94,11 @@ module _ (g : Geometry) (ask : Key) (other : Identity) (old new : Image) (blank 
         slots_still (Spells g) site r.line r.number r.first r.head old new (for_key has) (site_is g ask sound) slot mark bytes body table change,
       ))
 
--- What may still be taken on whatever slice shows no table.
+-- What showed no table shows none, where nothing is found that was not found before.
 module _ (g : Geometry) (old new : Image) where
-  abbrev pub as_database : Key → Identity → Database
-  as_database ask other = record { key = ask; identity = other; log = empty_log; over = false }
-
   -- nothing is found that wasn't found before
   pub blank_before : AreAllBefore (Spells g) g old new → (ask : Key) (other : Identity) → ShowsNoTable (Spells g) (site_of g ask) other old → ShowsNoTable (Spells g) (site_of g ask) other new
   blank_before before ask other blank l j m h own = blank l j m h (record { found = before ask l j m h own.found; of_identity = own.of_identity })
-
-  pub blank_taken : (ask : Key) (other : Identity) → ((l : SliceLine) → MayBeTaken (Spells g) g l old (as_database ask other) → MayBeTaken (Spells g) g l new (as_database ask other))
-      → ShowsNoTable (Spells g) (site_of g ask) other old → ShowsNoTable (Spells g) (site_of g ask) other new
-  blank_taken ask other taken blank l j m h own = elim (taken l (inr (refl, blank))) [
-    | inl out ↦ absurd (out own.found.one_of)
-    | inr (lives, none) ↦ none l j m h own
-  ]
 
 -- no step, and one behind another
 pub stay_blank : (g : Geometry) (identity : Identity) (t : Tale) → StayBlank g identity t t

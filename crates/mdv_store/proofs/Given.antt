@@ -18,7 +18,8 @@ use Rattle.mdv_table.proofs.Pairs.{AllPairs-first, AllPairs-rest}
 use Rattle.mdv_votes.specs.Spots.{is_in}
 use Rattle.mdv_acts.proofs.Asked.{few_each, start_short, within_line}
 use Rattle.mdv_store.proofs.Putting.{IsGiven}
-use Rattle.mdv_store.proofs.Spotting.{asked_named, in_asked, of_filter}
+use Rattle.mdv_standing.proofs.Named.{of_filter}
+use Rattle.mdv_store.proofs.Spotting.{asked_named, in_asked}
 
 -- whose database it is, in the limits of a master
 pub record IsOwner (key : Key) (identity : Identity) : Type 0 where

@@ -12,7 +12,7 @@ use Rattle.mdv_shown.specs.Site.{line_area}
 use Rattle.mdv_shown.proofs.Formatting.{own_first, own_later}
 use Rattle.mdv_standing.specs.Blanking.{AreBlank, IsFormatOn}
 use Rattle.mdv_standing.specs.Forming.{IsBehind}
-use Rattle.mdv_standing.proofs.Blanking.{blank_beside, blank_formatting, first_taken, later_taken}
+use Rattle.mdv_standing.proofs.Blanking.{blank_beside, blank_formatting, first_unshown, later_unshown}
 use Rattle.mdv_standing.proofs.Formed.{behind_own, own_beside, own_formatting}
 use Rattle.mdv_standing.proofs.Within.{format_within}
 use Rattle.mdv_acts.specs.Acts.{IsDoing, IsDone, form_on}
@@ -23,7 +23,7 @@ use Rattle.mdv_store.specs.declared.seats.Seat.{Seat}
 use Rattle.mdv_table.specs.declared.plan.Lists.{Lists}
 use Rattle.mdv_votes.specs.declared.spot.SpotLists.{SpotLists}
 use Rattle.mdv_store.proofs.Bare.{bare_blank, first_bare, later_bare}
-use Rattle.mdv_store.proofs.Blanks.{StayDark, as_database, blank_taken, still_dark}
+use Rattle.mdv_store.proofs.Blanks.{StayDark, still_dark}
 use Rattle.mdv_store.proofs.Locating.{first_of}
 use Rattle.mdv_store.proofs.Places.{AreNow, AreThose, GoesOn, IsNext, OfPlaces}
 
@@ -93,9 +93,7 @@ module _ (g : Geometry) (key : Key) (identity : Identity) (lines : List SliceLin
         others = λ ask other another blank image is.
             let from = leaves image is in
             let before = first_of site from.0 line in
-            blank_taken g from.0 image ask other
-            (λ l may. first_taken (Spells g) g given.sound key identity line from.0 image blocks count 1 before.0 (format from.0 from.1) before.1 from.2 l (as_database g from.0 image ask other) another may)
-            (blank from.0 from.1);
+            first_unshown (Spells g) g given.sound key identity line from.0 image blocks count 1 before.0 (format from.0 from.1) before.1 from.2 ask other another (blank from.0 from.1);
         own = λ blank image is.
             let from = leaves image is in
             let before = first_of site from.0 line in
@@ -113,9 +111,7 @@ module _ (g : Geometry) (key : Key) (identity : Identity) (lines : List SliceLin
       darks = λ m leaves. record {
         others = λ ask other another blank image is.
             let from = leaves image is in
-            blank_taken g from.0 image ask other
-            (λ l may. later_taken (Spells g) g given.sound key identity line from.0 image k 1 (first_on line) behind.later (format from.0 from.1) (behind.has from.0 from.1) from.2 l (as_database g from.0 image ask other) another may)
-            (blank from.0 from.1);
+            later_unshown (Spells g) g given.sound key identity line from.0 image k 1 (first_on line) behind.later (format from.0 from.1) (behind.has from.0 from.1) from.2 ask other another (blank from.0 from.1);
         own = λ blank image is.
             let from = leaves image is in
             bare_blank (Spells g) site identity line from.0 image (later_bare (Spells g) site identity line from.0 image k 1 (first_on line) behind.later (format from.0 from.1) (behind.has from.0 from.1) from.2) identity (blank from.0 from.1);

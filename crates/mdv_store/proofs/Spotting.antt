@@ -11,6 +11,7 @@ use Rattle.mdv_name.specs.SliceIndex.{slice_at}
 use Rattle.mdv_name.specs.declared.slice_lines.SliceAt.{SliceAt}
 use Rattle.mdv_shown.specs.Sites.{is_line_of}
 use Rattle.mdv_standing.specs.Matching.{spot_in}
+use Rattle.mdv_standing.proofs.Named.{line_found}
 use Rattle.mdv_store.specs.Below.{Geometry, Identity, IsSound, Key, Replica, SliceLine, Spot, lists_of_spots, place_on, same_spot, site_of, spot_on}
 use Rattle.mdv_store.specs.Create.{seats_asked, seats_on, table_of}
 use Rattle.mdv_store.specs.Seats.{active_of, replicas_of, spot_of, spots_of}
@@ -91,28 +92,8 @@ module _ (key : Key) (identity : Identity) (count blocks : ℕ) where
         | inr behind ↦ in_right (spots_of (On x)) (spots_of (seats_asked key identity lines count blocks)) (spot_on line blocks j) (in_asked lines line j behind lt)
       ])
 
--- what passes a test was there
-pub of_filter : {X : Type 0} (p : X → Bool) (xs : List X) (x : X) → Contains (filter p xs) x → Contains xs x
-of_filter p xs x has = All-contains (Contains xs) (filter p xs) x (All-filter p (Contains xs) xs (All-contains_itself xs)) has
-
 -- Where a slice of a site lies.
 module _ (g : Geometry) (sound : IsSound g) (key : Key) where
-  abbrev of_site : Geometry
-  of_site = record g { slices = (site_of g key).lines }
-
-  was : (line : SliceLine) → Contains (site_of g key).lines line → Contains g.slices line
-  was line has = of_filter (is_line_of g key) g.slices line has
-
-  sound_site : IsSound of_site
-  sound_site = record {
-    each = λ name at has. sound.each name at (was (record { name = name; at = at }) has);
-    once = λ name a b in_a in_b. sound.once name a b (was (record { name = name; at = a }) in_a) (was (record { name = name; at = b }) in_b);
-    drives = λ m n a b in_a in_b same. sound.drives m n a b (was (record { name = m; at = a }) in_a) (was (record { name = n; at = b }) in_b) same;
-  }
-
-  pub line_found : (line : SliceLine) → Contains (site_of g key).lines line → slice_at (site_of g key).lines line.name ≡ Some line.at
-  line_found line has = (slice_at-some of_site line.name line.at sound_site).1 has
-
   module _ (identity : Identity) (count blocks : ℕ) where
     abbrev spot_at : Place → Spot
     spot_at place = spot_in (slice_at (site_of g key).lines place.slice) place
@@ -123,7 +104,7 @@ module _ (g : Geometry) (sound : IsSound g) (key : Key) where
     on_named : (line : SliceLine) → Contains (site_of g key).lines line → (k n : ℕ) → map spot_at (places (seats_on key identity line count blocks k n)) ≡ spots_of (seats_on key identity line count blocks k n)
     on_named line has k zero = refl
     on_named line has k (suc n) =
-        let here : spot_at (place_on line blocks count k).place ≡ spot_on line blocks k = ap (λ (o : Option SliceAt). spot_in o (place_on line blocks count k).place) (line_found line has) in
+        let here : spot_at (place_on line blocks count k).place ≡ spot_on line blocks k = ap (λ (o : Option SliceAt). spot_in o (place_on line blocks count k).place) (line_found g sound key line has) in
         let rest = on_named line has (k + 1) n in
         λ i. here i ∷ rest i
 

@@ -49,7 +49,7 @@ AreSettling site (Two old new) read seated es =
 abbrev pub AreOfBoot : Site → Lists → (read seated : List Spot) → List Event → Type 0
 AreOfBoot site lists read seated es = (es ≡ []) ⊎ (((p : Spot) × IsBootRun read seated p seated es) ⊎ AreSettling site lists read seated es)
 
--- the log of the database, if none of its places was formatted again, goes on with nothing asked, and its worlds by a boot's events
+-- the log of the database, if none of its places was formatted again since a version dropped it, goes on with nothing asked, and its worlds by a boot's events
 abbrev pub BootGoes : Geometry → Site → Identity → Lists → (read seated : List Spot) → (Core → Type 0) → (Log → Type 0) → Tale → Tale → Type 0
 BootGoes g site identity lists read seated Then After t m =
     TracesFrom (Spells g) g site identity HasNoneAgain [] Anything (AreOfBoot site lists read seated) Then After t m

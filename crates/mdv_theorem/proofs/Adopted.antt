@@ -1,6 +1,6 @@
 -- Which table a boot may adopt, by what it read: one that a boot may find by the history with which the drives stand.
-use Rattle.std.proofs.Common.{◌≡◌, ℕ, ◌+◌, ◌<◌, ◌^◌, max, Bool, true, List, [], ◌∷◌, length, Option, Some, None, Contains, refl, sym, ◌∙◌, ap, subst, arith, ◌⊎◌, inl, inr, ⊎_elim, false, not, ◌&&◌, MatchOption, ◌≤◌, map, replicate}
-use Rattle.std.specs.List.{find, list_any}
+use Rattle.std.proofs.Common.{◌≡◌, ℕ, ◌+◌, ◌<◌, ◌^◌, Bool, true, List, [], ◌∷◌, length, Option, Some, None, Contains, refl, sym, ◌∙◌, ap, subst, arith, ◌⊎◌, inl, inr, ⊎_elim, false, not, ◌&&◌, MatchOption, ◌≤◌, map, replicate}
+use Rattle.std.specs.List.{find}
 use Rattle.std.specs.Prelude.{nat_le}
 use Rattle.std.proofs.lemmas.Bool.{and_from, false≢true, le-leb, or_left, or_right}
 use Rattle.std.proofs.lemmas.List.{length-map, length-replicate}
@@ -50,6 +50,7 @@ use Rattle.mdv_standing.specs.Matching.{spots_of, tables_of}
 use Rattle.mdv_standing.specs.Worlds.{IsWorld, Turned}
 use Rattle.mdv_standing.proofs.Adopting.{finds}
 use Rattle.mdv_standing.proofs.Lawful.{found_holds}
+use Rattle.mdv_store_law.proofs.Anew.{none_again}
 use Rattle.mdv_standing.proofs.Voting.{none_stale}
 use Rattle.mdv_databases.proofs.Finding.{live_or_gone}
 use Rattle.mdv_standing.proofs.Looking.{looks}
@@ -65,7 +66,7 @@ use Rattle.mdv_store.proofs.Reading.{lies_at, seated_place, to_adopt}
 use Rattle.mdv_store.proofs.Records.{spelled_of}
 use Rattle.mdv_store.proofs.Rooms.{room_least}
 use Rattle.mdv_store.proofs.Seating.{seats_places}
-use Rattle.mdv_store.proofs.Spotting.{line_found}
+use Rattle.mdv_standing.proofs.Named.{line_found}
 use Rattle.mdv_store_law.specs.Laws.{restarted}
 use Rattle.mdv_store_law.specs.Log.{IsNotOlder, Log, Version, is_firm}
 use Rattle.mdv_survey.specs.declared.choosing.Choice.TheVariants as chosen
@@ -336,7 +337,7 @@ module _ (g : Geometry) (key : Key) (all : List Database) (t : Tale) (sound : Is
       let holds = found_holds (Spells g) g site a.written.hand.identity d.log w image to.seen to.s to.slot v (site_is g key sound) (stand.logs d (current_in key all d current.current)) look.world look.known
       (subst (λ (m : Mark). IsChosen to.seen to.s to.slot m) (sym found.is.marked) read.chosen) found.is.one_of
       (subst (λ (u : Table). covers (is_majority (is_in (spots_seen to.seen))) (spots_of site u.plan.lists) ≡ true) (sym same) read.quorum)
-      (none_stale site d.log to.seen v.mark (stand.anew d (current_in key all d current.current)).again) small in
+      (none_stale site d.log to.seen v.mark (none_again d.log (stand.anew d (current_in key all d current.current)))) small in
       subst (λ (lg : Log). IsNewestBy g lg newest.table) (sym same_log) (record { version = v; one_of = found.is.one_of; number = greatest_seen to.seen + 1; holds = holds; is_table = same })
 
   -- each place that the table lists has its replica

@@ -41,7 +41,7 @@ use Rattle.mdv_shown.proofs.Sites.{law_sites}
 use Rattle.mdv_shown.specs.Sites.{is_line_of, site_of}
 use Rattle.mdv_store.proofs.Seated.{seat_is}
 use Rattle.mdv_store.proofs.Sitting.{replica_of}
-use Rattle.mdv_store.proofs.Spotting.{line_found}
+use Rattle.mdv_standing.proofs.Named.{line_found}
 use Rattle.mdv_store.specs.Boot.{IsEndBy, TakesAll, TakesClaimOrBoth, is_memory, last_found, seats_of}
 use Rattle.mdv_store.specs.Settled.{settles}
 use Rattle.mdv_store.specs.Text.{blocks_for}

@@ -1,7 +1,7 @@
 use Rattle.mdv_shown.specs.Laws.{Reads}
 use Rattle.mdv_shown.proofs.Formatting.{own_first, own_later}
-use Rattle.mdv_standing.proofs.Formed.{behind_own, own_beside, own_formatting}
-use Rattle.mdv_standing.proofs.Within.{format_within}
+use Rattle.mdv_standing.proofs.Formed.{behind_own, own_beside, own_formatting, own_wiping}
+use Rattle.mdv_standing.proofs.Within.{format_within, wipe_within}
 use Rattle.mdv_standing.proofs.law.formed_stay.Goals as goal
 
 pub returns : goal.returns
@@ -13,6 +13,10 @@ returns c = record {
   behind = λ read site identity t line k first head ok own. behind_own (Reads read) site identity line first head t k ok own;
   formatting = λ read site identity t m line j k number first master head lt own leaves image is.
       (let from = leaves image is in own_formatting (Reads read) site identity line first head j from.0 image (own from.0 from.1) k number master lt from.2);
+  wiping = λ read site identity t m line j k first head lt own leaves image is.
+      (let from = leaves image is in own_wiping (Reads read) site identity line first head j from.0 image (own from.0 from.1) k lt from.2);
+  wiping_beside = λ read site identity t m line other j its many k first head apart within own leaves image is.
+      (let from = leaves image is in own_beside (Reads read) site identity line first head j from.0 image (own from.0 from.1) other apart (wipe_within other k its many from.0 image within from.2));
   beside = λ read site identity t m line other j its many k number first master head apart least within own leaves image is.
       (let from = leaves image is in own_beside (Reads read) site identity line first head j from.0 image (own from.0 from.1) other apart (format_within other k its many from.0 image within least master number from.2));
 }

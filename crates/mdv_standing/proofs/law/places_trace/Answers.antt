@@ -1,7 +1,7 @@
 use Rattle.mdv_shown.specs.Laws.{Reads}
 use Rattle.mdv_shown.proofs.Slots.{reads_one}
 use Rattle.mdv_standing.specs.Worlds.{IsReadyWith}
-use Rattle.mdv_standing.proofs.PlacesTracing.{none_boots, traced_ended, traced_ending, traced_ends, traced_first_added, traced_first_adding, traced_gone, traced_later_added, traced_later_adding, traced_placing, traced_wiped, traced_wiping}
+use Rattle.mdv_standing.proofs.PlacesTracing.{none_boots, traced_clearing_first, traced_ended, traced_ending, traced_ends, traced_first_added, traced_first_adding, traced_gone, traced_later_added, traced_later_adding, traced_placing, traced_resting, traced_wiped, traced_wiping}
 use Rattle.mdv_standing.proofs.law.places_trace.Goals as goal
 
 pub returns : goal.returns
@@ -12,6 +12,8 @@ returns c = record {
     gone = λ read site identity log t firm ends. traced_gone (Reads read) site identity log t firm;
   };
   unlisted = record {
+    clearing = λ read site identity log t m v took line blocks count before a looks within bare. traced_clearing_first read site identity log t m took line blocks count looks v before a within bare;
+    resting = λ read site identity log t m took line blocks count k ok looks within. traced_resting read site identity log t m took line blocks count looks k ok within;
     wiping = λ read site identity log t m v took line k first a u. traced_wiping (Reads read) site identity log t m v took a line k first u;
     wiped = λ read site identity log t m v took line k first a u. traced_wiped (Reads read) site identity log t m v took a line k first u;
   };
