@@ -3,10 +3,10 @@ use Rattle.std.specs.Prelude.{◌≡◌, ◌⊎◌, ◌+◌, ◌*◌, ◌&&◌, 
 use Rattle.std.specs.Bool.{MatchBool}
 use Rattle.mdv_name.specs.SliceIndex.{HasSlice, same_slice}
 use Rattle.mdv_replica.specs.Replica.{Wiping}
-use Rattle.mdv_shelf.specs.Calls.{Part}
-use Rattle.mdv_shelf.specs.Drives.{IsAmong}
-use Rattle.mdv_shelf.specs.Shelves.{AtEachTale, DriveFailed, GoesOn, Keeps}
-use Rattle.mdv_shelf.specs.Story.{InTime}
+use Rattle.mdv_base.specs.Causes.{Failures}
+use Rattle.mdv_base.specs.DriveSet.{Drives, has_drive}
+use Rattle.mdv_shelf.specs.Drives.{KeptAmong}
+use Rattle.mdv_shelf.specs.Shelves.{AtEachTale, DriveFailures}
 use Rattle.mdv_acts.specs.Acts.{Act, Blanks, HaveGone, HaveStopped, MadeCallsBetween}
 use Rattle.mdv_acts.specs.Below.{DriveNo, Geometry, Ghosts, IsPlaced, Place, PlaceAt, SliceAt, Tale}
 
@@ -54,20 +54,32 @@ blanks_at places = map Blanks places
 abbrev pub drives_at : List PlaceAt → List DriveNo
 drives_at places = map (λ (a : PlaceAt). a.drive) places
 
--- A place's master was blanked, or a call on its drive failed: two calls, or one at least.
-abbrev pub IsTried : {S : Type 0} → Ghosts S → S → S → PlaceAt → Bool → Type 0
-IsTried shelf old new a true = HaveGone shelf old new (a.drive ∷ []) (Blanks a ∷ [])
-IsTried shelf old new a false = HaveStopped shelf old new (a.drive ∷ []) (Blanks a ∷ [])
+-- the set with this drive
+pub record IsJoined (before : Drives) (drive : DriveNo) (now : Drives) : Type 0 where
+  pub added : has_drive now drive ≡ true
+  pub others : (other : DriveNo) → (other ≡ drive → ⊥) → has_drive now other ≡ has_drive before other
+
+-- A call on a place's drive had failed before, and it was passed over; or one failed on it, of two at most, and it is lost from then on.
+abbrev pub IsLeftOut : {S : Type 0} → Ghosts S → S → S → PlaceAt → Drives → Drives → Type 0
+IsLeftOut shelf old new a lost now =
+    ((has_drive lost a.drive ≡ true) × (new ≡ old) × (now ≡ lost))
+    ⊎ ((has_drive lost a.drive ≡ false) × HaveStopped shelf old new (a.drive ∷ []) (Blanks a ∷ []) × IsJoined lost a.drive now)
+
+-- A place's master was blanked, by two calls, or not.
+abbrev pub IsTried : {S : Type 0} → Ghosts S → S → S → PlaceAt → Drives → Drives → Bool → Type 0
+IsTried shelf old new a lost now true = (has_drive lost a.drive ≡ false) × HaveGone shelf old new (a.drive ∷ []) (Blanks a ∷ []) × (now ≡ lost)
+IsTried shelf old new a lost now false = IsLeftOut shelf old new a lost now
 
 -- so was a place of the table of drives
-abbrev pub IsWipedAt : {S : Type 0} → Ghosts S → Geometry → S → S → Place → Bool → Type 0
-IsWipedAt shelf g old new p wiped = (a : PlaceAt) × IsFoundAt g p a × IsTried shelf old new a wiped
+abbrev pub IsWipedAt : {S : Type 0} → Ghosts S → Geometry → S → S → Place → Drives → Drives → Bool → Type 0
+IsWipedAt shelf g old new p lost now wiped = (a : PlaceAt) × IsFoundAt g p a × IsTried shelf old new a lost now wiped
 
--- So were these, one after another, whatever failed before; and whether none did.
-abbrev pub AreTried : {S : Type 0} → Ghosts S → S → S → List PlaceAt → Bool → Type 0
-AreTried shelf old new [] clean = (new ≡ old) × (clean ≡ true)
-AreTried {S} shelf old new (a ∷ rest) clean =
-    (mid : S) × (here : Bool) × (behind : Bool) × IsTried shelf old mid a here × AreTried shelf mid new rest behind × (clean ≡ (here && behind))
+-- So were these, one after another; and whether each was blanked.
+abbrev pub AreTried : {S : Type 0} → Ghosts S → S → S → List PlaceAt → Drives → Drives → Bool → Type 0
+AreTried shelf old new [] lost now clean = (new ≡ old) × (now ≡ lost) × (clean ≡ true)
+AreTried {S} shelf old new (a ∷ rest) lost now clean =
+    (mid : S) × (between : Drives) × (here : Bool) × (behind : Bool) × IsTried shelf old mid a lost between here × AreTried shelf mid new rest between now behind
+    × (clean ≡ (here && behind))
 
 -- a master stays as it was, or is being blanked
 abbrev pub MayBeWiping : PlaceAt → Tale → Tale → Type 0
@@ -78,27 +90,27 @@ abbrev pub AreTrying : List PlaceAt → Tale → Tale → Type 0
 AreTrying [] t m = m ≡ t
 AreTrying (a ∷ rest) t m = MayBeWiping a t m ⊎ ((v : Tale) × MayBeWiping a t v × AreTrying rest v m)
 
--- A stretch of calls on these drives, in which some may be behind one that failed: on no other part a call changed something, or failed.
-pub record KeptOver {S : Type 0} (shelf : Ghosts S) (old new : S) (drives : List DriveNo) : Type 0 where
-  pub keeps : Keeps shelf old new
-  pub goes : GoesOn shelf old new
-  pub others : (other : Part) → (IsAmong drives other → ⊥) → shelf.faults new other ≡ shelf.faults old other
-  pub elsewhere : (other : Part) → (IsAmong drives other → ⊥) → (count : ℕ) → InTime other count (shelf.story old) (shelf.story new)
+-- Of the drives that weren't lost those are now on which a call failed, and just one; on those that were none was made.
+abbrev pub AreLostBy : (ℕ → Failures) → Drives → Drives → Type 0
+AreLostBy failed lost now =
+    (drive : DriveNo) → MatchBool (has_drive lost drive) ((has_drive now drive ≡ true) × (failed drive.0).none) (MatchBool (has_drive now drive) (failed drive.0).some (failed drive.0).none)
 
--- a call failed on the drive of one of these places
-abbrev pub HasOneFailed : {S : Type 0} → Ghosts S → S → S → List PlaceAt → Type 0
-HasOneFailed shelf old new places = (a : PlaceAt) × Contains places a × DriveFailed shelf old new a.drive.0
+-- one of these places lies on a lost drive
+abbrev pub HasOneLost : List PlaceAt → Drives → Type 0
+HasOneLost places lost = (a : PlaceAt) × Contains places a × (has_drive lost a.drive ≡ true)
 
--- Each of these places was tried, in their order. Where no call failed all their masters are blank.
-pub record WereTried {S : Type 0} (shelf : Ghosts S) (old new : S) (places : List PlaceAt) (clean : Bool) : Type 0 where
-  pub steps : AreTried shelf old new places clean
+-- Each of these places was tried, in their order, but those on drives on which a call had failed by then: `lost` before, and `now` behind. Where none was
+-- left out no call failed, and all their masters are blank.
+pub record WereTried {S : Type 0} (shelf : Ghosts S) (old new : S) (places : List PlaceAt) (lost now : Drives) (clean : Bool) : Type 0 where
+  pub steps : AreTried shelf old new places lost now clean
   pub moments : AtEachTale shelf (AreTrying places) old new
-  pub came : MatchBool clean (HaveGone shelf old new (drives_at places) (blanks_at places)) (HasOneFailed shelf old new places)
-  pub made : MadeCallsBetween shelf old new (length places) (2 * length places) (length places)
-  pub kept : KeptOver shelf old new (drives_at places)
+  pub came : MatchBool clean (HaveGone shelf old new (drives_at places) (blanks_at places)) (HasOneLost places now)
+  pub by : AreLostBy (DriveFailures shelf old new) lost now
+  pub made : MadeCallsBetween shelf old new 0 (2 * length places) (length places)
+  pub kept : KeptAmong shelf old new (drives_at places)
 
 -- where they lie, and that each was tried there
-pub record WereWiped {S : Type 0} (shelf : Ghosts S) (g : Geometry) (old new : S) (places : List Place) (clean : Bool) : Type 0 where
+pub record WereWiped {S : Type 0} (shelf : Ghosts S) (g : Geometry) (old new : S) (places : List Place) (lost now : Drives) (clean : Bool) : Type 0 where
   pub at : List PlaceAt
   pub found : AreFoundAt g places at
-  pub tried : WereTried shelf old new at clean
+  pub tried : WereTried shelf old new at lost now clean

@@ -5,7 +5,7 @@ ghost use Rattle.mdv_name.specs.declared.slice_lines.SliceAt.{SliceAt};
 ghost use Rattle.mdv_acts.specs.Wipes.{AreLaidOn, IsFoundAt, IsLaidOn, IsWipedAt, WereWiped, in_front as spec_in_front, wipe_order as spec_wipe_order};
 
 use crate::clearing::blank;
-use mdv_base::{Failed, Place, Places};
+use mdv_base::{DriveSet, Failed, Place, Places};
 use mdv_name::Geometry;
 use mdv_plan::same_slice;
 use mdv_replica::PlaceAt;
@@ -43,27 +43,47 @@ fn in_front(ordered: &[Place], place: Place) -> Places
     next
 }
 
-/// Blanks the masters of these places in their order, and syncs each: all are tried, whichever calls fail. Tells whether none failed.
-pub fn wipe_each<S: Shelf>(shelf: &mut S, geometry: &Geometry, places: &[Place]) -> bool
+/// Blanks the masters of these places in their order, and syncs each, whatever came of those before. A place on a drive on which a call has failed is passed
+/// over: `lost` has those drives, and behind this call also the ones on which one failed in it. Tells whether all masters were blanked.
+pub fn wipe_each<S: Shelf>(
+    shelf: &mut S,
+    geometry: &Geometry,
+    places: &[Place],
+    lost: &mut DriveSet,
+) -> bool
+    requires few { length (S.sizes shelf.old) ≤ 256 }
     requires laid { AreLaidOn (S.sizes shelf.old) geometry.now places.now }
-    ensures { WereWiped S.Shelf geometry.now shelf.old shelf.new places.now result }
+    ensures { WereWiped S.Shelf geometry.now shelf.old shelf.new places.now lost.old lost.new result }
 {
     let mut clean = true;
     for dropped in places {
-        let wiped = wipe_place(shelf, geometry, *dropped);
+        let wiped = wipe_place(shelf, geometry, *dropped, lost);
         clean = clean && wiped;
     }
     clean
 }
 
-// Whether no call failed.
-fn wipe_place<S: Shelf>(shelf: &mut S, geometry: &Geometry, place: Place) -> bool
+// Whether its master was blanked.
+fn wipe_place<S: Shelf>(
+    shelf: &mut S,
+    geometry: &Geometry,
+    place: Place,
+    lost: &mut DriveSet,
+) -> bool
+    requires few { length (S.sizes shelf.old) ≤ 256 }
     requires laid { IsLaidOn (S.sizes shelf.old) geometry.now place }
-    ensures { IsWipedAt S.Shelf geometry.now shelf.old shelf.new place result }
+    ensures { IsWipedAt S.Shelf geometry.now shelf.old shelf.new place lost.old lost.new result }
 {
-    match blank(shelf, place_in(geometry, place)) {
+    let at = place_in(geometry, place);
+    if lost.contains(at.drive) {
+        return false;
+    }
+    match blank(shelf, at) {
         Ok(()) => true,
-        Err(Failed) => false,
+        Err(Failed) => {
+            lost.insert(at.drive);
+            false
+        }
     }
 }
 

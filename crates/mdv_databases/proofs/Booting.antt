@@ -77,7 +77,7 @@ module _ (g : Geometry) (all : List Database) (key : Key) (identity : Identity) 
     traced = goes (log_of all key) worlds (none_again (log_of all key) (its_anew g all key identity t stand its))
 
     gone_on : Gone g all key identity [] traced.es Then After m
-    gone_on = go_on g all key identity [] Anything (AreOfBoot (site_of g key) own read seated) Then After t m stand its worlds (writes.rest all (rest_of (Spells g) g all t identity stand.worlds)) writes.blank traced
+    gone_on = go_on g all key identity [] Anything (AreOfBoot (site_of g key) own read seated) Then After t m stand its worlds (writes.rest all (rest_of (Spells g) g all t identity stand.worlds)) writes.blank tt traced
 
   -- no replica is written, or the current one goes on
   written : Stand g all m ⊎ ((its : Identity) × GoOn g all key its [] AnyLog m)

@@ -192,7 +192,7 @@ module _ (g : Geometry) (all : List Database) (key : Key) (identity : Identity) 
       gone_on =
           go_on g now key identity [] (IsStart (site_of g key)) (AreOfCreation g key seats) Then After t m begun_stand (creation_its key identity all)
           (subst Starts (sym (creation_log key identity all)) (none_started (Spells g) (site_of g key) identity (issued_log identity) t cleared.none refl refl))
-          (moment.rest g now may_create) (moment.blank g forms) went
+          (moment.rest g now may_create) (moment.blank g forms) tt went
 
     pub created_goes : GoOn g now key identity [] AnyLog m
     created_goes = (gone_on AnyWorld AnyLog (moment.goes g now may_create)).goes

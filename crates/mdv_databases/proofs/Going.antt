@@ -1,5 +1,5 @@
 -- All databases go on as the current one of a key does.
-use Rattle.std.proofs.Common.{◌≡◌, inl, inr, true, List, Option, Some, Contains, refl, sym, ◌∙◌, ap, subst}
+use Rattle.std.proofs.Common.{◌≡◌, inl, inr, true, List, [], Option, Some, Contains, refl, sym, ◌∙◌, ap, subst}
 use Rattle.std.proofs.lemmas.Bool.{cases_Bool, false≢true}
 use Rattle.mdv_quorum.specs.declared.event.Event.{Event}
 use Rattle.mdv_shelf.specs.Tale.{last}
@@ -13,8 +13,9 @@ use Rattle.mdv_standing.proofs.Holding.{joined}
 use Rattle.mdv_standing.proofs.Tracing.{traced}
 use Rattle.mdv_standing.proofs.Turning.{covers_known}
 use Rattle.mdv_store_law.specs.Anew.{IsAnew}
-use Rattle.mdv_store_law.specs.Log.{Event as LogEvent, IsCourse, IsIssue, IsLog, NoCreation, log_after_all}
+use Rattle.mdv_store_law.specs.Log.{Event as LogEvent, IsAskable, IsCourse, IsIssue, IsLog, PlacesStay, log_after_all}
 use Rattle.mdv_store_law.specs.Machine.{AreAll}
+use Rattle.mdv_store_law.proofs.Issues.{asked_issued}
 use Rattle.mdv_store_law.proofs.Anew.{anew_after_all}
 use Rattle.mdv_store_law.proofs.Logs.{is_log_after_all}
 use Rattle.mdv_store.specs.Blank.{StayBlank}
@@ -84,9 +85,9 @@ module _ (g : Geometry) (all : List Database) (key : Key) (identity : Identity) 
       | inr was ↦ stand.logs x was.0
     ]
 
-    anew_behind : IsCourse g (log_of all key) es → AreAll (IsIssue NoCreation) es → (x : Database) → Contains next x → IsAnew x.log
+    anew_behind : IsCourse g (log_of all key) es → AreAll (IsIssue PlacesStay) es → (x : Database) → Contains next x → IsAnew x.log
     anew_behind course issues x in_next = elim (events_cases key es all d once its.current x in_next) [
-      | inl here ↦ subst (λ (z : Database). IsAnew z.log) here (anew_after_all g NoCreation d.log es (stand.anew d has) (subst (λ (l : Log). IsCourse g l es) same_log course) issues)
+      | inl here ↦ subst (λ (z : Database). IsAnew z.log) here (anew_after_all g d.log es (stand.anew d has) (subst (λ (l : Log). IsCourse g l es) same_log course) issues)
       | inr was ↦ stand.anew x was.0
     ]
 
@@ -109,7 +110,7 @@ module _ (g : Geometry) (all : List Database) (key : Key) (identity : Identity) 
       | inr was ↦ blank x.key x.identity (λ same. was.1 (same ∙ sym its.as_begun)) (stand.over x was.0 over)
     ]
 
-    pub stand_behind : (m : Tale) → IsCourse g (log_of all key) es → AreAll (IsIssue NoCreation) es → RestStands (Spells g) g all identity m → StayBlank g identity t m → Covers (Spells g) (site_of g key) identity (log_after_all (log_of all key) es) m → Stand g next m
+    pub stand_behind : (m : Tale) → IsCourse g (log_of all key) es → AreAll (IsIssue PlacesStay) es → RestStands (Spells g) g all identity m → StayBlank g identity t m → Covers (Spells g) (site_of g key) identity (log_after_all (log_of all key) es) m → Stand g next m
     stand_behind m course issues rest blank covers = record { worlds = all_behind m rest covers; logs = logs_behind course; anew = anew_behind course issues; current = current_behind; over = over_behind m blank }
 
 -- They went on by these events, to worlds of which this is known.
@@ -120,9 +121,9 @@ pub record Gone (g : Geometry) (all : List Database) (key : Key) (identity : Ide
 
 -- A call traces the worlds of the current one, and the rest stands.
 pub go_on : (g : Geometry) (all : List Database) (key : Key) (identity : Identity) (asks : List (Option Change)) (Know : Core → Type 0) (Are : List Event → Type 0) (Then : Core → Type 0) (After : Log → Type 0) (t m : Tale) → Stand g all t → IsCurrentOf all key identity
-    → CoversWith (Spells g) (site_of g key) identity (λ image w. Know w) (log_of all key) t → RestStands (Spells g) g all identity m → StayBlank g identity t m
+    → CoversWith (Spells g) (site_of g key) identity (λ image w. Know w) (log_of all key) t → RestStands (Spells g) g all identity m → StayBlank g identity t m → AreAll (IsAskable PlacesStay) asks
     → (to : GoesTraced (Spells g) g (site_of g key) identity asks Know Are Then After t m (log_of all key)) → Gone g all key identity asks to.es Then After m
-go_on g all key identity asks Know Are Then After t m stand its covers rest blank to =
+go_on g all key identity asks Know Are Then After t m stand its covers rest blank keeps to =
     let log = log_of all key in
     let next = log_after_all log to.es in
     let known = traced (Spells g) (site_of g key) identity log next Know Are Then t m covers to.traces in
@@ -132,7 +133,7 @@ go_on g all key identity asks Know Are Then After t m stand its covers rest blan
         es = to.es;
         course = to.course;
         come = to.come;
-        stand = stand_behind g all key identity t stand its to.es m to.course to.come.issues rest blank (covers_known (Spells g) (site_of g key) identity (λ image w. Then w) next m known);
+        stand = stand_behind g all key identity t stand its to.es m to.course (asked_issued PlacesStay asks [] to.es to.come keeps) rest blank (covers_known (Spells g) (site_of g key) identity (λ image w. Then w) next m known);
         after = to.after;
       };
       same = refl;

@@ -17,6 +17,7 @@ pub use Rattle.mdv_standing.specs.Databases.{Database, current_of, log_of, with_
 pub use Rattle.mdv_standing.specs.Holding.{AllStand, HasNoReplica, IsFresh}
 pub use Rattle.mdv_standing.specs.Standing.{CoversWith}
 pub use Rattle.mdv_standing.specs.Worlds.{IsReadyWith}
+pub use Rattle.mdv_store_law.specs.Changes.{Change}
 pub use Rattle.mdv_store_law.specs.Laws.{restarted}
 pub use Rattle.mdv_store_law.specs.Log.{IsMade, Log, asks_of}
 pub use Rattle.mdv_store.specs.Blank.{IsBlank}
@@ -26,7 +27,6 @@ pub use Rattle.mdv_store.specs.Seats.{spots_of}
 pub use Rattle.mdv_store.specs.declared.seats.Seat.{Seat}
 pub use Rattle.mdv_survey.specs.declared.replica.Replica.{Replica}
 pub use Rattle.mdv_table.specs.Table.{IsOfGeometry}
-pub use Rattle.mdv_table.specs.declared.change.Change.{Change}
 pub use Rattle.mdv_table.specs.declared.plan.Lists.{Lists}
 pub use Rattle.mdv_table.specs.declared.plan.Lists.TheVariants.{One, Two}
 pub use Rattle.mdv_table.specs.declared.table.Table.{Table}

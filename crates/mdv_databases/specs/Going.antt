@@ -1,6 +1,6 @@
 -- How all databases go on, by events of the current one of a key.
 use Rattle.std.specs.Prelude.{◌≡◌, List, [], ◌∷◌, Option, Some}
-use Rattle.mdv_store_law.specs.Log.{Adds, AreMade, Event, Extends, IsCourse, NoCreation, log_after_all}
+use Rattle.mdv_store_law.specs.Log.{Adds, AreMade, ChangesAlone, Event, Extends, IsCourse, log_after_all}
 use Rattle.mdv_databases.specs.Below.{Change, CoversWith, Database, Geometry, Identity, IsOpenedAt, IsReadyWith, Key, Log, Opened, Spells, Tale, current_of, log_of, site_of, spots_of, with_event}
 use Rattle.mdv_databases.specs.Standing.{Stand}
 use Rattle.mdv_store.specs.Commit.{IsNewestWritten}
@@ -22,7 +22,7 @@ pub record GoOn (g : Geometry) (all : List Database) (key : Key) (identity : Ide
   pub its : IsCurrentOf all key identity
   pub es : List Event
   pub course : IsCourse g (log_of all key) es
-  pub come : Adds NoCreation asks [] es
+  pub come : Adds ChangesAlone asks [] es
   pub stand : Stand g (with_events key es all) m
   pub after : After (log_after_all (log_of all key) es)
 

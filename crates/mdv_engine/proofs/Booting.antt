@@ -2,7 +2,7 @@
 use Rattle.std.proofs.Common.{◌≡◌, ◌≢◌, ◌⊎◌, inl, inr, ◌+◌, ◌*◌, ◌/◌, ◌<◌, ◌≤◌, ◌&&◌, not, ℕ, Bool, true, false, List, [], ◌∷◌, cond, length, Option, None, Some, Contains, refl, sym, ◌∙◌, ap, subst, arith}
 use Rattle.std.specs.List.{find}
 use Rattle.std.specs.Bool.{MatchBool}
-use Rattle.std.specs.Prelude.{MatchOption, if◌then◌else◌}
+use Rattle.std.specs.Prelude.{MatchOption}
 use Rattle.mdv_base.specs.DriveSet.{no_drives}
 use Rattle.std.proofs.lemmas.Bool.{ltb-false}
 use Rattle.mdv_base.specs.declared.place.Place.{Place}
@@ -23,19 +23,15 @@ use Rattle.mdv_store.specs.Booting as store
 use Rattle.mdv_replica.specs.Form.{shows}
 use Rattle.mdv_store.specs.Records.{Spells}
 use Rattle.mdv_store.specs.Seats.{drive_of}
-use Rattle.mdv_store.specs.Text.{blocks_for}
 use Rattle.mdv_table.specs.Plan.{last_of, places_of}
-use Rattle.std.proofs.lemmas.List.{length-map}
 use Rattle.mdv_store.specs.declared.booting.BootEnd.TheVariants as end
 use Rattle.mdv_store.specs.declared.booting.Booted.{Booted}
 use Rattle.mdv_store.proofs.Told.{adopted_count, adopted_each, adopted_enough, found_read, lost_read, lost_short}
 use Rattle.mdv_store.proofs.Adoptions.{takes_stay, same_identity_self}
 use Rattle.mdv_store.proofs.Few.{reads_between}
-use Rattle.mdv_store.proofs.Passes.{left_calm, some_lost, unmapped}
-use Rattle.mdv_store.proofs.Seating.{seated_at, seats_places}
-use Rattle.mdv_store.proofs.Sitting.{left_count}
+use Rattle.mdv_store.proofs.Passes.{unmapped}
 use Rattle.mdv_standing.specs.Laws.{ShowsNoTable}
-use Rattle.mdv_survey.specs.Choice.{AreTwo, IsChoice, IsChoiceAmong, failing, is_of, is_read, readable_of, same_identity, shows_other}
+use Rattle.mdv_survey.specs.Choice.{AreTwo, IsChoice, IsChoiceAmong, failing, is_of, readable_of, same_identity, shows_other}
 use Rattle.mdv_survey.specs.Counts.{AreLinesBy}
 use Rattle.mdv_survey.specs.Replica.{IsListed}
 use Rattle.mdv_survey.specs.declared.choosing.Choice.{Choice}
@@ -43,7 +39,6 @@ use Rattle.mdv_survey.specs.declared.choosing.Choice.TheVariants as chosen
 use Rattle.mdv_survey.specs.declared.replica.Newest.{Newest}
 use Rattle.mdv_survey.specs.declared.replica.Survey.{Survey}
 use Rattle.mdv_table.specs.declared.plan.Lists.{Lists}
-use Rattle.mdv_table.specs.declared.plan.Lists.TheVariants.{One, Two}
 use Rattle.mdv_engine_law.specs.Answers.{accepted}
 use Rattle.mdv_engine_law.specs.Replies.{HasEndCause}
 use Rattle.mdv_engine_law.specs.declared.answer.Answer.TheVariants.{Over}
@@ -52,14 +47,13 @@ use Rattle.mdv_engine_law.proofs.Booting.{BootsOn, boot_moment, booted_adopted, 
 use Rattle.mdv_engine_law.proofs.Keeping.{same_beside}
 use Rattle.mdv_engine_law.proofs.Rebooting as rebooting
 use Rattle.mdv_engine_law.proofs.Rebooting.{up_by}
-use Rattle.mdv_engine.specs.Below.{Answer, AreLaid, BootEnd, BootMoment, BootedTo, DriveNo, Drives, Ended, Host, Identity, IsOfGeometry, IsReady, IsUpBy, Key, KeptOutside, MayLeave, Memory, Opened, Outcomes, Replica, Seat, Site, SliceLine, Tale, answered_by, booted_with, has_drive, key_of, last, nowhere, opened_by, record_text, replicas_of, site_area, site_of, unbooted, shortage}
+use Rattle.mdv_engine.specs.Below.{Answer, AreLaid, BootEnd, BootMoment, BootedTo, DriveNo, Drives, Ended, Host, Identity, IsOfGeometry, IsReady, IsUpBy, Key, KeptOutside, MayLeave, Memory, Opened, Outcomes, Replica, Site, SliceLine, Tale, answered_by, booted_with, has_drive, key_of, last, nowhere, opened_by, replicas_of, site_area, site_of, unbooted, shortage}
 use Rattle.mdv_engine.specs.Counts.{IsBootedCounted, IsOpenedCounted}
 use Rattle.mdv_engine.specs.Ends.{IsBootEnd}
 use Rattle.mdv_engine.specs.Engine.{FailedOnSite, IsAnsweredBy, IsEndedBy, IsFitting, IsHeldBy, IsOpenBy, IsWell, LiesOn}
 use Rattle.mdv_store.specs.Shares.{short_of}
-use Rattle.mdv_store.specs.declared.seats.Need.TheVariants.{Half, More}
 use Rattle.mdv_store.specs.declared.seats.Share.{Share}
-use Rattle.mdv_store.proofs.Shares.{half_less as half_less_of, more_less, more_suffices, short_fewer}
+use Rattle.mdv_store.proofs.Shares.{half_less as half_less_of, more_less}
 use Rattle.mdv_table.proofs.Listed.{listed_few, listed_some}
 
 -- at each moment, and in the end

@@ -32,7 +32,7 @@ use Rattle.mdv_engine_law.specs.declared.answer.Ended.TheVariants as ended
 use Rattle.mdv_engine_law.specs.declared.answer.Outcome.TheVariants as outcome
 use Rattle.mdv_engine_law.proofs.Plain.{numbers_plain}
 use Rattle.mdv_engine_law.proofs.Refusing.{opened_has, spent_still}
-use Rattle.mdv_engine.specs.Below.{Answer, AreLaid, CameTo, CarriedTo, CarryMoment, Change, Changed, CommitFault, Created, Geometry, IsOfGeometry, IsOpenedAt, IsPlainAnswer, IsReady, Knows, MakeStripe, Memory, Opened, Outcomes, ReplicaFull, SliceName, Table, Tale, TooLong, VolId, active_of, drives_of, kept_at, key_of, record_room, record_text, shortage}
+use Rattle.mdv_engine.specs.Below.{Answer, AreLaid, CameTo, CarriedTo, CarryMoment, OfPlan, PlanChange, Changed, CommitFault, Created, Geometry, IsOfGeometry, IsOpenedAt, IsPlainAnswer, IsReady, Knows, MakeStripe, Memory, Opened, Outcomes, ReplicaFull, SliceName, Table, Tale, TooLong, VolId, active_of, drives_of, kept_at, key_of, record_room, record_text, shortage}
 use Rattle.mdv_engine.specs.Counts.{IsCommandCounted, WereTried}
 use Rattle.mdv_engine.specs.Ends.{ChangeMoments, HasAnswered, StripeEnds}
 use Rattle.mdv_engine.specs.Engine.{IsHeldBy, IsLostOnSite, IsNextTable, IsWell, commit_answer}
@@ -90,8 +90,8 @@ module _ {S : Type 0} (shelf : Ghosts S) (a b : S) (v : Engine) (ready : IsReady
       calm : AreCalmBeside (drives_of o.seats) (DriveFailures shelf a b)
       calm = calm_beside shelf a b (drives_of o.seats) kept
 
-      pub change_moments : (change : Change) → IsNextTable v.host v.state change next → ChangeMoments shelf a b v change
-      change_moments change is = moments_weaker (CommitMoment o next) (CarryMoment v.host (ToDo (Changed (key_of v.host) change)) v.state) (shelf.tale a) (shelf.tale b)
+      pub change_moments : (change : PlanChange) → IsNextTable v.host v.state change next → ChangeMoments shelf a b v change
+      change_moments change is = moments_weaker (CommitMoment o next) (CarryMoment v.host (ToDo (Changed (key_of v.host) (OfPlan change))) v.state) (shelf.tale a) (shelf.tale b)
           (λ t m moment. committing.commit_moment v.host (shelf.sizes a) ready v.state o opened held next t m moment change (next_of v.host v.state change next o opened is)) moments
 
       module _ (volume : VolId) (slice : SliceName) (is : IsNextTable v.host v.state (MakeStripe volume slice) next) where
@@ -114,7 +114,7 @@ module _ {S : Type 0} (shelf : Ghosts S) (a b : S) (v : Engine) (ready : IsReady
         Comes answer memory t u = Knows v.host v.state t → CameTo (DriveFailures shelf a b) v.host (kept_at v.state t) (command.MakeStripe volume slice) answer (kept_at memory u)
 
         abbrev Carries : Answer → Memory → Tale → Tale → Type 0
-        Carries answer memory = CarriedTo v.host (ToDo (Changed (key_of v.host) (MakeStripe volume slice))) v.state answer memory
+        Carries answer memory = CarriedTo v.host (ToDo (Changed (key_of v.host) (OfPlan (MakeStripe volume slice)))) v.state answer memory
 
         pub done_ends : commit.IsCommitted (DriveFailures shelf a b) o new next → AtEnd shelf (CommitDone o new next) a b → StripeEnds shelf a b v volume slice accepted after
         done_ends done ends = command_ends (DriveFailures shelf a b) v (command.MakeStripe volume slice) outcome.Ok after (shelf.tale a) (shelf.tale b)
@@ -141,14 +141,14 @@ module _ {S : Type 0} (shelf : Ghosts S) (a b : S) (v : Engine) (ready : IsReady
         over_ends fault long same none = subst (λ (e : Engine). StripeEnds shelf a b v volume slice (refusing (ReplicaFull fault.bytes fault.room)) e) (sym (as_before long.is))
             (command_ends (DriveFailures shelf a b) v (command.MakeStripe volume slice) (outcome.Refused (ReplicaFull fault.bytes fault.room)) v (shelf.tale a) (shelf.tale b)
             (λ t start. (t, same ∙ start, λ known. came.refused none (ReplicaFull fault.bytes fault.room) (committing.long_refusal v.host v.state o opened volume slice next chosen new fault long) (refl, record { memory = refl; content = λ drive block. refl })))
-            (refused_carried v.host (ToDo (Changed (key_of v.host) (MakeStripe volume slice))) v.state (shelf.tale a) (shelf.tale b) same (ReplicaFull fault.bytes fault.room))
+            (refused_carried v.host (ToDo (Changed (key_of v.host) (OfPlan (MakeStripe volume slice)))) v.state (shelf.tale a) (shelf.tale b) same (ReplicaFull fault.bytes fault.room))
             (λ on u. tt))
 
         spent_ends : commit.IsSpent o new next → shelf.tale b ≡ shelf.tale a → ((drive : ℕ) → (DriveFailures shelf a b drive).none) → StripeEnds shelf a b v volume slice (Over ended.Spent) after
         spent_ends spent same none = subst (λ (e : Engine). StripeEnds shelf a b v volume slice (Over ended.Spent) e) (sym (as_before spent.is))
             (other_ends (DriveFailures shelf a b) v (command.MakeStripe volume slice) (Over ended.Spent) v (shelf.tale a) (shelf.tale b)
             (λ t start. (t, same ∙ start, λ known. came.over ended.Spent (committing.free_of v.host v.state o opened volume slice next chosen spent.fits) refl (none, o, opened, spent.spent, record { memory = refl; content = λ drive block. refl })))
-            (λ t start. (t, same ∙ start, spent_still v.host (ToDo (Changed (key_of v.host) (MakeStripe volume slice))) v.state v.state t))
+            (λ t start. (t, same ∙ start, spent_still v.host (ToDo (Changed (key_of v.host) (OfPlan (MakeStripe volume slice)))) v.state v.state t))
             (λ on u. absurd on) (λ one two is u. tt))
 
         -- by the fault
@@ -165,8 +165,8 @@ module _ {S : Type 0} (shelf : Ghosts S) (a b : S) (v : Engine) (ready : IsReady
         abbrev Answered : Answer → Engine → Type 0
         Answered answer e = HasAnswered (DriveFailures shelf a b) (command.MakeStripe volume slice) v answer e
 
-        never_made : Contains (Changed (key_of v.host) (MakeStripe volume slice) ∷ []) (Created (key_of v.host)) → ⊥
-        never_made has = no_creation (key_of v.host) (Changed (key_of v.host) (MakeStripe volume slice)) (λ same. absurd (cc (same))) has
+        never_made : Contains (Changed (key_of v.host) (OfPlan (MakeStripe volume slice)) ∷ []) (Created (key_of v.host)) → ⊥
+        never_made has = no_creation (key_of v.host) (Changed (key_of v.host) (OfPlan (MakeStripe volume slice))) (λ same. absurd (cc (same))) has
 
         well_left : (failed : Outcomes) → shortage new ≡ None → AreLaid (shelf.sizes b) new.seats → new.key ≡ o.key → IsOfGeometry v.host.drives new.table → AreLeft failed (TakesSlot (commit.next_mark o.mark) (length (record_text next))) o.seats new.seats → IsWell v.host (with_open v.state new)
         well_left failed enough laid_now keyed listed left = record {

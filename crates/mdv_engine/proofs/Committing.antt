@@ -31,15 +31,15 @@ use Rattle.mdv_engine_law.proofs.Refusing.{opened_has}
 use Rattle.mdv_engine_law.proofs.Allowed.{either_left}
 use Rattle.mdv_engine_law.proofs.Within.{none_in, outside_places}
 use Rattle.mdv_shelf.specs.Area.{range}
-use Rattle.mdv_engine.specs.Below.{Answer, AreCalm, AreLaid, CameTo, CarriedTo, CarryMoment, Change, Changed, Host, IsOfGeometry, IsOpenedAt, IsPlain, IsReady, Knows, MakeStripe, Memory, Opened, OutOfMemory, Outcomes, Refusal, Replica, ReplicaFull, SliceLine, SliceName, Table, Tale, TooLong, VolId, drives_of, kept_at, key_of, record_room, record_text, replicas_of, seats_area, site_area, shortage}
+use Rattle.mdv_engine.specs.Below.{Answer, AreCalm, AreLaid, CameTo, CarriedTo, CarryMoment, OfPlan, PlanChange, Changed, Host, IsOfGeometry, IsOpenedAt, IsPlain, IsReady, Knows, MakeStripe, Memory, Opened, OutOfMemory, Outcomes, Refusal, Replica, ReplicaFull, SliceLine, SliceName, Table, Tale, TooLong, VolId, drives_of, kept_at, key_of, record_room, record_text, replicas_of, seats_area, site_area, shortage}
 use Rattle.mdv_engine.specs.Engine.{HasChangeCause, IsCommittable, IsHeldBy, IsNextTable, IsWell, LiesOn}
 
 -- the lists of a table stay where a change makes another of it
-pub made_lists : (g : _) (change : Change) (t : Table) → (table_after g change t).plan.lists ≡ t.plan.lists
+pub made_lists : (g : _) (change : PlanChange) (t : Table) → (table_after g change t).plan.lists ≡ t.plan.lists
 made_lists g (MakeStripe volume slice) t = refl
 
 -- the next table
-pub is_next : (host : Host) (memory : Memory) (well : IsWell host memory) (o : Opened) → memory.opened ≡ Some o → (table : Table) → table ≡ o.table → (change : Change) (next : Table)
+pub is_next : (host : Host) (memory : Memory) (well : IsWell host memory) (o : Opened) → memory.opened ≡ Some o → (table : Table) → table ≡ o.table → (change : PlanChange) (next : Table)
     → refusal_of host.drives table.plan change ≡ None → next ≡ table_after host.drives change table → (IsOfGeometry host.drives table → IsOfGeometry host.drives next) → IsNextTable host memory change next
 is_next host memory well o opened table same change next allowed made of =
     let is : IsHeldBy host o = opened_has memory o (IsHeldBy host) opened well.database in
@@ -52,7 +52,7 @@ is_next host memory well o opened table same change next allowed made of =
     }
 
 -- what the causes of a change come to, by what its table says and by the length of the record
-module _ (host : Host) (o : Opened) (change : Change) where
+module _ (host : Host) (o : Opened) (change : PlanChange) where
   abbrev room : ℕ
   room = record_room o
 
@@ -89,20 +89,20 @@ module _ (host : Host) (o : Opened) (change : Change) where
   change_against r is = against r (nat_lt room bytes) is
 
 -- of the open database
-of_open : (host : Host) (opened : Option Opened) (o : Opened) (change : Change) (told : Option Refusal) → opened ≡ Some o → change_refusal host (Some o) change ≡ told → change_refusal host opened change ≡ told
+of_open : (host : Host) (opened : Option Opened) (o : Opened) (change : PlanChange) (told : Option Refusal) → opened ≡ Some o → change_refusal host (Some o) change ≡ told → change_refusal host opened change ≡ told
 of_open host opened o change told is same = ap (λ (x : Option Opened). change_refusal host x change) is ∙ same
 
 -- what the table says against the change
-pub is_refused : (host : Host) (memory : Memory) (o : Opened) → memory.opened ≡ Some o → (table : Table) → table ≡ o.table → (change : Change) (r : Refusal) → refusal_of host.drives table.plan change ≡ Some r → HasChangeCause host memory change r
+pub is_refused : (host : Host) (memory : Memory) (o : Opened) → memory.opened ≡ Some o → (table : Table) → table ≡ o.table → (change : PlanChange) (r : Refusal) → refusal_of host.drives table.plan change ≡ Some r → HasChangeCause host memory change r
 is_refused host memory o opened table same change r is =
     inl (of_open host memory.opened o change (Some r) opened (change_against host o change r (subst (λ (t : Table). refusal_of host.drives t.plan change ≡ Some r) same is)))
 
 -- where none is open
-pub none_open : (host : Host) (opened : Option Opened) (change : Change) → opened ≡ None → change_refusal host opened change ≡ Some NoDatabase
+pub none_open : (host : Host) (opened : Option Opened) (change : PlanChange) → opened ≡ None → change_refusal host opened change ≡ Some NoDatabase
 none_open host opened change is = ap (λ (x : Option Opened). change_refusal host x change) is
 
 -- where the open table says nothing against the change memory may be wanting
-pub may_want : (host : Host) (memory : Memory) (o : Opened) → memory.opened ≡ Some o → (table : Table) → table ≡ o.table → (change : Change) → refusal_of host.drives table.plan change ≡ None → HasChangeCause host memory change OutOfMemory
+pub may_want : (host : Host) (memory : Memory) (o : Opened) → memory.opened ≡ Some o → (table : Table) → table ≡ o.table → (change : PlanChange) → refusal_of host.drives table.plan change ≡ None → HasChangeCause host memory change OutOfMemory
 may_want host memory o opened table same change free = inr ((o, opened, subst (λ (t : Table). refusal_of host.drives t.plan change ≡ None) same free), refl)
 
 -- a change that is refused before anything is done
@@ -116,17 +116,17 @@ module _ (host : Host) (memory : Memory) (volume : VolId) (slice : SliceName) wh
   refused_plain r (inr (some, want)) = subst IsPlain (sym want) memory_plain
 
 -- the change of the open table
-pub record IsChanging (host : Host) (o : Opened) (change : Change) (next : Table) : Type 0 where
+pub record IsChanging (host : Host) (o : Opened) (change : PlanChange) (next : Table) : Type 0 where
   pub allowed : refusal_of host.drives o.table.plan change ≡ None
   pub is : next ≡ table_after host.drives change o.table
   pub of_geometry : IsOfGeometry host.drives next
 
-pub next_of : (host : Host) (memory : Memory) (change : Change) (next : Table) (o : Opened) → memory.opened ≡ Some o → IsNextTable host memory change next → IsChanging host o change next
+pub next_of : (host : Host) (memory : Memory) (change : PlanChange) (next : Table) (o : Opened) → memory.opened ≡ Some o → IsNextTable host memory change next → IsChanging host o change next
 next_of host memory change next o opened is =
     subst (λ (n : Opened). IsChanging host n change next) (some_is memory.opened is.o o is.opened opened) (record { allowed = is.allowed; is = is.is; of_geometry = is.of_geometry })
 
 -- it may be committed
-pub next_fits : (host : Host) (memory : Memory) (change : Change) (next : Table) → IsNextTable host memory change next → IfSome memory.opened (λ o. IsCommittable host o next)
+pub next_fits : (host : Host) (memory : Memory) (change : PlanChange) (next : Table) → IsNextTable host memory change next → IfSome memory.opened (λ o. IsCommittable host o next)
 next_fits host memory change next is = subst (λ (x : Option Opened). IfSome x (λ o. IsCommittable host o next)) (sym is.opened) (record { of_geometry = is.of_geometry; lists = ap (λ (t : Table). t.plan.lists) is.is ∙ made_lists host.drives change is.o.table })
 
 module _ (host : Host) (memory : Memory) (o : Opened) (opened : memory.opened ≡ Some o) (volume : VolId) (slice : SliceName) (next : Table) (is : IsChanging host o (MakeStripe volume slice) next) where
@@ -144,7 +144,7 @@ module _ (host : Host) (memory : Memory) (o : Opened) (opened : memory.opened �
       of_open host memory.opened o (MakeStripe volume slice) (Some (ReplicaFull fault.bytes fault.room)) opened
       (change_long host o (MakeStripe volume slice) is.allowed (let long = over.over in omega (arith, same, long)) ∙ ap Some (λ i. ReplicaFull ((sym same ∙ sym over.bytes) i) (sym over.room i)))
 
-is_made : (host : Host) (o : Opened) (change : Change) (next : Table) → IsChanging host o change next → IsMade host.drives (Some change) o.table next
+is_made : (host : Host) (o : Opened) (change : PlanChange) (next : Table) → IsChanging host o change next → IsMade host.drives (Some (OfPlan change)) o.table next
 is_made host o change next is = ((is.allowed, ap (λ (t : Table). t.plan) is.is), ap (λ (t : Table). t.status) is.is)
 
 -- the replicas of a database that is held lie on the host's slices
@@ -187,21 +187,21 @@ with_open memory o = record memory { opened = Some o }
 module _ (host : Host) (sizes : List ℕ) (ready : IsReady host sizes) (memory : Memory) (o : Opened) (opened : memory.opened ≡ Some o) (held_is : IsHeldBy host o) (next : Table) where
   -- at each moment
   module _ (t m : Tale) (moment : CommitMoment o next t m) where
-    pub commit_moment : (change : Change) → IsChanging host o change next → CarryMoment host (ToDo (Changed (key_of host) change)) memory t m
+    pub commit_moment : (change : PlanChange) → IsChanging host o change next → CarryMoment host (ToDo (Changed (key_of host) (OfPlan change))) memory t m
     commit_moment (MakeStripe volume slice) is =
         changing.changing_moment host sizes ready memory o opened volume slice next (is_made host o (MakeStripe volume slice) next is) is.of_geometry (seats_on host o held_is) t m moment.quiet.outside moment.quiet.quiet
-        (λ all which. databases.commit_moment host.drives all o (Some (MakeStripe volume slice)) next t m which moment)
+        (λ all which. databases.commit_moment host.drives all o (Some (OfPlan (MakeStripe volume slice))) next t m which moment)
 
   -- what it comes to, by the answer of the store
   module _ (volume : VolId) (slice : SliceName) (is : IsChanging host o (MakeStripe volume slice) next) (t u : Tale) (moment : CommitMoment o next t u) (calls : Outcomes) where
-    abbrev stripe : Change
+    abbrev stripe : PlanChange
     stripe = MakeStripe volume slice
 
     abbrev Comes : Answer → Memory → Type 0
     Comes answer after = CameTo calls host (kept_at memory t) (command.MakeStripe volume slice) answer (kept_at after u)
 
     abbrev Carries : Answer → Memory → Type 0
-    Carries answer after = CarriedTo host (ToDo (Changed (key_of host) stripe)) memory answer after t u
+    Carries answer after = CarriedTo host (ToDo (Changed (key_of host) (OfPlan stripe))) memory answer after t u
 
     -- it was committed
     module _ (new : Opened) (done : commit.IsCommitted calls o new next) (calm : AreCalmBeside (drives_of o.seats) calls) (ends : CommitDone o new next t u) where
@@ -221,7 +221,7 @@ module _ (host : Host) (sizes : List ℕ) (ready : IsReady host sizes) (memory :
       done_carried =
           changing.changed host sizes ready memory o opened volume slice next (is_made host o stripe next is) is.of_geometry (seats_on host o held_is) t u moment.quiet.outside new (with_open memory new) refl (omega arith) refl
           (ap (λ (x : Opened). x.key) done.is) (ap (λ (x : Opened). x.table) done.is) opens
-          (λ all which. databases.commit_end host.drives all o new (Some stripe) next t u which moment ends (ap (λ (x : Opened). x.key) done.is) (ap (λ (x : Opened). x.identity) done.is))
+          (λ all which. databases.commit_end host.drives all o new (Some (OfPlan stripe)) next t u which moment ends (ap (λ (x : Opened). x.key) done.is) (ap (λ (x : Opened). x.identity) done.is))
 
     -- too few places took it
     module _ (active listed : ℕ) (new : Opened) (lost : commit.IsLostNow calls o new next) (few : shortage new ≡ Some (record { active = active; listed = listed })) (calm : AreCalmBeside (drives_of o.seats) calls)
@@ -242,4 +242,4 @@ module _ (host : Host) (sizes : List ℕ) (ready : IsReady host sizes) (memory :
     pub lost_carried : (active listed : ℕ) (after : Memory) → Carries (Over (ended.Lost active listed)) after
     lost_carried active listed after =
         changing.changed_or_lost host sizes ready memory o opened volume slice next (is_made host o stripe next is) is.of_geometry (seats_on host o held_is) t u moment.quiet.outside active listed after
-        (λ all which. databases.commit_moment host.drives all o (Some stripe) next t u which moment)
+        (λ all which. databases.commit_moment host.drives all o (Some (OfPlan stripe)) next t u which moment)

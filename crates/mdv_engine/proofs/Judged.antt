@@ -15,7 +15,7 @@ use Rattle.mdv_engine_law.specs.Below.{Down}
 use Rattle.mdv_engine_law.specs.Answers.{refusing}
 use Rattle.mdv_engine_law.specs.Refusals.{Case, blocks_refusal, bytes_after, change_refusal, has_number, held_of_blocks, held_of_change, held_of_creation, held_of_more, held_of_read, held_of_replicas, held_past, is_doubled, is_missing, is_plain, is_short, is_taken, places_open, read_refusal, refusal_of, size_of}
 use Rattle.mdv_engine_law.specs.Replies.{Blame, HasAnswerCause}
-use Rattle.mdv_engine.specs.Below.{SliceName, VolId, Create, Refusal, IoFault, OutOfMemory, Change, MakeStripe, Host, Memory, Opened, Volume, record_room}
+use Rattle.mdv_engine.specs.Below.{SliceName, VolId, Create, Refusal, IoFault, OutOfMemory, PlanChange, MakeStripe, Host, Memory, Opened, Volume, record_room}
 use Rattle.mdv_engine.specs.Engine.{HasChangeCause}
 
 -- a refusal that tells of no failed call and of no want of memory
@@ -98,7 +98,7 @@ change_held host (Some o) volume slice =
     change_held_so (is_none (slice_at g.slices slice)) (has_volume p.volumes volume) (is_db (slice_at g.slices slice)) (is_in_use g.slices (used_slices p) slice || meets_db g slice)
     (nat_lt (record_room o) (bytes_after host o change)) (ReplicaFull (bytes_after host o change) (record_room o)) tt
 
-pub change_judged : (host : Host) (opened : Option Opened) (change : Change) (r : Refusal) → change_refusal host opened change ≡ Some r → IsJudged r
+pub change_judged : (host : Host) (opened : Option Opened) (change : PlanChange) (r : Refusal) → change_refusal host opened change ≡ Some r → IsJudged r
 change_judged host opened (MakeStripe volume slice) r is = first_holds IsJudged order (held_of_change host opened (MakeStripe volume slice)) r (change_held host opened volume slice) is
 
 -- such a refusal comes where no call failed
@@ -107,11 +107,11 @@ judged_said blame spends IoFault judged calm = absurd judged
 judged_said blame spends OutOfMemory judged calm = absurd judged
 judged_said blame spends other judged calm = calm
 
-pub change_cause : (host : Host) (memory : Memory) (change : Change) (blame : Blame) (spends : Type 0) → blame.none → (r : Refusal) → HasChangeCause host memory change r → HasAnswerCause blame spends (refusing r)
+pub change_cause : (host : Host) (memory : Memory) (change : PlanChange) (blame : Blame) (spends : Type 0) → blame.none → (r : Refusal) → HasChangeCause host memory change r → HasAnswerCause blame spends (refusing r)
 change_cause host memory change blame spends calm r (inl is) = judged_said blame spends r (change_judged host memory.opened change r is) calm
 change_cause host memory change blame spends calm r (inr (some, want)) = subst (λ (x : Refusal). HasAnswerCause blame spends (refusing x)) (sym want) calm
 
 -- and is no failed call
-pub change_no_fault : (host : Host) (memory : Memory) (change : Change) (r : Refusal) → HasChangeCause host memory change r → r ≡ IoFault → ⊥
+pub change_no_fault : (host : Host) (memory : Memory) (change : PlanChange) (r : Refusal) → HasChangeCause host memory change r → r ≡ IoFault → ⊥
 change_no_fault host memory change r (inl is) fault = subst IsJudged fault (change_judged host memory.opened change r is)
 change_no_fault host memory change r (inr (some, want)) fault = absurd (cc (sym want ∙ fault))

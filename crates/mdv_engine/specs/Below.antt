@@ -44,10 +44,11 @@ pub use Rattle.mdv_store.specs.declared.booting.BootEnd.{BootEnd}
 pub use Rattle.mdv_store.specs.declared.creating.CreateFault.{CreateFault}
 pub use Rattle.mdv_store.specs.declared.seats.Seat.{Seat}
 pub use Rattle.mdv_store.specs.declared.store.CommitFault.{CommitFault}
+pub use Rattle.mdv_store_law.specs.Changes.{OfPlan}
 pub use Rattle.mdv_survey.specs.declared.replica.Replica.{Replica}
 pub use Rattle.mdv_table.specs.Table.{IsComponentOn, IsKindOf, IsOfGeometry, IsStripeOf, IsWholeSlice}
 pub use Rattle.mdv_table.specs.Volumes.{HasNoVolume, HasVolume}
-pub use Rattle.mdv_table.specs.declared.change.Change.{Change}
+pub use Rattle.mdv_table.specs.declared.change.Change.{Change as PlanChange}
 pub use Rattle.mdv_table.specs.declared.change.Change.TheVariants.{MakeStripe}
 pub use Rattle.mdv_table.specs.declared.table.Table.{Table}
 pub use Rattle.mdv_table.specs.declared.volume.Base.{Base}

@@ -18,7 +18,6 @@ use Rattle.mdv_store.specs.Commit.{next_mark}
 use Rattle.mdv_acts.specs.Asked.{blanked_asked, drives_asked}
 use Rattle.mdv_store.specs.Create.{seats_asked, table_of}
 use Rattle.mdv_store.specs.Seats.{AreLeft}
-use Rattle.mdv_store.specs.Text.{blocks_for}
 use Rattle.mdv_store.specs.Writing.{AreWrittenBy}
 use Rattle.mdv_standing.specs.Creating.{first_mark}
 use Rattle.mdv_survey.specs.Counts.{AreLinesBy}
@@ -32,7 +31,7 @@ use Rattle.mdv_engine_law.specs.declared.answer.Outcome.TheVariants as outcome
 use Rattle.mdv_engine_law.specs.Answers.{accepted, refusing}
 use Rattle.mdv_engine_law.specs.declared.answer.Reply.{Reply}
 use Rattle.mdv_engine_law.specs.declared.answer.Reply.TheVariants as reply
-use Rattle.mdv_engine.specs.Below.{Create, Host, Identity, Key, MakeStripe, Memory, Opened, Read, Seat, SliceLine, Write, active_of, key_of, lines_asked, record_text}
+use Rattle.mdv_engine.specs.Below.{Create, Host, Identity, Key, MakeStripe, Memory, Opened, Read, Seat, SliceLine, Write, active_of, key_of, lines_asked}
 use Rattle.mdv_store.specs.Shares.{short_of}
 use Rattle.mdv_store.specs.declared.seats.Need.TheVariants.{Half}
 use Rattle.mdv_table.specs.declared.plan.Lists.{Lists}

@@ -12,7 +12,7 @@ use Rattle.mdv_store.specs.Seats.{AreTheirs}
 use Rattle.mdv_words.specs.declared.command.Command.{Command}
 use Rattle.mdv_words.specs.declared.command.Command.TheVariants as command
 use Rattle.mdv_words.specs.Line as words
-use Rattle.mdv_engine.specs.Below.{Answer, AreBlocksAt, AreCalm, BootedTo, CameTo, CarryEnd, CarryMoment, Change, Changed, Create, Created, DriveBlock, DriveNo, Ended, Executed, FailedOn, Host, IoFault, IsAllowed, IsOpenedAt, IsPlainAnswer, IsRebooted, IsSettled, IsSynced, Kept, KeptOutside, Knows, MakeStripe, MayLeave, Memory, OnDrive, Opened, OutOfMemory, Outcomes, Read, Refusal, Seat, Settling, SliceLine, SliceName, Table, Tale, TellMoment, TellsFront, TurnMoment, Turned, VolId, Write, asked_by, blocks_of, has_drive, identity_of, kept_at, key_of, last, lines_asked, nowhere, text_of, unbooted}
+use Rattle.mdv_engine.specs.Below.{Answer, AreBlocksAt, AreCalm, BootedTo, CameTo, CarryEnd, CarryMoment, OfPlan, PlanChange, Changed, Create, Created, DriveBlock, DriveNo, Ended, Executed, FailedOn, Host, IoFault, IsAllowed, IsOpenedAt, IsPlainAnswer, IsRebooted, IsSettled, IsSynced, Kept, KeptOutside, Knows, MakeStripe, MayLeave, Memory, OnDrive, Opened, OutOfMemory, Outcomes, Read, Refusal, Seat, Settling, SliceLine, SliceName, Table, Tale, TellMoment, TellsFront, TurnMoment, Turned, VolId, Write, asked_by, blocks_of, has_drive, identity_of, kept_at, key_of, last, lines_asked, nowhere, text_of, unbooted}
 use Rattle.mdv_shelf.specs.Made.{Made, and_more, made_of}
 use Rattle.mdv_engine_law.specs.declared.answer.Answer.TheVariants.{Over}
 use Rattle.mdv_engine_law.specs.declared.answer.Ended.TheVariants as ended
@@ -36,8 +36,8 @@ abbrev pub CreationMoments : {S : Type 0} → Ghosts S → S → S → Engine �
 CreationMoments shelf from to old slices count blocks = AtEachTale shelf (CarryMoment old.host (ToMake (key_of old.host) (lines_asked old.host slices) count blocks) old.state) from to
 
 -- each moment of a change
-abbrev pub ChangeMoments : {S : Type 0} → Ghosts S → S → S → Engine → Change → Type 0
-ChangeMoments shelf from to old change = AtEachTale shelf (CarryMoment old.host (ToDo (Changed (key_of old.host) change)) old.state) from to
+abbrev pub ChangeMoments : {S : Type 0} → Ghosts S → S → S → Engine → PlanChange → Type 0
+ChangeMoments shelf from to old change = AtEachTale shelf (CarryMoment old.host (ToDo (Changed (key_of old.host) (OfPlan change))) old.state) from to
 
 -- the database that a creation leaves open at these places
 abbrev pub made_at : Host → ℕ → List SliceLine → ℕ → ℕ → List Seat → Opened
@@ -71,7 +71,7 @@ abbrev pub CommandEnd : Outcomes → Engine → Command → Answer → Engine �
 CommandEnd calls old command answer new t u = CarriedOut calls old.host command old.state answer new.state t u
 
 -- the table that the change makes of the engine's
-abbrev pub IsNext : Engine → Change → Table → Type 0
+abbrev pub IsNext : Engine → PlanChange → Table → Type 0
 IsNext engine change next = IsNextTable engine.host engine.state change next
 
 -- so of a stripe

@@ -1,6 +1,6 @@
 -- What an engine keeps, what its boots answer, and why blocks and changes are refused.
 use Rattle.std.specs.Prelude.{◌≡◌, ◌⊎◌, ◌+◌, ◌*◌, ◌<◌, ◌≤◌, ℕ, Bool, true, List, [], length, Contains, Option, Some, None, IfSome, Result, Ok, Err}
-use Rattle.mdv_engine.specs.Below.{Answer, AreCalm, AreLaid, BootEnd, Change, CommitFault, CreateFault, DriveNo, Drives, Geometry, Host, IoFault, IsOfGeometry, IsUpBy, Memory, Opened, OutOfMemory, Outcomes, Refusal, Replica, ReplicaFull, Site, SliceLine, Table, VolId, answered_by, drives_of, has_drive, key_of, opened_by, replicas_of, shortage}
+use Rattle.mdv_engine.specs.Below.{Answer, AreCalm, AreLaid, BootEnd, PlanChange, CommitFault, CreateFault, DriveNo, Drives, Geometry, Host, IoFault, IsOfGeometry, IsUpBy, Memory, Opened, OutOfMemory, Outcomes, Refusal, Replica, ReplicaFull, Site, SliceLine, Table, VolId, answered_by, drives_of, has_drive, key_of, opened_by, replicas_of, shortage}
 pub use Rattle.mdv_engine_law.specs.Commands.{FailedBlocks}
 use Rattle.mdv_table.specs.Change.{table_after}
 use Rattle.mdv_table.specs.Change as table
@@ -106,7 +106,7 @@ HasReadCause calls host memory volume at count refusal =
     ⊎ ((FailedBlocks calls host memory volume at count × (read_refusal memory.opened volume at count ≡ None) × (refusal ≡ IoFault)) ⊎ (AreCalm calls × (read_refusal memory.opened volume at count ≡ None) × (refusal ≡ OutOfMemory)))
 
 -- the table that the change makes of the open one, which says nothing against it
-pub record IsNextTable (host : Host) (memory : Memory) (change : Change) (next : Table) : Type 0 where
+pub record IsNextTable (host : Host) (memory : Memory) (change : PlanChange) (next : Table) : Type 0 where
   pub o : Opened
   pub opened : memory.opened ≡ Some o
   pub allowed : table.refusal_of host.drives o.table.plan change ≡ None
@@ -114,7 +114,7 @@ pub record IsNextTable (host : Host) (memory : Memory) (change : Change) (next :
   pub of_geometry : IsOfGeometry host.drives next
 
 -- why there is none: the first cause that refuses the change; or memory was wanting, where the open table says nothing against it
-abbrev pub HasChangeCause : Host → Memory → Change → Refusal → Type 0
+abbrev pub HasChangeCause : Host → Memory → PlanChange → Refusal → Type 0
 HasChangeCause host memory change refusal = (change_refusal host memory.opened change ≡ Some refusal) ⊎ (IsUnopposed host memory change × (refusal ≡ OutOfMemory))
 
 -- a table that may be committed to the open database: one of the host's table of drives, with the lists that it has

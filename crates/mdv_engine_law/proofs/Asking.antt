@@ -1,13 +1,13 @@
 -- The one table that a change makes, whichever events of the log it came by; or that one with its change of places over.
 use Rattle.std.proofs.Common.{◌≡◌, ◌⊎◌, inl, inr, ⊎_elim, true, false, List, [], ◌∷◌, Option, Some, None, refl, sym, ◌∙◌, ap, subst}
 use Rattle.mdv_base.specs.declared.mark.Mark.{Mark}
+use Rattle.mdv_store_law.specs.Changes.{AddPlaces, Change, DropPlaces, FirstPlace, OfPlan}
 use Rattle.mdv_store_law.specs.Log as log
 use Rattle.mdv_store_law.specs.Log.{IsBegun, IsLog, IsMade, IsSameOrSettled, Log, Version, answered, log_after}
 use Rattle.mdv_store_law.specs.Part.{IsPart}
 use Rattle.mdv_store_law.proofs.Families.{answered_rising, settled_more}
 use Rattle.mdv_store_law.proofs.Logs.{is_log_after}
 use Rattle.mdv_table.specs.Plan.{last_of, settled}
-use Rattle.mdv_table.specs.declared.change.Change.{Change}
 use Rattle.mdv_table.specs.declared.change.Change.TheVariants.{MakeStripe}
 use Rattle.mdv_table.specs.declared.plan.Lists.TheVariants.{One}
 use Rattle.mdv_table.specs.declared.plan.Plan.{Plan}
@@ -20,21 +20,27 @@ use Rattle.mdv_engine_law.proofs.Lifting.{asked_change}
 
 -- what a change makes of a table is one table
 made_one : (g : Geometry) (change : Change) (old a b : Table) → IsMade g (Some change) old a → IsMade g (Some change) old b → a ≡ b
-made_one g change old a b one other =
+made_one g (OfPlan change) old a b one other =
     let plan : a.plan ≡ b.plan = one.0.1 ∙ sym other.0.1 in
     let status : a.status ≡ b.status = one.1 ∙ sym other.1 in
     λ i. record { plan = plan i; status = status i }
+made_one g (AddPlaces slices count blocks) old a b one other = one ∙ sym other
+made_one g (DropPlaces slices) old a b one other = one ∙ sym other
+made_one g FirstPlace old a b one other = one ∙ sym other
 
--- once its change of places is over the change makes of it what it made before, with that change over
-made_over : (g : Geometry) (change : Change) (old new other : Table) → IsMade g (Some change) old new → IsMade g (Some change) (settled old) other → other ≡ settled new
-made_over g (MakeStripe volume slice) old new other made over =
+-- once its change of places is over the change makes of it what it made before, or that with that change over
+made_over : (g : Geometry) (change : Change) (old new other : Table) → IsMade g (Some change) old new → IsMade g (Some change) (settled old) other → IsSameOrSettled new other
+made_over g (OfPlan (MakeStripe volume slice)) old new other made over =
     let plan : other.plan ≡ (settled new).plan = over.0.1 ∙ ap (λ (p : Plan). record p { lists = One (last_of p.lists) }) (sym made.0.1) in
     let status : other.status ≡ new.status = over.1 ∙ sym made.1 in
-    λ i. record { plan = plan i; status = status i }
+    inr (λ i. record { plan = plan i; status = status i })
+made_over g (AddPlaces slices count blocks) old new other made over = inl (over ∙ sym made)
+made_over g (DropPlaces slices) old new other made over = inl (over ∙ sym made)
+made_over g FirstPlace old new other made over = inl (over ∙ sym made)
 
 made_more : (g : Geometry) (change : Change) (old new from other : Table) → IsMade g (Some change) old new → IsSameOrSettled old from → IsMade g (Some change) from other → IsSameOrSettled new other
 made_more g change old new from other made (inl same) is = inl (made_one g change old other new (subst (λ (t : Table). IsMade g (Some change) t other) same is) made)
-made_more g change old new from other made (inr over) is = inr (made_over g change old new other made (subst (λ (t : Table). IsMade g (Some change) t other) over is))
+made_more g change old new from other made (inr over) is = made_over g change old new other made (subst (λ (t : Table). IsMade g (Some change) t other) over is)
 
 none_left : (es : List log.Event) (table : Table) → IsPart (log.begun_by es) [] → IsAsked es table → ⊥
 none_left es table within is = let asked = asked_change es table is in empty (log.begun_by es) asked.0 within asked.1

@@ -117,7 +117,7 @@ module _ (host : Host) (sizes : List ℕ) (ready : IsReady host sizes) (t : Tale
           let now = stands_beside g m kept there databases in
           goes_none host [] (λ fs. Then (es ++ fs)) m g now (then (es ++ []) g now (booted_first (key_of host) up es [] has.0, has.1, has.2))
       by es g there has (inr (identity, on)) =
-          lift_log host [] (λ fs. Then (es ++ fs)) (key_of host) identity [] AnyLog t m (its_site m kept) tt g there on
+          lift_log host [] (λ fs. Then (es ++ fs)) (key_of host) identity [] AnyLog t m (its_site m kept) tt tt g there on
           (λ table asked. absurd (never_asked on.es table (nothing on.es on.come.begins) asked))
           (λ fs k now databases woken drives. then (es ++ fs) k now (gone h g k es fs on.es has databases drives))
 
@@ -128,7 +128,7 @@ module _ (host : Host) (sizes : List ℕ) (ready : IsReady host sizes) (t : Tale
       goes_more host [] [] [] [] [] (λ es g. HasBegun host up h es g) Then t u h tt (begun h stands) (λ es g there has.
       (let is = goes g.databases there.databases in
       let on = is.goes in
-      lift_log host [] (λ fs. Then (es ++ fs)) (key_of host) o.identity [] (λ lg. IsNewestWritten lg o.mark o.table) t u (its_site u kept) tt g there on
+      lift_log host [] (λ fs. Then (es ++ fs)) (key_of host) o.identity [] (λ lg. IsNewestWritten lg o.mark o.table) t u (its_site u kept) tt tt g there on
       (λ table asked. absurd (never_asked on.es table (nothing on.es on.come.begins) asked))
       (λ fs k now databases woken drives. then (es ++ fs) k now (gone h g k es fs on.es has databases drives) (subst (λ (ds : List Database). IsOpenIn host.drives o ds u) (sym databases) is.is_open))))
 

@@ -4,7 +4,7 @@ use Rattle.mdv_databases.proofs.Lists.{events_log}
 use Rattle.mdv_databases.specs.Committing.{IsCommit, IsCommittedIn}
 use Rattle.mdv_databases.specs.Going.{GoOn, IsCurrentOf, with_events}
 use Rattle.mdv_databases.specs.Standing.{Stand}
-use Rattle.mdv_engine_law.specs.Below.{AreWoken, Change, Changed, Database, Drives, Event, History, IsMapOf, IsOpenIn, IsOpenedAt, Key, KeptOutside, Log, MakeStripe, Map, Opened, SliceName, Table, Tale, VolId, area_of_map, log_of, seats_area, site_area, site_of, told}
+use Rattle.mdv_engine_law.specs.Below.{AreWoken, Change, Changed, Database, Drives, Event, History, IsMapOf, IsOpenIn, IsOpenedAt, Key, KeptOutside, Log, MakeStripe, Map, OfPlan, Opened, SliceName, Table, Tale, VolId, area_of_map, log_of, seats_area, site_area, site_of, told}
 use Rattle.mdv_store.specs.Commit.{AnyLog, IsCommittedTo}
 use Rattle.mdv_store_law.specs.Log as log
 use Rattle.mdv_store_law.specs.Log.{IsMade, IsNewestTellable}
@@ -34,16 +34,16 @@ use Rattle.mdv_engine_law.proofs.Within.{opened_kept}
 
 -- A change of the open database, and the table that it makes; of each of its seats the replica lies on a slice of the host's site.
 module _ (host : Host) (sizes : List ℕ) (ready : IsReady host sizes) (memory : Memory) (o : Opened) (opened : memory.opened ≡ Some o) (volume : VolId) (slice : SliceName) (table : Table)
-    (made : IsMade host.drives (Some (MakeStripe volume slice)) o.table table) (placed : IsOfGeometry host.drives table) (seated : (drive block : ℕ) → site_area host.site drive block ≡ false → seats_area o.seats drive block ≡ false)
+    (made : IsMade host.drives (Some (OfPlan (MakeStripe volume slice))) o.table table) (placed : IsOfGeometry host.drives table) (seated : (drive block : ℕ) → site_area host.site drive block ≡ false → seats_area o.seats drive block ≡ false)
     (t m : Tale) (within : KeptOutside (seats_area o.seats) t m) where
   abbrev change : Change
-  change = MakeStripe volume slice
+  change = OfPlan (MakeStripe volume slice)
 
   kept : KeptOutside (site_area host.site) t m
   kept = kept_outside_wider (seats_area o.seats) (site_area host.site) t m seated within
 
   is_commit : (h : History) → IsKnown host memory h t → IsCommit host.drives h.databases o (Some change) table t
-  is_commit h known = record { stand = known.stands.databases; is_open = known_open host memory o opened t h known; of_geometry = placed; made = made }
+  is_commit h known = record { stand = known.stands.databases; is_open = known_open host memory o opened t h known; of_geometry = placed; made = made; keeps = tt }
 
   changing : (After : Log → Type 0) (Then : List Event → History → Type 0) (h : History) (known : IsKnown host memory h t) (goes : GoOn host.drives h.databases o.key o.identity (Some change ∷ []) After m)
       → ((es : List Event) (g : History) → StandsAt host g m → g.up (key_of host) ≡ memory.up → AreWoken host.drives table (is_up memory) g (key_of host) → g.databases ≡ with_events o.key goes.es h.databases → Then es g)
@@ -79,7 +79,7 @@ module _ (host : Host) (sizes : List ℕ) (ready : IsReady host sizes) (memory :
           }
 
           went : Goes host (Changed (key_of host) change ∷ []) [] (λ fs k. Then (es ++ fs) k) m g
-          went = lift_log host (Changed (key_of host) change ∷ []) (λ fs k. Then (es ++ fs) k) o.key o.identity (Some change ∷ []) After t m (subst (λ (area : ℕ → ℕ → _). KeptOutside area t m) (sym here) kept) asked g
+          went = lift_log host (Changed (key_of host) change ∷ []) (λ fs k. Then (es ++ fs) k) o.key o.identity (Some change ∷ []) After t m (subst (λ (area : ℕ → ℕ → _). KeptOutside area t m) (sym here) kept) asked (tt, tt) g
               (grown_stands host sizes ready memory o opened volume slice table made placed t h known es g grows) on
               (λ other asks. subst (λ (k : Key). IsTableReady host.drives g k t other) (sym its)
               (ready_grown host sizes ready memory o opened volume slice table made placed t h known es g grows other

@@ -3,11 +3,10 @@ use Rattle.std.proofs.Common.{◌≡◌, inl, inr, List, [], ◌∷◌, Option, 
 use Rattle.mdv_databases.proofs.Lists.{events_elsewhere, key_differs, key_is}
 use Rattle.mdv_databases.proofs.Telling.{told_open, told_stand}
 use Rattle.mdv_databases.specs.Going.{IsCurrentOf}
-use Rattle.mdv_engine_law.specs.Below.{Acknowledges, CanTell, Changed, Created, Database, Deed, Drives, Event, Geometry, Happens, History, IsOpenIn, Key, KeptOutside, OfDatabase, Opened, Saw, Shows, Tale, VolId, Wrote, history_after, nowhere, site_area, site_of}
+use Rattle.mdv_engine_law.specs.Below.{Acknowledges, CanTell, Change, Changed, Created, Database, Deed, Deleted, Deletes, Drives, Event, Geometry, Happens, History, IsOpenIn, Key, KeptOutside, OfDatabase, Opened, Saw, Shows, Tale, VolId, Wrote, history_after, nowhere, site_area, site_of}
 use Rattle.mdv_shelf.proofs.Blocks.{both_ways}
 use Rattle.mdv_shelf.proofs.Frame.{kept_outside_same}
 use Rattle.mdv_store_law.specs.Log as log
-use Rattle.mdv_table.specs.declared.change.Change.{Change}
 use Rattle.mdv_table.specs.declared.table.Table.{Table}
 use Rattle.mdv_volumes.specs.Databases.{current_of, log_in, same_key, with_event}
 use Rattle.mdv_volumes.specs.Happening.{IsIssue, deed_of}
@@ -76,6 +75,12 @@ module _ (host : Host) (memory : Memory) (u v : Tale) (kept : KeptOutside nowher
   told_one : (deed : Deed) → CanTell host.drives deed h → Goes host [] (deed ∷ []) Known v h
   told_one (Created key) can = newest_told key None can
   told_one (Changed key change) can = newest_told key (Some change) can
+  told_one (Deleted key) can = tells (Deleted key) (Deletes can.0.0 key) (record {
+    course = (((can.0.1, can.0.2), can.1), tt);
+    begins = refl;
+    tells = refl;
+    stands = record { databases = here.databases; laid = here.laid; apart = here.apart; volumes = here.volumes };
+  }) tt tt (own_still host memory.begun h known.its memory.begun (history_after h (Deletes can.0.0 key)) (omega arith) refl) (λ o is_open. is_open) refl refl
   told_one (Wrote key volume at blocks) can = tells (Wrote key volume at blocks) (Acknowledges can.untold.0 key volume at blocks) (record {
     course = (((can.untold.1, can.untold.2), can.range, can.only), tt);
     begins = refl;

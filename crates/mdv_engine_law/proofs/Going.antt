@@ -1,6 +1,6 @@
 -- How what goes on is joined, told of less, and taken from what the history's laws say.
 use Rattle.std.proofs.Common.{List, [], ◌∷◌, ◌++◌, refl, sym, subst}
-use Rattle.mdv_engine_law.specs.Below.{Acknowledges, Boots, Crashes, Creation, Identity, KeptOutside, nowhere, OfVolume, Reads, Shows, Stops, Tale, History, Deed, Event, OfDatabase, Happens, IsCourse, history_after, history_after_all, IsIssue}
+use Rattle.mdv_engine_law.specs.Below.{KeptOutside, nowhere, Tale, History, Deed, Event, Happens, IsCourse, history_after, history_after_all, IsIssue}
 use Rattle.mdv_store_law.specs.Part.{IsPart}
 use Rattle.mdv_volumes.specs.Happening.{begins, tells}
 use Rattle.mdv_store_law.specs.Machine.{AreAll}
@@ -11,18 +11,6 @@ use Rattle.mdv_engine_law.specs.Awake.{Happening, IsAwakeAt}
 use Rattle.mdv_engine_law.specs.declared.host.Host.{Host}
 use Rattle.mdv_engine_law.specs.Standing.{StandsAt, IsOfRun, Does, Goes}
 use Rattle.mdv_engine_law.proofs.Knowing.{stands_kept}
-
--- such a creation is any creation that is wanted
-pub issue_weaker : (Which Any : Identity → Type 0) → ((identity : Identity) → Which identity → Any identity) → (e : Event) → IsIssue Which e → IsIssue Any e
-issue_weaker Which Any wider (Creation key identity) is = wider identity is
-issue_weaker Which Any wider (OfDatabase key identity e) is = is
-issue_weaker Which Any wider (OfVolume key volume e) is = is
-issue_weaker Which Any wider (Reads key volume at blocks) is = is
-issue_weaker Which Any wider (Acknowledges place key volume at blocks) is = is
-issue_weaker Which Any wider (Shows place key volume at blocks) is = is
-issue_weaker Which Any wider (Boots key up) is = is
-issue_weaker Which Any wider Stops is = is
-issue_weaker Which Any wider Crashes is = is
 
 -- blocks of volumes are read and written only where a boot has found what they hold
 abbrev pub AllAwake : Host → History → List Event → Type 0

@@ -1,6 +1,6 @@
 -- A volume that a change makes begins with one value in each block, and then its table may be written.
 use Rattle.std.proofs.Common.{◌≡◌, ◌⊎◌, inl, inr, ◌+◌, ◌<◌, ℕ, true, false, List, [], ◌∷◌, Option, Some, IfSome, refl, sym, ◌∙◌, ap, subst, arith}
-use Rattle.mdv_engine_law.specs.Below.{Among, AreWoken, Begins, Event, Happens, History, IsMapOf, IsNamed, Key, Log, MakeStripe, Map, MayLeave, OfVolume, Opened, SliceName, Table, Tale, Version, VolId, VolumeKind, Base, Woke, area_of_map, history_after, history_after_all, last, log_of, run_map}
+use Rattle.mdv_engine_law.specs.Below.{Among, AreWoken, Begins, Event, Happens, History, IsMapOf, IsNamed, Key, Log, MakeStripe, Map, MayLeave, OfPlan, OfVolume, Opened, SliceName, Table, Tale, Version, VolId, VolumeKind, Base, Woke, area_of_map, history_after, history_after_all, last, log_of, run_map}
 use Rattle.mdv_map.proofs.Covering.{areas_cover}
 use Rattle.mdv_map.specs.Logs.{Follows, VolumeLog, opening}
 use Rattle.mdv_shelf.proofs.Settled.{covered}
@@ -42,7 +42,7 @@ use Rattle.mdv_shelf.proofs.Blocks.{both_ways}
 
 -- the table of a change
 module _ (host : Host) (sizes : List ℕ) (ready : IsReady host sizes) (memory : Memory) (newest : Opened) (opened : memory.opened ≡ Some newest) (volume : VolId) (slice : SliceName) (table : Table)
-    (made : IsMade host.drives (Some (MakeStripe volume slice)) newest.table table) (placed : IsOfGeometry host.drives table) where
+    (made : IsMade host.drives (Some (OfPlan (MakeStripe volume slice))) newest.table table) (placed : IsOfGeometry host.drives table) where
   abbrev pub key : Key
   key = key_of host
 
@@ -100,7 +100,7 @@ module _ (host : Host) (sizes : List ℕ) (ready : IsReady host sizes) (memory :
       by image b x lt left (inr none) = absurd none
 
   -- a boot finds the open table alone
-  alone_of : (lg : Log) → IsLog host.drives lg → IsNewestWritten lg newest.mark newest.table → Alone host.drives (MakeStripe volume slice) newest.table table made lg
+  alone_of : (lg : Log) → IsLog host.drives lg → IsNewestWritten lg newest.mark newest.table → Alone host.drives (OfPlan (MakeStripe volume slice)) newest.table table made lg
   alone_of lg is newest_is = record {
     some = subst log.IsBegun (sym newest_is.newest.family) tt;
     each = λ v found. inl (ap (λ (w : Version). w.table) (only_found newest_is.newest.version newest_is.newest.older v (subst log.IsRising newest_is.newest.family is.rising) newest_is.written (subst (λ (f : List Version). MayBeFound f v) newest_is.newest.family found)) ∙ newest_is.newest.same);
@@ -113,7 +113,7 @@ module _ (host : Host) (sizes : List ℕ) (ready : IsReady host sizes) (memory :
     is_log : IsLog host.drives (log_of h.databases key)
     is_log = is_log_of host.drives h.databases t known.stands.databases key
 
-    alone : Alone host.drives (MakeStripe volume slice) newest.table table made (log_of h.databases key)
+    alone : Alone host.drives (OfPlan (MakeStripe volume slice)) newest.table table made (log_of h.databases key)
     alone = alone_of (log_of h.databases key) is_log is_newest
 
     -- no table that a boot may find has the volume
@@ -251,5 +251,5 @@ module _ (host : Host) (sizes : List ℕ) (ready : IsReady host sizes) (memory :
             let maps : w ≡ map = sym (laid.one volume map w new_run.lies here) in
             ap (λ (n : VolId). g.woken key n) same_number ∙ grows.own (subst (λ (v : Map). IsUpon (is_up memory) v) maps upon) ∙ ap (λ (v : Map). v.blocks) (sym maps)
 
-    pub only_asked : (es : List log.Event) → log.IsCourse host.drives (log_of h.databases key) es → IsPart (log.begun_by es) (Some (MakeStripe volume slice) ∷ []) → (other : Table) → IsAsked es other → IsSameOrSettled table other
-    only_asked es course within other asked = asked_is host.drives (MakeStripe volume slice) newest.table table made (log_of h.databases key) es is_log alone course within other asked
+    pub only_asked : (es : List log.Event) → log.IsCourse host.drives (log_of h.databases key) es → IsPart (log.begun_by es) (Some (OfPlan (MakeStripe volume slice)) ∷ []) → (other : Table) → IsAsked es other → IsSameOrSettled table other
+    only_asked es course within other asked = asked_is host.drives (OfPlan (MakeStripe volume slice)) newest.table table made (log_of h.databases key) es is_log alone course within other asked

@@ -1,14 +1,15 @@
 -- What goes on in a database goes on in the history.
-use Rattle.std.proofs.Common.{◌≡◌, inl, inr, List, [], ◌∷◌, Option, Some, None, map, refl, ◌∙◌, ap}
+use Rattle.std.proofs.Common.{◌≡◌, inl, inr, List, [], ◌∷◌, Option, Some, None, map, refl, sym, ◌∙◌, ap, subst}
 use Rattle.mdv_databases.specs.Going.{GoOn, with_events}
 use Rattle.mdv_engine_law.specs.Below.{Identity, KeptOutside, Key, Tale, Change, Log, History, Deed, Event, Table, Happens, history_after_all, site_area, site_of}
 use Rattle.mdv_store_law.specs.Log as log
-use Rattle.mdv_store_law.specs.Log.{NoCreation}
-use Rattle.mdv_store_law.specs.Machine.{AreAll}
+use Rattle.mdv_store_law.specs.Log.{ChangesAlone, IsAskable, Issue}
+use Rattle.mdv_store_law.specs.Machine.{AreAll, all_of}
 use Rattle.mdv_store_law.specs.Part.{IsPart}
+use Rattle.mdv_store_law.proofs.Issues.{asked_issued}
 use Rattle.mdv_store_law.proofs.Parts.{part_mapped, part_of_part}
 use Rattle.mdv_volumes.specs.Databases.{current_of}
-use Rattle.mdv_volumes.specs.Happening.{IsIssue, deed_of}
+use Rattle.mdv_volumes.specs.Happening.{IsIssue, begun_at, deed_of}
 use Rattle.mdv_volumes.specs.HistoryLaws.{AreLater, IsAsked, IsLifted, IsReady as IsTableReady, identity_in, lifted}
 use Rattle.mdv_volumes.proofs.Lifting.{databases_go, lifted_after}
 use Rattle.mdv_engine_law.specs.declared.host.Host.{Host}
@@ -16,7 +17,7 @@ use Rattle.mdv_engine_law.specs.Standing.{StandsAt, IsOfRun, Goes}
 use Rattle.mdv_engine_law.proofs.Going.{AllAwake, happened, happened_stands}
 
 -- where no creation is issued all are later ones
-are_later : (es : List log.Event) → AreAll (log.IsIssue NoCreation) es → AreLater es
+are_later : (es : List log.Event) → AreAll (log.IsIssue ChangesAlone) es → AreLater es
 are_later [] is = tt
 are_later (log.Issued identity ∷ es) is = absurd is.0
 are_later (log.Writing mark asked before table ∷ es) is = (tt, are_later es is.1)
@@ -37,15 +38,28 @@ lifted_awake host key identity (log.Placing places ∷ es) h = (tt, lifted_awake
 lifted_awake host key identity (log.Clearing ∷ es) h = (tt, lifted_awake host key identity es _)
 lifted_awake host key identity (log.Gone ∷ es) h = (tt, lifted_awake host key identity es _)
 
-lifted_issues : (Which : Identity → Type 0) (key : Key) (identity : Identity) (es : List log.Event) → AreAll (IsIssue Which) (lifted key identity es)
-lifted_issues Which key identity [] = tt
-lifted_issues Which key identity (log.Issued other ∷ es) = lifted_issues Which key identity es
-lifted_issues Which key identity (log.Writing mark asked before table ∷ es) = (tt, lifted_issues Which key identity es)
-lifted_issues Which key identity (log.Written ∷ es) = (tt, lifted_issues Which key identity es)
-lifted_issues Which key identity (log.Told which before ∷ es) = (tt, lifted_issues Which key identity es)
-lifted_issues Which key identity (log.Placing places ∷ es) = (tt, lifted_issues Which key identity es)
-lifted_issues Which key identity (log.Clearing ∷ es) = (tt, lifted_issues Which key identity es)
-lifted_issues Which key identity (log.Gone ∷ es) = (tt, lifted_issues Which key identity es)
+-- and issue what those of the log do
+lifted_issues : (Which : Issue → Type 0) (key : Key) (identity : Identity) (es : List log.Event) → AreAll (log.IsIssue Which) es → AreAll (IsIssue Which) (lifted key identity es)
+lifted_issues Which key identity [] are = tt
+lifted_issues Which key identity (log.Issued other ∷ es) are = lifted_issues Which key identity es are.1
+lifted_issues Which key identity (log.Writing mark asked before table ∷ es) are = (are.0, lifted_issues Which key identity es are.1)
+lifted_issues Which key identity (log.Written ∷ es) are = (tt, lifted_issues Which key identity es are.1)
+lifted_issues Which key identity (log.Told which before ∷ es) are = (tt, lifted_issues Which key identity es are.1)
+lifted_issues Which key identity (log.Placing places ∷ es) are = (are.0, lifted_issues Which key identity es are.1)
+lifted_issues Which key identity (log.Clearing ∷ es) are = (are.0, lifted_issues Which key identity es are.1)
+lifted_issues Which key identity (log.Gone ∷ es) are = (are.0, lifted_issues Which key identity es are.1)
+
+-- where changes alone are issued they begin changes alone
+changes_begun : (key : Key) (es : List log.Event) → AreAll (log.IsIssue ChangesAlone) es → all_of (begun_at key) es ≡ map (deed_of key) (log.begun_by es)
+changes_begun key [] are = refl
+changes_begun key (log.Issued identity ∷ es) are = absurd are.0
+changes_begun key (log.Writing mark None before table ∷ es) are = changes_begun key es are.1
+changes_begun key (log.Writing mark (Some change) before table ∷ es) are = ap (λ (l : List Deed). deed_of key (Some change) ∷ l) (changes_begun key es are.1)
+changes_begun key (log.Written ∷ es) are = changes_begun key es are.1
+changes_begun key (log.Told which before ∷ es) are = changes_begun key es are.1
+changes_begun key (log.Placing places ∷ es) are = absurd are.0
+changes_begun key (log.Clearing ∷ es) are = absurd are.0
+changes_begun key (log.Gone ∷ es) are = absurd are.0
 
 -- a table that a change makes was asked by one
 pub asked_change : (es : List log.Event) (table : Table) → IsAsked es table → (change : Change) × IsPart (Some change ∷ []) (log.begun_by es)
@@ -77,20 +91,21 @@ never_asked es table within is = let asked = asked_change es table is in never (
 
 -- What goes on in a key's database, where nothing is done outside the slices on which its boots look, and each table that a change makes is ready.
 module _ (host : Host) (asks : List Deed) (Then : List Event → History → Type 0) where
-  pub lift_log : (key : Key) (identity : Identity) (asked : List (Option Change)) (After : Log → Type 0) (t m : Tale) → KeptOutside (site_area (site_of host.drives key)) t m → IsPart (map (deed_of key) asked) asks
+  pub lift_log : (key : Key) (identity : Identity) (asked : List (Option Change)) (After : Log → Type 0) (t m : Tale) → KeptOutside (site_area (site_of host.drives key)) t m → IsPart (map (deed_of key) asked) asks → AreAll (IsAskable (IsOfRun host)) asked
       → (h : History) → StandsAt host h t → (goes : GoOn host.drives h.databases key identity asked After m)
       → ((table : Table) → IsAsked goes.es table → IsTableReady host.drives h key t table)
       → ((es : List Event) (g : History) → StandsAt host g m → g.databases ≡ with_events key goes.es h.databases → g.woken ≡ h.woken → g.up ≡ h.up → Then es g)
       → Goes host asks [] Then m h
-  lift_log key identity asked After t m kept within h stands goes ready then =
+  lift_log key identity asked After t m kept within may h stands goes ready then =
       let later = are_later goes.es goes.come.issues in
       let is : IsLifted host.drives h key goes.es m = databases_go host.drives h key identity goes.es t m stands goes.its later goes.course goes.stand kept ready in
       let name = identity_in (current_of h.databases key) in
       let events = lifted key name goes.es in
-      let issues : AreAll (IsIssue (IsOfRun host)) events = lifted_issues (IsOfRun host) key name goes.es in
-      let begun = map (deed_of key) (log.begun_by goes.es) in
+      let issues : AreAll (IsIssue (IsOfRun host)) events = lifted_issues (IsOfRun host) key name goes.es (asked_issued (IsOfRun host) asked [] goes.es goes.come may) in
+      let begun = all_of (begun_at key) goes.es in
+      let changes : begun ≡ map (deed_of key) (log.begun_by goes.es) = changes_begun key goes.es goes.come.issues in
       let tells = is.happens.tells ∙ ap (map (deed_of key)) goes.come.tells in
       let happens : Happens host.drives h events begun [] m = record { course = is.happens.course; begins = is.happens.begins; tells = tells; stands = is.happens.stands } in
       happened host asks begun [] m h events happens issues Then (lifted_awake host key name goes.es h)
-      (part_of_part begun (map (deed_of key) asked) asks (part_mapped (deed_of key) (log.begun_by goes.es) asked goes.come.begins) within)
+      (part_of_part begun (map (deed_of key) asked) asks (subst (λ (l : List Deed). IsPart l (map (deed_of key) asked)) (sym changes) (part_mapped (deed_of key) (log.begun_by goes.es) asked goes.come.begins)) within)
       (then events (history_after_all h events) (happened_stands host asks begun [] m h events happens issues) (ap (λ (x : History). x.databases) (lifted_after key h name goes.es later)) is.woken is.up)

@@ -78,7 +78,7 @@ module _ (host : Host) (sizes : List ℕ) (ready : IsReady host sizes) (memory :
 
       went : StandsAt host (history_after h first) t → Goes host [] [] (λ more. Then (first ∷ more)) m (history_after h first)
       went there =
-          lift_log host [] (λ more. Then (first ∷ more)) (key_of host) identity [] After t m (subst (λ (s : Site). KeptOutside (site_area s) t m) ready.site kept) tt (history_after h first) there on
+          lift_log host [] (λ more. Then (first ∷ more)) (key_of host) identity [] After t m (subst (λ (s : Site). KeptOutside (site_area s) t m) ready.site kept) tt tt (history_after h first) there on
           (λ table asked. absurd (never_asked on.es table (nothing on.es on.come.begins) asked))
           (λ es g stands databases woken up. then (first ∷ es) g stands (ap (λ (of : Key → Drives). of (key_of host)) up ∙ known.up) databases)
 

@@ -8,7 +8,7 @@ use Rattle.std.specs.List.{find, list_any}
 use Rattle.std.specs.Option.{is_none}
 use Rattle.std.specs.Prelude.{is_some, nat_lt}
 use Rattle.std.specs.Fmt.{digits, decimal}
-use Rattle.mdv_engine_law.specs.Below.{refusal_text, SliceName, VolId, Refusal, BadLine, NoDatabase, NeedForce, NoSuchVolume, NoSuchPool, Named, NameTaken, NoSuchSlice, SliceInUse, TooSmall, TooMany, WrongKind, WrongState, ReplicaFull, OutOfRange, IoFault, OutOfMemory, LineTooLong, Down, Change, Opened, Command, Create, Print, Read, Write, Volume, lacks, one_reply, refused, replies_in, said_in, unsaid, with_reply, Deed, MakeStripe}
+use Rattle.mdv_engine_law.specs.Below.{refusal_text, SliceName, VolId, Refusal, BadLine, NoDatabase, NeedForce, NoSuchVolume, NoSuchPool, Named, NameTaken, NoSuchSlice, SliceInUse, TooSmall, TooMany, WrongKind, WrongState, ReplicaFull, OutOfRange, IoFault, OutOfMemory, LineTooLong, Down, PlanChange, Opened, Command, Create, Print, Read, Write, Volume, lacks, one_reply, refused, replies_in, said_in, unsaid, with_reply, Deed, MakeStripe}
 use Rattle.mdv_base.specs.Order.{order, where_so}
 use Rattle.mdv_base.proofs.Order.{first_holds}
 use Rattle.mdv_status.specs.Telling.{Said as SaidBytes}
@@ -115,7 +115,7 @@ no_database_plain = one_plain NoDatabase (plainly NoDatabase refl refl)
 change_plain : (host : Host) (opened : Option Opened) (volume : VolId) (slice : SliceName) → All IsPlain (held_of_change host opened (MakeStripe volume slice))
 change_plain host None volume slice = no_database_plain
 change_plain host (Some newest) volume slice =
-    let change : Change = MakeStripe volume slice in
+    let change : PlanChange = MakeStripe volume slice in
     All-append IsPlain (table.held host.drives newest.table.plan change) (where_so (nat_lt (record_room newest) (bytes_after host newest change)) (ReplicaFull (bytes_after host newest change) (record_room newest)))
     (stripe_plain (is_none (slice_at host.drives.slices slice)) (has_volume newest.table.plan.volumes volume) (is_db (slice_at host.drives.slices slice)) (is_in_use host.drives.slices (used_slices newest.table.plan) slice || meets_db host.drives slice))
     (where_plain (nat_lt (record_room newest) (bytes_after host newest change)) (ReplicaFull (bytes_after host newest change) (record_room newest)) (numbers_plain (bytes_after host newest change) (record_room newest)))

@@ -3,7 +3,7 @@ use Rattle.std.proofs.Common.{inl, inr, ℕ, ◌-◌, List, [], ◌∷◌, lengt
 use Rattle.mdv_map.proofs.Joining.{kept_is_old, old_or_new_more}
 use Rattle.mdv_shelf.proofs.Everywhere.{everywhere_kept}
 use Rattle.mdv_shelf.proofs.Frame.{kept_outside_more, settled_still}
-use Rattle.mdv_engine_law.specs.Below.{Command, Create, DriveBlock, Head, IsOwn, KeptOutside, Print, Read, Settling, Spells, Write, nowhere, site_area, site_of, range, Changed, Created, Saw, Tale, Wrote}
+use Rattle.mdv_engine_law.specs.Below.{Command, Create, Deleted, DriveBlock, Head, IsOwn, KeptOutside, Print, Read, Settling, Spells, Write, nowhere, site_area, site_of, range, Changed, Created, Saw, Tale, Wrote}
 use Rattle.mdv_words.specs.declared.command.Command.TheVariants.{MakeStripe}
 use Rattle.mdv_engine_law.specs.declared.host.Host.{Host}
 use Rattle.mdv_engine_law.specs.Hosts.{identity_of, key_of, opened_area, places_area}
@@ -29,6 +29,7 @@ module _ (host : Host) (memory : Memory) where
   writes_none (ToMake key lines count blocks) t m kept = ((λ drive block out. kept drive block refl), λ drive block out. kept drive block refl)
   writes_none (ToDo (Created key)) t m kept = kept
   writes_none (ToDo (Changed key change)) t m kept = λ drive block out. kept drive block refl
+  writes_none (ToDo (Deleted key)) t m kept = kept
   writes_none (ToDo (Wrote key volume at blocks)) t m kept = inl kept
   writes_none (ToDo (Saw key volume at blocks)) t m kept = kept
   writes_none (ToSee key volume at count) t m kept = kept
@@ -42,6 +43,7 @@ module _ (host : Host) (memory : Memory) where
   )
   writes_still (ToDo (Created key)) t u m none kept = kept_outside_more nowhere t u m none kept
   writes_still (ToDo (Changed key change)) t u m writes kept = kept_outside_more (opened_area memory.opened) t u m writes (λ drive block out. kept drive block refl)
+  writes_still (ToDo (Deleted key)) t u m none kept = kept_outside_more nowhere t u m none kept
   writes_still (ToDo (Wrote key volume at blocks)) t u m (inl none) kept = inl (kept_outside_more nowhere t u m none kept)
   writes_still (ToDo (Wrote key volume at blocks)) t u m (inr writes) kept = inr (writes.0, writes.1, put_still writes.0 blocks t m u writes.2 kept)
   writes_still (ToDo (Saw key volume at blocks)) t u m none kept = kept_outside_more nowhere t u m none kept

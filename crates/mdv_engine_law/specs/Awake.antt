@@ -1,6 +1,6 @@
 -- What a run's boots settle: blocks of a volume whose drives the last boot brought up are read and written only where one value of each was found since it began.
 use Rattle.std.specs.Prelude.{ℕ, ◌+◌, ◌≤◌, Bool, List, length, Contains}
-use Rattle.mdv_engine_law.specs.Below.{Acknowledges, Answers, Begins, Boots, Crashes, Creation, Drives, Event, Flushes, History, IsThere, IsUpon, Map, Geometry, has_drive, Issues, Key, MayHappen, OfDatabase, OfVolume, Reads, Shows, Stops, VolId, VolumeEvent, Woke}
+use Rattle.mdv_engine_law.specs.Below.{Acknowledges, Answers, Begins, Boots, Crashes, Creation, Deletes, Drives, Event, Flushes, History, IsThere, IsUpon, Map, Geometry, has_drive, Issues, Key, MayHappen, OfDatabase, OfVolume, Reads, Shows, Stops, VolId, VolumeEvent, Woke}
 use Rattle.mdv_volumes.specs.Events as lives
 use Rattle.mdv_engine_law.specs.declared.host.Host.{Host}
 
@@ -27,6 +27,7 @@ IsAwakeAt g h (OfVolume key volume e) = IsAwakeOf g h key volume e
 IsAwakeAt g h (Reads key volume at blocks) = AreFound g h key volume at (length blocks)
 IsAwakeAt g h (Acknowledges place key volume at blocks) = Unit {0}
 IsAwakeAt g h (Shows place key volume at blocks) = Unit {0}
+IsAwakeAt g h (Deletes place key) = Unit {0}
 IsAwakeAt g h (Boots key up) = Unit {0}
 IsAwakeAt g h Stops = Unit {0}
 IsAwakeAt g h Crashes = Unit {0}

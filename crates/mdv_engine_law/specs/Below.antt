@@ -52,7 +52,8 @@ pub use Rattle.mdv_store.specs.Records.{Spells}
 pub use Rattle.mdv_store.specs.Seats.{active_of, replicas_of, seats_area}
 pub use Rattle.mdv_store.specs.declared.booting.BootEnd.{BootEnd}
 pub use Rattle.mdv_store.specs.declared.seats.Seat.{Seat}
-pub use Rattle.mdv_store_law.specs.Log.{IsMade, IsNewestTellable, IsThis, Log, NoCreation, Version, is_firm}
+pub use Rattle.mdv_store_law.specs.Changes.{Change, KeepsPlaces, OfPlan}
+pub use Rattle.mdv_store_law.specs.Log.{IsMade, IsNewestTellable, Issue, Log, OfChange, OfCreation, OfEnd, OfPlaces, Version, is_firm}
 pub use Rattle.mdv_survey.specs.Replica.{IsOnShelf}
 pub use Rattle.mdv_tab.specs.Text.{IsTab}
 pub use Rattle.mdv_tab.specs.declared.entry.Entry.{Entry}
@@ -60,7 +61,7 @@ pub use Rattle.mdv_table.specs.Slices.{HasBlock, IsSound}
 pub use Rattle.mdv_table.specs.Table.{IsComponentOn, IsKindOf, IsOfGeometry, IsStripeOf, IsWholeSlice}
 pub use Rattle.mdv_table.specs.Volumes.{HasNoVolume}
 pub use Rattle.mdv_table.specs.declared.change.Change.TheVariants.{MakeStripe}
-pub use Rattle.mdv_table.specs.declared.change.Change.{Change}
+pub use Rattle.mdv_table.specs.declared.change.Change.{Change as PlanChange}
 pub use Rattle.mdv_table.specs.declared.plan.Lists.TheVariants.{One}
 pub use Rattle.mdv_table.specs.declared.table.Table.{Table}
 pub use Rattle.mdv_table.specs.declared.volume.Base.{Base}
@@ -70,7 +71,7 @@ pub use Rattle.mdv_volumes.specs.Databases.{Database, log_of, same_key}
 pub use Rattle.mdv_volumes.specs.Events.{Answers, Begins, Flushes, Issues, VolumeEvent, Woke}
 pub use Rattle.mdv_volumes.specs.Happening.{Adds, HasRange, IsCourse, IsIssue, IsNamed, IsThere, MayHappen, issued_by, told_by}
 pub use Rattle.mdv_volumes.specs.Histories.{Happens, Stands}
-pub use Rattle.mdv_volumes.specs.History.{Acknowledges, Boots, Changed, Crashes, Created, Creation, Deed, Event, History, OfDatabase, OfVolume, Reads, Saw, Shows, Stops, Wrote}
+pub use Rattle.mdv_volumes.specs.History.{Acknowledges, Boots, Changed, Crashes, Created, Creation, Deed, Deleted, Deletes, Event, History, OfDatabase, OfVolume, Reads, Saw, Shows, Stops, Wrote}
 pub use Rattle.mdv_volumes.specs.History.{history_after, history_after_all}
 pub use Rattle.mdv_volumes.specs.HistoryLaws.{AreWoken, CanTell, IsUpon}
 pub use Rattle.mdv_volumes.specs.Tables.{IsMapOf}

@@ -17,7 +17,7 @@ use Rattle.mdv_survey.specs.declared.replica.Replica.{Replica}
 use Rattle.mdv_survey.specs.declared.replica.Survey.{Survey}
 use Rattle.mdv_words.specs.declared.command.Command.TheVariants as command
 use Rattle.mdv_words.specs.Line as words
-use Rattle.mdv_engine_law.specs.Below.{Area, BootEnd, Changed, Command, Create, Created, Deed, DriveBlock, DriveNo, Drives, Entry, Geometry, Head, Identity, Image, IsMapOf, IsNewestOf, IsOwn, Key, Line, MakeStripe, Opened, Read, Refusal, Seat, SliceLine, Slot, Spells, Table, Tale, VolId, Write, Wrote, covers, has_drive, last, no_drives, replicas_of, run_map, seats_area, site_of}
+use Rattle.mdv_engine_law.specs.Below.{Area, BootEnd, Changed, Command, Create, Created, Deed, DriveBlock, DriveNo, Drives, Entry, Geometry, Head, Identity, Image, IsMapOf, IsNewestOf, IsOwn, Key, Line, MakeStripe, OfPlan, Opened, Read, Refusal, Seat, SliceLine, Slot, Spells, Table, Tale, VolId, Write, Wrote, covers, has_drive, last, no_drives, replicas_of, run_map, seats_area, site_of}
 use Rattle.mdv_engine_law.specs.declared.answer.Answer.{Answer}
 use Rattle.mdv_engine_law.specs.declared.answer.Answer.TheVariants.{Over}
 use Rattle.mdv_engine_law.specs.declared.answer.Ended.TheVariants as ended
@@ -228,7 +228,7 @@ pub data Ask : Type 0 where
 -- what a command asks of the host's own database
 abbrev pub asked_by : Host → Command → Ask
 asked_by host (Create slices force count blocks) = ToMake (key_of host) (lines_asked host slices) count blocks
-asked_by host (command.MakeStripe volume slice) = ToDo (Changed (key_of host) (MakeStripe volume slice))
+asked_by host (command.MakeStripe volume slice) = ToDo (Changed (key_of host) (OfPlan (MakeStripe volume slice)))
 asked_by host (Read volume at count) = ToSee (key_of host) volume at count
 asked_by host (Write volume at block) = ToDo (Wrote (key_of host) volume at (block ∷ []))
 asked_by host (command.Print names) = Nothing

@@ -2,7 +2,7 @@
 use Rattle.std.specs.Prelude.{◌≡◌, ℕ, Bool, true, false, not, ◌==◌, ◌&&◌, ◌||◌, ◌+◌, ◌*◌, nat_lt, List, [], ◌∷◌, ◌++◌, length, Option, None, Some, is_some}
 use Rattle.std.specs.List.{find, list_any}
 use Rattle.mdv_base.specs.Order.{first_refusal, where_so}
-use Rattle.mdv_engine_law.specs.Below.{BadLine, Place, SliceName, VolId, Refusal, NoDatabase, NeedForce, Named, NoSuchVolume, NoSuchPool, NoSuchSlice, SliceInUse, TooSmall, TooMany, WrongKind, WrongState, OutOfRange, ReplicaFull, Down, SliceAt, record_text, Change, MakeStripe, Volume, VolumeKind, Command, Create, Read, Write, Opened}
+use Rattle.mdv_engine_law.specs.Below.{BadLine, Place, SliceName, VolId, Refusal, NoDatabase, NeedForce, Named, NoSuchVolume, NoSuchPool, NoSuchSlice, SliceInUse, TooSmall, TooMany, WrongKind, WrongState, OutOfRange, ReplicaFull, Down, SliceAt, record_text, PlanChange, MakeStripe, Volume, VolumeKind, Command, Create, Read, Write, Opened}
 use Rattle.mdv_name.specs.SliceIndex.{same_slice, slice_at}
 use Rattle.mdv_base.specs.declared.name.Named.TheVariants as named
 use Rattle.mdv_table.specs.Change as table
@@ -75,11 +75,11 @@ abbrev pub held_of_creation : Case → List SliceName → Bool → ℕ → ℕ �
 held_of_creation case slices force count blocks = held_of_more case.memory.opened (held_of_replicas case slices force count blocks)
 
 -- how long the record of the table would be that the change makes
-abbrev pub bytes_after : Host → Opened → Change → ℕ
+abbrev pub bytes_after : Host → Opened → PlanChange → ℕ
 bytes_after host o change = length (record_text (table.table_after host.drives change o.table))
 
 -- A change of the open database: what its table says against it, and a record that is too long.
-abbrev pub held_of_change : Host → Option Opened → Change → List Refusal
+abbrev pub held_of_change : Host → Option Opened → PlanChange → List Refusal
 held_of_change host None change = NoDatabase ∷ []
 held_of_change host (Some o) change =
     table.held host.drives o.table.plan change ++ where_so (nat_lt (record_room o) (bytes_after host o change)) (ReplicaFull (bytes_after host o change) (record_room o))
@@ -121,11 +121,11 @@ abbrev pub held_of_print : Option Opened → List Named → List Refusal
 held_of_print None names = NoDatabase ∷ []
 held_of_print (Some o) names = held_of_names o.table.plan.volumes names
 
-abbrev pub change_refusal : Host → Option Opened → Change → Option Refusal
+abbrev pub change_refusal : Host → Option Opened → PlanChange → Option Refusal
 change_refusal host opened change = first_refusal (held_of_change host opened change)
 
 -- a database is open, and its table says nothing against the change
-abbrev pub IsUnopposed : Host → Memory → Change → Type 0
+abbrev pub IsUnopposed : Host → Memory → PlanChange → Type 0
 IsUnopposed host memory change = (o : Opened) × (memory.opened ≡ Some o) × (table.refusal_of host.drives o.table.plan change ≡ None)
 
 abbrev pub blocks_refusal : Option Opened → VolId → ℕ → Option Refusal

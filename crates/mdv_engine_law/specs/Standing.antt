@@ -1,6 +1,6 @@
 -- How the drives stand with their history at each moment of a line.
 use Rattle.std.specs.Prelude.{◌≡◌, ◌⊎◌, ◌<◌, ℕ, Bool, ◌-◌, true, false, List, [], ◌∷◌, ◌++◌, length, slice_index_or, take, None, IfSome, Contains}
-use Rattle.mdv_engine_law.specs.Below.{Command, Create, Database, Write, DriveBlock, DriveNo, Drives, has_drive, Identity, IsOldOrNew, IsSettled, KeptOutside, covers, nowhere, range, Wrote, Tale, told, MayLeave, last, Line, Changed, VolId, Map, IsMapOf, area_of_map, HasNoTable, IsOpenIn, IsOpenedAt, site_area, History, Deed, Created, Event, history_after, Adds, AreWoken, CanTell}
+use Rattle.mdv_engine_law.specs.Below.{Command, Create, Database, Write, DriveBlock, DriveNo, Drives, has_drive, IsOldOrNew, IsSettled, KeptOutside, covers, nowhere, range, Wrote, Tale, told, MayLeave, last, Line, Changed, VolId, Map, IsMapOf, area_of_map, HasNoTable, IsOpenIn, IsOpenedAt, site_area, History, Deed, Created, Event, history_after, Adds, AreWoken, CanTell, Issue, KeepsPlaces, OfChange, OfCreation, OfEnd, OfPlaces}
 use Rattle.mdv_store_law.specs.Machine as machine
 use Rattle.mdv_shelf.specs.Calls.{OnDrive}
 use Rattle.mdv_shelf.specs.Made.{Made}
@@ -26,11 +26,14 @@ use Rattle.mdv_engine_law.specs.Replies.{Acks, AcksAnswer, AcksBy, IsReply, IsFr
 abbrev pub StandsAt : Host → History → Tale → Type 0
 StandsAt host h m = history.Stands host.drives h m
 
--- a creation of this run
-abbrev pub IsOfRun : Host → Identity → Type 0
-IsOfRun host identity = identity.fresh ≡ host.fresh
+-- What a run issues of databases: creations under its word, and changes that move no place. No command asks for places to be formatted again, or for an end.
+abbrev pub IsOfRun : Host → Issue → Type 0
+IsOfRun host (OfCreation identity) = identity.fresh ≡ host.fresh
+IsOfRun host (OfChange change) = KeepsPlaces change
+IsOfRun host (OfPlaces places) = ⊥
+IsOfRun host OfEnd = ⊥
 
--- the events tell these deeds, and begin only deeds that are asked, creations too, in that order and each once
+-- the events tell these deeds, and begin only deeds that are asked, creations too, in that order and each once; and they issue what a run may
 abbrev pub Does : Host → List Deed → List Deed → List Event → Type 0
 Does host asks done es = Adds (IsOfRun host) asks done es
 

@@ -64,3 +64,7 @@ plan_text p = lists_text p.lists ++ (empty_parts ++ volumes_text p.volumes)
 -- states stand in the parts of what has them.
 unfoldable pub record_text : Table → List ℕ
 record_text t = codes "MDVREC01" ++ (big_bytes 4 (12 + length (plan_text t.plan)) ++ plan_text t.plan)
+
+-- the table with these lists of places
+abbrev pub with_lists : Table → Lists → Table
+with_lists t lists = record t { plan = record t.plan { lists = lists } }

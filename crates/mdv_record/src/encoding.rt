@@ -1,7 +1,7 @@
 ghost use Rattle.std.specs.Prelude.{◌≡◌, ◌+◌, ◌<◌, ◌≤◌, ◌^◌, ◌↔◌, length, IsErr, IfOk, IfErr, OnErr};
 ghost use Rattle.mdv_record.specs.Record.{IsEncoded};
 ghost use Rattle.mdv_record.specs.Spelling.{IsLaid};
-ghost use Rattle.mdv_record.specs.Text.{record_text, lists_text, places_text, volume_text, volumes_text};
+ghost use Rattle.mdv_record.specs.Text.{with_lists, record_text, lists_text, places_text, volume_text, volumes_text};
 
 use crate::record::TooLong;
 use crate::spelling::{EMPTY_PARTS, HEAD, lay, lay_lists, lay_number32, lay_volumes};
@@ -43,7 +43,16 @@ pub fn text_bytes(table: &Table) -> u64
     ensures value { result ≡ length (record_text table.now) }
     ensures short { result < 2 ^ 32 }
 {
-    20 + lists_bytes(&table.plan.lists) + volumes_bytes(table.plan.volumes.as_slice())
+    bytes_with(table, &table.plan.lists)
+}
+
+/// How many bytes the text has of the table with these lists of places in place of its own.
+#[tactic(auto, using(crate::proofs::Lengths::record_lengths))]
+pub fn bytes_with(table: &Table, lists: &Lists) -> u64
+    ensures value { result ≡ length (record_text (with_lists table.now lists.now)) }
+    ensures short { result < 2 ^ 32 }
+{
+    20 + lists_bytes(lists) + volumes_bytes(table.plan.volumes.as_slice())
 }
 
 #[tactic(auto, using(crate::proofs::Lengths::lengths))]

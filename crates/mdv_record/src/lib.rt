@@ -11,7 +11,7 @@ mod room;
 mod spelling;
 
 pub use decoding::decode;
-pub use encoding::{encode, text_bytes};
+pub use encoding::{bytes_with, encode, text_bytes};
 pub use law::{reads_what_was_written, settled_fits, spells_one_table, texts_are_read};
 pub use record::{RecordError, TooLong};
 pub use room::least_room;

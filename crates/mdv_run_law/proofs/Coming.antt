@@ -5,7 +5,7 @@ use Rattle.std.proofs.lemmas.Slice.Eq.{bytes_eq-Decides}
 use Rattle.std.specs.Fmt.{digits}
 use Rattle.std.specs.Str.{bytes_eq}
 use Rattle.std.proofs.lemmas.List.Elements.{Contains-append_left, Contains-append_right}
-use Rattle.mdv_run_law.specs.Below.{Script, at_end, spent, too_long, line, Deed, Created, Changed, Saw, Event, Host, Ask, Nothing, ToBoot, ToDo, ToMake, ToSee, asked_by_line, AcksBy, Wrote, ok_line, told_by}
+use Rattle.mdv_run_law.specs.Below.{Deleted, Script, at_end, spent, too_long, line, Deed, Created, Changed, Saw, Event, Host, Ask, Nothing, ToBoot, ToDo, ToMake, ToSee, asked_by_line, AcksBy, Wrote, ok_line, told_by}
 use Rattle.mdv_volumes.proofs.Lists.{first_or_behind}
 use Rattle.mdv_words.proofs.Lines.{one_line}
 use Rattle.mdv_volumes.specs.Happening.{tells}
@@ -23,6 +23,7 @@ one_asked host text a b (inr one) (inr other) = one.2 ∙ ap (asked_by_line host
 abbrev pub IsDone : Deed → Type 0
 IsDone (Created key) = Unit {0}
 IsDone (Changed key change) = Unit {0}
+IsDone (Deleted key) = Unit {0}
 IsDone (Wrote key volume at blocks) = Unit {0}
 IsDone (Saw key volume at blocks) = ⊥
 

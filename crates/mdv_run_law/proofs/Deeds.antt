@@ -1,6 +1,6 @@
 -- What deeds and events say of one key's database.
 use Rattle.std.proofs.Common.{inl, inr, List, [], ◌∷◌, Option, Some, None, Contains, refl, sym, ◌∙◌, subst, arith}
-use Rattle.mdv_run_law.specs.Below.{Change, Changed, Created, Deed, Key, Saw, Wrote, same_key}
+use Rattle.mdv_run_law.specs.Below.{Change, Changed, Created, Deed, Deleted, Key, Saw, Wrote, same_key}
 use Rattle.mdv_shelf.proofs.Blocks.{both_ways}
 use Rattle.mdv_store_law.specs.Log.{changes_of}
 use Rattle.mdv_store_law.specs.Part.{IsPart}
@@ -52,6 +52,7 @@ module _ (key : Key) where
     deed_behind : (asked : Option Change) (deed : Deed) → Contains (database_deeds key deeds) asked → Contains (database_deeds key (deed ∷ deeds)) asked
     deed_behind asked (Created other) has = elim (both_ways (same_key key other)) [ inl does ↦ rw does (contains_behind None asked (database_deeds key deeds) has) | inr never ↦ rw never has ]
     deed_behind asked (Changed other change) has = elim (both_ways (same_key key other)) [ inl does ↦ rw does (contains_behind (Some change) asked (database_deeds key deeds) has) | inr never ↦ rw never has ]
+    deed_behind asked (Deleted other) has = has
     deed_behind asked (Wrote other volume at blocks) has = has
     deed_behind asked (Saw other volume at blocks) has = has
 
@@ -67,6 +68,7 @@ module _ (key : Key) where
     both_deeds : (deed : Deed) → IsPart (database_deeds key part) (database_deeds key whole) → IsPart (database_deeds key (deed ∷ part)) (database_deeds key (deed ∷ whole))
     both_deeds (Created other) is = elim (both_ways (same_key key other)) [ inl does ↦ rw does (inl (refl, is)) | inr never ↦ rw never is ]
     both_deeds (Changed other change) is = elim (both_ways (same_key key other)) [ inl does ↦ rw does (inl (refl, is)) | inr never ↦ rw never is ]
+    both_deeds (Deleted other) is = is
     both_deeds (Wrote other volume at blocks) is = is
     both_deeds (Saw other volume at blocks) is = is
 
@@ -76,6 +78,7 @@ module _ (key : Key) where
       | inl does ↦ rw does (part_before (database_deeds key part) (Some change ∷ []) (database_deeds key whole) is)
       | inr never ↦ rw never is
     ]
+    deed_before (Deleted other) is = is
     deed_before (Wrote other volume at blocks) is = is
     deed_before (Saw other volume at blocks) is = is
 

@@ -3,8 +3,9 @@ use Rattle.std.proofs.Common.{◌≡◌, inl, inr, ℕ, Bool, true, false, cond,
 use Rattle.std.proofs.lemmas.List.Elements.{Contains-append_cases, Contains-append_left, Contains-append_right}
 use Rattle.std.specs.Str.{bytes_eq}
 use Rattle.mdv_base.specs.declared.refusal.Refusal.TheVariants.{IoFault}
-use Rattle.mdv_run_law.specs.Below.{Acknowledges, AreOwn, Ask, Command, Crashes, Create, Created, Deed, Event, Geometry, History, Host, Identity, IsOfRun, Key, Line, Local, MakeStripe, Print, Read, Script, Stops, Write, asked_by_line, at_end, history_after, history_after_all, is_front_of, issuable, issuable_front, issued_by, key_of, left_in, line, new_history, ok_line, refusal_line, replies_in, spent, too_long}
+use Rattle.mdv_run_law.specs.Below.{Acknowledges, AreOwn, Ask, Command, Crashes, Create, Created, Deed, Deletes, Event, Geometry, History, Host, Identity, IsOfRun, Key, Line, Local, MakeStripe, Print, Read, Script, Stops, Write, asked_by_line, at_end, history_after, history_after_all, is_front_of, issuable, issuable_front, issued_by, key_of, left_in, line, new_history, ok_line, refusal_line, replies_in, spent, too_long}
 use Rattle.mdv_engine_law.specs.Line.{deeds}
+use Rattle.mdv_store_law.specs.Log.{Issue, OfCreation}
 use Rattle.mdv_store_law.specs.Machine.{AreAll}
 use Rattle.mdv_volumes.specs.Happening.{IsIssue, begins}
 use Rattle.mdv_volumes.specs.History.{Boots, Creation, OfDatabase, OfVolume, Reads, Shows}
@@ -24,6 +25,7 @@ Makes P (OfVolume key volume e) = Unit {0}
 Makes P (Reads key volume at blocks) = Unit {0}
 Makes P (Acknowledges place key volume at blocks) = Unit {0}
 Makes P (Shows place key volume at blocks) = Unit {0}
+Makes P (Deletes place key) = Unit {0}
 Makes P (Boots key up) = Unit {0}
 Makes P Stops = Unit {0}
 Makes P Crashes = Unit {0}
@@ -37,6 +39,7 @@ owned_after P h (OfVolume key volume e ∷ es) each makes = owned_after P (histo
 owned_after P h (Reads key volume at blocks ∷ es) each makes = owned_after P (history_after h (Reads key volume at blocks)) es each makes.1
 owned_after P h (Acknowledges place key volume at blocks ∷ es) each makes = owned_after P (history_after h (Acknowledges place key volume at blocks)) es each makes.1
 owned_after P h (Shows place key volume at blocks ∷ es) each makes = owned_after P (history_after h (Shows place key volume at blocks)) es each makes.1
+owned_after P h (Deletes place key ∷ es) each makes = owned_after P (history_after h (Deletes place key)) es each makes.1
 owned_after P h (Boots key up ∷ es) each makes = owned_after P (history_after h (Boots key up)) es each makes.1
 owned_after P h (Stops ∷ es) each makes = owned_after P (history_after h Stops) es each makes.1
 owned_after P h (Crashes ∷ es) each makes = owned_after P (history_after h Crashes) es each makes.1
@@ -48,6 +51,7 @@ makes_weaker P Q weaker (OfVolume key volume e) is = tt
 makes_weaker P Q weaker (Reads key volume at blocks) is = tt
 makes_weaker P Q weaker (Acknowledges place key volume at blocks) is = tt
 makes_weaker P Q weaker (Shows place key volume at blocks) is = tt
+makes_weaker P Q weaker (Deletes place key) is = tt
 makes_weaker P Q weaker (Boots key up) is = tt
 makes_weaker P Q weaker Stops is = tt
 makes_weaker P Q weaker Crashes is = tt
@@ -61,9 +65,9 @@ abbrev pub AreOfKey : Key → List Deed → Type 0
 AreOfKey key asked = (other : Key) → Contains asked (Created other) → other ≡ key
 
 -- events that begin such ones alone, and issue only such identities
-module _ (Which : Identity → Type 0) (key : Key) where
+module _ (Which : Issue → Type 0) (key : Key) where
   abbrev pub IsOurs : Key → Identity → Type 0
-  IsOurs other identity = (other ≡ key) × Which identity
+  IsOurs other identity = (other ≡ key) × Which (OfCreation identity)
 
   issue_makes : (e : Event) → IsIssue Which e → AreOfKey key (begins e) → Makes IsOurs e
   issue_makes (Creation other identity) is its = (its other (contains_first (Created other) []), is)
@@ -72,6 +76,7 @@ module _ (Which : Identity → Type 0) (key : Key) where
   issue_makes (Reads other volume at blocks) is its = tt
   issue_makes (Acknowledges place other volume at blocks) is its = tt
   issue_makes (Shows place other volume at blocks) is its = tt
+  issue_makes (Deletes place other) is its = tt
   issue_makes (Boots other up) is its = tt
   issue_makes Stops is its = tt
   issue_makes Crashes is its = tt
@@ -159,11 +164,14 @@ module _ (host : Host) where
   come_issued front down (too_long more) (reply ∷ replies) es come = both_issued es come.0 come.1 come.2 come.3.issues (come_issued front down more replies come.1 come.4)
   come_issued front down (line text more) (reply ∷ replies) es come = both_issued es come.0 come.1 come.2 come.4.does.issues (come_issued front come.3 more replies come.1 come.6)
 
+  pub run_issued : (script : Script) (bytes : List ℕ) (es : List Event) → AreOfRun host script bytes es → AreIssued es
+  run_issued script bytes es run = both_issued es run.boot run.lines run.both run.idle.issues (come_issued (left_in bytes) _ script (replies_in bytes) run.lines run.come)
+
   -- so the databases that a run makes are the host's, with the run's word
   pub run_makes : (script : Script) (bytes : List ℕ) (es : List Event) → AreOfRun host script bytes es → AreAll (Makes (IsOurs (IsOfRun host) (key_of host))) es
   run_makes script bytes es run =
       let answers = run_answers host script bytes es run in
-      all_issue (IsOfRun host) (key_of host) es (both_issued es run.boot run.lines run.both run.idle.issues (come_issued (left_in bytes) _ script (replies_in bytes) run.lines run.come))
+      all_issue (IsOfRun host) (key_of host) es (run_issued script bytes es run)
       (λ other has. its_begun script (replies_in bytes) (left_in bytes) answers.asked answers.are_asked other (part_contains (issued_by es) answers.asked (Created other) answers.begins has))
 
 -- a database of the host's that one of these runs made

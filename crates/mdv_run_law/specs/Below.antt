@@ -57,6 +57,7 @@ pub use Rattle.mdv_standing.specs.Laws.{ShowsNoTable}
 pub use Rattle.mdv_store.specs.Opened.{IsOpenedAt, Opened}
 pub use Rattle.mdv_store.specs.Records.{Spells}
 pub use Rattle.mdv_store_law.specs.Laws.{restarted}
+pub use Rattle.mdv_store_law.specs.Changes.{Change}
 pub use Rattle.mdv_store_law.specs.Log.{AreMade, Extends, IsLog, Log, Version, answered, empty_log, is_firm, with_asked}
 pub use Rattle.mdv_tab.specs.Text.{IsTab}
 pub use Rattle.mdv_tab.specs.declared.entry.Entry.{Entry}
@@ -64,7 +65,6 @@ pub use Rattle.mdv_table.specs.Slices.{HasBlock, IsSound}
 pub use Rattle.mdv_table.specs.Table.{IsComponentOn, IsKindOf, IsPlanOf, IsWholeSlice}
 pub use Rattle.mdv_table.specs.Volume.{stripe_on}
 pub use Rattle.mdv_table.specs.Volumes.{HasVolume, IsAscending, with_volume}
-pub use Rattle.mdv_table.specs.declared.change.Change.{Change}
 pub use Rattle.mdv_table.specs.declared.plan.Plan.{Plan}
 pub use Rattle.mdv_table.specs.declared.table.Table.{Table}
 pub use Rattle.mdv_table.specs.declared.volume.Base.{Base}
@@ -75,7 +75,7 @@ pub use Rattle.mdv_table.specs.declared.volume.VolumeKind.{VolumeKind}
 pub use Rattle.mdv_table.specs.declared.volume.VolumeKind.TheVariants.{Stripe}
 pub use Rattle.mdv_volumes.specs.Databases.{Database, log_of, same_key}
 pub use Rattle.mdv_volumes.specs.Happening.{IsCourse, IsNamed, MayHappen, issued_by, told_by}
-pub use Rattle.mdv_volumes.specs.History.{Acknowledges, Changed, Crashes, Created, Deed, Event, History, Saw, Stops, Wrote, history_after, history_after_all}
+pub use Rattle.mdv_volumes.specs.History.{Acknowledges, Changed, Crashes, Created, Deed, Deleted, Deletes, Event, History, Saw, Stops, Wrote, history_after, history_after_all}
 pub use Rattle.mdv_volumes.specs.HistoryLaws.{Lasts, new_history}
 pub use Rattle.mdv_words.specs.Line.{Boot, IsCommand, IsInForm, IsLine, Line, Tab}
 pub use Rattle.mdv_words.specs.declared.command.Command.{Command}

@@ -21,7 +21,7 @@ use Rattle.mdv_standing.specs.Worlds.{IsWorld, Turned, IsNoneOr, HasClaimed, May
 use Rattle.mdv_standing.specs.Adopting.{IsFoundVersion, IsClaim, IsBeginning, again, drawn}
 use Rattle.mdv_standing.proofs.Versions.{version_has}
 use Rattle.mdv_standing.proofs.Reaching.{reached_more, standing}
-use Rattle.mdv_standing.proofs.Listed.{claim_still, own_found, past_reading, places_still}
+use Rattle.mdv_standing.proofs.Listed.{claim_still, not_over, own_found, past_reading, places_still}
 use Rattle.mdv_standing.proofs.Beginning.{LeadsBy, begun_taking, begun_world, none_in}
 use Rattle.mdv_standing.proofs.Voting.{all_that, below, boots, in_log, is_fair_in, lists_are, not_older, version_is}
 use Rattle.mdv_standing.proofs.Following.{Follows, GoesOn, floor_put, matches_follow, one_more, since_put}
@@ -239,7 +239,10 @@ module _ (Spells : List ℕ → Table → Type 0) (site : Site) (identity : Iden
 
   pub may_write : (g : Geometry) → MayHappen g log (WritesLog (drawn number) None v.changes v.table)
   may_write g = (
-    all_that (λ x. IsBelow x.mark (drawn number)) log.family (λ x has. inl (below site log w b.world.reached b.world.matches v number ok chose x has)),
+    (
+      all_that (λ x. IsBelow x.mark (drawn number)) log.family (λ x has. inl (below site log w b.world.reached b.world.matches v number ok chose x has)),
+      not_over site log w b.world.matches (boots site log w b.world.reached b.world.matches v number ok chose).0.there,
+    ),
     inr (record {
       parent = v;
       one_of = b.one_of;

@@ -19,10 +19,9 @@ use Rattle.mdv_standing.specs.Listed.{HasPlace, HavePlaces}
 use Rattle.mdv_standing.specs.Matching.{IsVersionAt, Matches, Reached, lists_of, spot_in, spots_in, spots_of, version_at}
 use Rattle.mdv_standing.specs.Worlds.{IsTaking, IsWorld, Turned}
 use Rattle.mdv_standing.specs.Committing.{IsCommit, MayChangeLists, MayFollow, next_mark}
-use Rattle.mdv_standing.proofs.Named.{of_filter}
 use Rattle.mdv_standing.proofs.Reaching.{reached_more, standing}
 use Rattle.mdv_standing.proofs.Voting.{all_that, numbered}
-use Rattle.mdv_standing.proofs.Listed.{has_lies, past_reading}
+use Rattle.mdv_standing.proofs.Listed.{has_lies, not_over, past_reading}
 use Rattle.mdv_standing.proofs.Following.{GoesOn, some_is}
 use Rattle.mdv_standing.proofs.Beginning.{LeadsBy, begun_taking, begun_world}
 use Rattle.mdv_standing.proofs.Taking.{last_lists, last_version, some_table}
@@ -207,7 +206,10 @@ module _ (Spells : List ℕ → Table → Type 0) (site : Site) (identity : Iden
 
   pub may_commit_it : (g : Geometry) (asked : Option Change) → IsMade g asked v.table table → MayChangeLists v table → MayHappen g log (WritesLog (next_mark v) asked v.changes table)
   may_commit_it g asked made change = (
-    all_that (λ x. IsBelow x.mark (next_mark v)) log.family below_next,
+    (
+      all_that (λ x. IsBelow x.mark (next_mark v)) log.family below_next,
+      not_over site log w b.world.matches (subst (BootsAt w) b.known.stage (standing site w b.world.reached).boots),
+    ),
     inr (record {
       parent = v;
       one_of = subst (λ (l : List Version). Contains l v) (sym b.newest) (0, omega arith, refl);

@@ -1,6 +1,9 @@
 -- A log and the worlds of all images go on together while a database is created.
-use Rattle.std.proofs.Common.{◌≡◌, ℕ, false, true, List, [], ◌∷◌, refl, Option, None}
-use Rattle.mdv_store_law.specs.Log.{HasOneList}
+use Rattle.std.proofs.Common.{◌≡◌, ℕ, false, true, List, [], ◌∷◌, refl, subst, Option, None}
+use Rattle.mdv_quorum.specs.Standing.{BootsAt}
+use Rattle.mdv_shelf.specs.Tale.{last}
+use Rattle.mdv_shelf.proofs.Everywhere.{last_image}
+use Rattle.mdv_store_law.specs.Log.{HasOneList, IsNotOver}
 use Rattle.mdv_standing.specs.Below.{Core, Everywhere, FirstIs, Formats, Geometry, Identity, Image, IsImage, Leaves, Lists, Log, Master, MayFormat, Site, SliceLine, Spot, Table, Tale, after_all, is_in, is_named, is_none, master_on, place_on, spot_on}
 use Rattle.mdv_standing.specs.Creating.{AreAllPlaced, IsCreating, IsFormatting, first_mark, issued_log}
 use Rattle.mdv_standing.specs.Forming.{IsBehind, IsForming, IsToFormat}
@@ -10,6 +13,8 @@ use Rattle.mdv_standing.specs.Standing.{Covers, CoversWith}
 use Rattle.mdv_standing.specs.Turning.{Begins}
 use Rattle.mdv_standing.specs.Worlds.{IsWorld}
 use Rattle.mdv_standing.proofs.Creating.{begins, first_formatted, first_formatting, later_formatted, later_formatting, may_write_first, writes_first}
+use Rattle.mdv_standing.proofs.Listed.{not_over}
+use Rattle.mdv_standing.proofs.Reaching.{standing}
 
 module _ (Spells : List ℕ → Table → Type 0) (site : Site) (identity : Identity) where
   pub all_form : (t : Tale) (lists : Lists) → Everywhere (λ image. HasNone Spells site identity image) t → IsForming Spells site identity (issued_log identity) t lists []
@@ -62,11 +67,17 @@ module _ (Spells : List ℕ → Table → Type 0) (site : Site) (identity : Iden
           let to = later_formatted Spells site identity log w.0 from.0 line k first lists done behind.later (formatting first.blocks first.count k place w.0 from.0 from.1 w.1 w.2) (behind.has from.0 from.1) (behind.chain from.0 from.1) image from.2 in
           (after_all w.0 to.events, to.world, to.known))
 
+  -- it is being created, so it isn't over
+  forming_there : (log : Log) (t : Tale) (lists : Lists) (done : List Spot) → IsForming Spells site identity log t lists done → IsNotOver log.fate
+  forming_there log t lists done forming =
+      let w = forming.each (last t) (last_image t) in
+      not_over site log w.0 w.1.matches (subst (BootsAt w.0) w.2.stage (standing site w.0 w.1.reached).boots)
+
   pub all_formed : (g : Geometry) (log : Log) (t : Tale) (p : Spot) (table : Table) (done : List Spot) → table.plan.volumes ≡ [] → HasOneList table → is_none (spots_of site table.plan.lists).first ≡ false → is_in done p ≡ true → is_named (spots_of site table.plan.lists) p ≡ true
       → Everywhere (AreAllPlaced Spells site identity table.plan.lists) t → IsForming Spells site identity log t table.plan.lists done → Begins Spells g site identity false log t first_mark None table
   all_formed g log t p table done none one some has named formed forming = record {
     before = [];
-    may = may_write_first g identity log table forming.issued forming.empty none one;
+    may = may_write_first g identity log table forming.issued forming.empty (forming_there log t table.plan.lists done forming) none one;
     writing = record {
       newest = record { version = _; older = log.family; family = refl; marked = refl; same = refl };
       each = λ image is.

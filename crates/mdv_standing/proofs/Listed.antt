@@ -12,11 +12,11 @@ use Rattle.mdv_shown.proofs.Elsewhere.{found_kept, one_master}
 use Rattle.mdv_shown.proofs.Framed.{found_same}
 use Rattle.mdv_shown.proofs.Kept.{IsRewrite, claim_rewrites, claims_still, closed_rewrites, filled_rewrites, slots_still}
 use Rattle.mdv_shown.proofs.Rewritten.{own_new}
-use Rattle.mdv_store_law.specs.Log.{IsNotOlder, answered}
+use Rattle.mdv_store_law.specs.Log.{IsNotOlder, IsNotOver, answered}
 use Rattle.mdv_table.specs.Plan.{places_of}
 use Rattle.mdv_standing.specs.Below.{Claiming, Core, Creating, IsBelow, Ready, Writing, Claims, FirstIs, Head, Identity, Image, IsOwn, IsSite, IsTable, Key, Log, Mark, Master, MayClaim, MayFill, Place, PlaceAt, Reading, Site, SliceLine, Slot, Spot, Stage, Table, Version, place_on, site_area}
 use Rattle.mdv_standing.specs.Listed.{HasPlace, HavePlaces, IsShut}
-use Rattle.mdv_standing.specs.Matching.{LiesOn, Reached}
+use Rattle.mdv_standing.specs.Matching.{LiesOn, Matches, Reached}
 use Rattle.mdv_standing.proofs.Reaching.{standing}
 use Rattle.mdv_standing.proofs.Within.{line_still}
 
@@ -31,6 +31,10 @@ live_at w (Ready next) boots past = boots
 pub past_reading : (site : Site) (w : Core) → Reached site w → (s : Stage) → w.stage ≡ s → ((read : List Spot) → s ≡ Reading read → ⊥) → IsShut w → ⊥
 past_reading site w reached s is past (inl none) = past none.read (sym is ∙ none.stage)
 past_reading site w reached s is past (inr (p, gone)) = (let live = live_at w s (subst (BootsAt w) is (standing site w reached).boots) past in cc (gone, live))
+
+-- where a database is there its log isn't over
+pub not_over : (site : Site) (log : Log) (w : Core) → Matches site log w → w.deleted ≡ None → IsNotOver log.fate
+not_over site log w matches live over = (let gone = matches.gone over in cc (live, gone.1))
 
 -- a table that no answered one is above had none above it before the last one was answered
 unanswered_before : (mark : Mark) (family : List Version) → IsNotOlder mark (answered family) → IsNotOlder mark family

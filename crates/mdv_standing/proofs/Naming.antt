@@ -1,19 +1,16 @@
 -- Which spots a version names, by the places that it lists.
-use Rattle.std.proofs.Common.{◌≡◌, ◌⊎◌, inl, inr, ⊎_elim, ℕ, suc, ◌+◌, ◌-◌, ◌*◌, ◌<◌, ◌≤◌, ◌||◌, Bool, true, false, List, [], ◌∷◌, refl, sym, ◌∙◌, ap, subst, Contains, Option, None, Some, arith}
+use Rattle.std.proofs.Common.{◌≡◌, ◌⊎◌, inl, inr, ℕ, suc, ◌+◌, ◌-◌, ◌*◌, ◌<◌, ◌≤◌, ◌||◌, Bool, true, false, List, [], ◌∷◌, refl, sym, ◌∙◌, ap, subst, Contains, Option, Some, arith}
 use Rattle.std.proofs.lemmas.Bool.{cases_lt, cond-false, false≢true, false_from_ne_true, or_cases}
-use Rattle.std.proofs.lemmas.List.Elements.{Contains-append_left, Contains-append_right}
 use Rattle.std.specs.Prelude.{cond, max}
-use Rattle.std.specs.List.{list_any}
-use Rattle.mdv_name.proofs.Finding.{same_slice-equal}
 use Rattle.mdv_shown.specs.Site.{line_area}
-use Rattle.mdv_shown.specs.Wipes.{HasFirst, spots_behind}
+use Rattle.mdv_shown.specs.Wipes.{HasFirst}
 use Rattle.mdv_shown.proofs.Elsewhere.{places_step, range_has}
 use Rattle.mdv_shown.proofs.Wiped.{in_from}
-use Rattle.mdv_table.specs.Plan.{beside, first_of, last_of, places_of}
+use Rattle.mdv_table.specs.Plan.{first_of, last_of}
 use Rattle.mdv_votes.specs.Spots.{in_second}
 use Rattle.mdv_votes.proofs.Meeting.{same_is}
-use Rattle.mdv_standing.specs.Below.{Identity, Image, IsSite, Lists, Master, One, Place, Site, SliceAt, SliceLine, Spot, Two, Version, is_in, is_named, same_spot, slice_at, spot_on}
-use Rattle.mdv_standing.specs.Matching.{LiesOn, lists_of, spot_in, spot_of_place, spots_in, spots_of}
+use Rattle.mdv_standing.specs.Below.{Image, IsSite, Lists, Master, One, Place, Site, SliceAt, SliceLine, Spot, Two, Version, is_in, is_named, same_spot, slice_at}
+use Rattle.mdv_standing.specs.Matching.{lists_of, spot_in, spot_of_place, spots_in, spots_of}
 use Rattle.mdv_standing.specs.Placing.{AllLie, AreNamed, IsBare, IsUnlisted, LieInFront}
 
 module _ (site : Site) where

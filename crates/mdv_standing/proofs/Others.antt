@@ -92,7 +92,7 @@ pub ArePlaces : List Spot → Type 0
 ArePlaces [] = Unit {0}
 ArePlaces (p ∷ ps) = (p.mediator ≡ false) × ArePlaces ps
 
-none_places : ArePlaces []
+pub none_places : ArePlaces []
 unfolding ArePlaces
 none_places = tt
 
@@ -105,7 +105,7 @@ cut_may (p ∷ ps) w e none are = (
   subst (λ (v : Core). MayAll v (wiped_all ps)) (sym (ap (wiped_at w p) e)) (cut_may ps (without w p) e none are.1),
 )
 
-from_places : (line : SliceLine) (b k n : ℕ) → ArePlaces (spots_from line b k n)
+pub from_places : (line : SliceLine) (b k n : ℕ) → ArePlaces (spots_from line b k n)
 unfolding ArePlaces
 from_places line b k zero = tt
 from_places line b k (suc n) =

@@ -5,15 +5,16 @@ use Rattle.mdv_votes.specs.Spots.{same_spot}
 use Rattle.mdv_votes.proofs.Meeting.{same_self}
 use Rattle.mdv_quorum.proofs.Events.{after_both, may_both}
 use Rattle.mdv_replica.specs.Images.{IsSame}
-use Rattle.mdv_store_law.specs.Log.{Adds, Event as LogEvent, IsCourse, NoCreation, asks_of, log_after_all}
+use Rattle.mdv_store_law.specs.Log.{Adds, ChangesAlone, Event as LogEvent, IsAskable, IsCourse, Issue, asks_of, log_after_all}
 use Rattle.mdv_store_law.specs.Log as store_law
 use Rattle.mdv_store_law.specs.Part.{IsPart}
-use Rattle.mdv_store_law.proofs.Machine.{adds_more, after_more, course_more}
+use Rattle.mdv_store_law.proofs.Issues.{any_asked, issue_weaker}
+use Rattle.mdv_store_law.proofs.Machine.{adds_more, adds_weaker, after_more, course_more}
 use Rattle.mdv_store_law.proofs.Parts.{part_itself, part_more, part_of_part}
 use Rattle.mdv_standing.specs.Below.{Change, Claimed, Core, Event, Filled, Formatted, Geometry, Identity, Image, IsImage, IsWithin, Leaves, Log, Mark, MayHappen, Site, Slotted, Spot, Table, Tale, WritesLog, Written, after_all, is_in, log_after}
 use Rattle.mdv_standing.specs.Others.{Anything}
 use Rattle.mdv_standing.specs.Standing.{Covers, CoversWith, GoesFrom}
-use Rattle.mdv_standing.specs.Tracing.{GoesTraced, IsRun, Traces, TracesFrom, claims_at, fills_at, formats_at}
+use Rattle.mdv_standing.specs.Tracing.{GoesTraced, GoesTracedBy, IsRun, Traces, TracesFrom, claims_at, fills_at, formats_at}
 use Rattle.mdv_standing.specs.Turning.{IsNewest}
 use Rattle.mdv_standing.specs.Worlds.{IsNoneOr, IsReadyWith, IsTaking, IsWorld, MayBeClaimed, Turned, claimed, not_yet}
 use Rattle.mdv_standing.proofs.Turning.{covers_known}
@@ -91,17 +92,31 @@ course_none g log = tt
 pub course_one : (g : Geometry) (log : Log) (e : LogEvent) → MayHappen g log e → IsCourse g log (e ∷ [])
 course_one g log e may = (may, tt)
 
-pub adds_none : Adds NoCreation [] [] []
-adds_none = record { tells = refl; issues = tt; begins = tt }
+module _ (Which : Issue → Type 0) where
+  pub none_added : Adds Which [] [] []
+  none_added = record { tells = refl; issues = tt; begins = tt }
 
-pub adds_begun : (mark : Mark) (asked : Option Change) (before : List Change) (table : Table) → Adds NoCreation (asks_of asked) [] (WritesLog mark asked before table ∷ [])
-adds_begun mark asked before table = record { tells = refl; issues = (tt, tt); begins = subst (λ (l : List (Option Change)). IsPart l (asks_of asked)) (sym (append-nil (asks_of asked))) (part_itself (asks_of asked)) }
+  pub begun_added : (mark : Mark) (asked : Option Change) (before : List Change) (table : Table) → IsAskable Which asked → Adds Which (asks_of asked) [] (WritesLog mark asked before table ∷ [])
+  begun_added mark asked before table may = record { tells = refl; issues = (may, tt); begins = subst (λ (l : List (Option Change)). IsPart l (asks_of asked)) (sym (append-nil (asks_of asked))) (part_itself (asks_of asked)) }
 
-pub adds_answered : Adds NoCreation [] [] (Written ∷ [])
-adds_answered = record { tells = refl; issues = (tt, tt); begins = tt }
+  pub answer_added : Adds Which [] [] (Written ∷ [])
+  answer_added = record { tells = refl; issues = (tt, tt); begins = tt }
 
-pub adds_written : (mark : Mark) (asked : Option Change) (before : List Change) (table : Table) → Adds NoCreation (asks_of asked) [] (WritesLog mark asked before table ∷ (Written ∷ []))
-adds_written mark asked before table = record { tells = refl; issues = (tt, (tt, tt)); begins = subst (λ (l : List (Option Change)). IsPart l (asks_of asked)) (sym (append-nil (asks_of asked))) (part_itself (asks_of asked)) }
+  pub written_added : (mark : Mark) (asked : Option Change) (before : List Change) (table : Table) → IsAskable Which asked → Adds Which (asks_of asked) [] (WritesLog mark asked before table ∷ (Written ∷ []))
+  written_added mark asked before table may = record { tells = refl; issues = (may, (tt, tt)); begins = subst (λ (l : List (Option Change)). IsPart l (asks_of asked)) (sym (append-nil (asks_of asked))) (part_itself (asks_of asked)) }
+
+-- where changes alone are issued, any may be
+pub adds_none : Adds ChangesAlone [] [] []
+adds_none = none_added ChangesAlone
+
+pub adds_begun : (mark : Mark) (asked : Option Change) (before : List Change) (table : Table) → Adds ChangesAlone (asks_of asked) [] (WritesLog mark asked before table ∷ [])
+adds_begun mark asked before table = begun_added ChangesAlone mark asked before table (any_asked asked)
+
+pub adds_answered : Adds ChangesAlone [] [] (Written ∷ [])
+adds_answered = answer_added ChangesAlone
+
+pub adds_written : (mark : Mark) (asked : Option Change) (before : List Change) (table : Table) → Adds ChangesAlone (asks_of asked) [] (WritesLog mark asked before table ∷ (Written ∷ []))
+adds_written mark asked before table = written_added ChangesAlone mark asked before table (any_asked asked)
 
 pub course_written : (g : Geometry) (log : Log) (mark : Mark) (asked : Option Change) (before : List Change) (table : Table) → MayHappen g log (WritesLog mark asked before table) → IsCourse g log (WritesLog mark asked before table ∷ (Written ∷ []))
 course_written g log mark asked before table may = (may, (tt, tt))
@@ -197,17 +212,34 @@ module _ (Spells : List ℕ → Table → Type 0) (site : Site) (identity : Iden
         record { es = to.es; course = to.course; come = to.come; stands = traced_covers log (log_after_all log to.es) Know Are Then t m (with log covers known) to.traces; after = to.after }
 
   -- A log that has gone on so goes on further.
+  module _ (Which : Issue → Type 0) (g : Geometry) (asks others : List (Option Change)) (Know Between Then : Core → Type 0) (One Other Are : List Event → Type 0) (Middle After : Log → Type 0) (t u m : Tale) (log : Log) where
+    pub goes_on_more : ((es fs : List Event) → One es → Other fs → Are (es ++ fs))
+        → GoesTracedBy Which Spells g site identity asks Know One Between Middle t u log → ((next : Log) → Middle next → GoesTracedBy Which Spells g site identity others Between Other Then After u m next)
+        → GoesTracedBy Which Spells g site identity (asks ++ others) Know Are Then After t m log
+    goes_on_more both one then_goes =
+        let two = then_goes (log_after_all log one.es) one.after in
+        let same : log_after_all (log_after_all log one.es) two.es ≡ log_after_all log (one.es ++ two.es) = sym (after_more log_after log one.es two.es) in
+        record {
+          es = one.es ++ two.es;
+          course = course_more log_after (MayHappen g) log one.es two.es one.course two.course;
+          come = adds_more store_law.tells store_law.begins (store_law.IsIssue Which) asks others [] [] one.es two.es one.come two.come;
+          traces = trace_more log (log_after_all log one.es) (log_after_all log (one.es ++ two.es)) Know Between Then One Other Are t u m both one.traces
+              (subst (λ (l : Log). Traces Spells site identity (log_after_all log one.es) l Between Other Then u m) same two.traces);
+          after = subst After same two.after;
+        }
+
   pub goes_more : (g : Geometry) (asks others : List (Option Change)) (Know Between Then : Core → Type 0) (One Other Are : List Event → Type 0) (Middle After : Log → Type 0) (t u m : Tale) (log : Log) → ((es fs : List Event) → One es → Other fs → Are (es ++ fs))
       → GoesTraced Spells g site identity asks Know One Between Middle t u log → ((next : Log) → Middle next → GoesTraced Spells g site identity others Between Other Then After u m next)
       → GoesTraced Spells g site identity (asks ++ others) Know Are Then After t m log
-  goes_more g asks others Know Between Then One Other Are Middle After t u m log both one then_goes =
-      let two = then_goes (log_after_all log one.es) one.after in
-      let same : log_after_all (log_after_all log one.es) two.es ≡ log_after_all log (one.es ++ two.es) = sym (after_more log_after log one.es two.es) in
-      record {
-        es = one.es ++ two.es;
-        course = course_more log_after (MayHappen g) log one.es two.es one.course two.course;
-        come = adds_more store_law.tells store_law.begins (store_law.IsIssue NoCreation) asks others [] [] one.es two.es one.come two.come;
-        traces = trace_more log (log_after_all log one.es) (log_after_all log (one.es ++ two.es)) Know Between Then One Other Are t u m both one.traces
-            (subst (λ (l : Log). Traces Spells site identity (log_after_all log one.es) l Between Other Then u m) same two.traces);
-        after = subst After same two.after;
-      }
+  goes_more = goes_on_more ChangesAlone
+
+  -- more may be issued, and be asked
+  pub goes_issued : (Which Any : Issue → Type 0) (g : Geometry) (asks more : List (Option Change)) (Know Then : Core → Type 0) (Are : List Event → Type 0) (After : Log → Type 0) (t m : Tale) (log : Log) → ((issue : Issue) → Which issue → Any issue) → IsPart asks more
+      → GoesTracedBy Which Spells g site identity asks Know Are Then After t m log → GoesTracedBy Any Spells g site identity more Know Are Then After t m log
+  goes_issued Which Any g asks more Know Then Are After t m log weaker part goes = record {
+    es = goes.es;
+    course = goes.course;
+    come = adds_weaker store_law.tells store_law.begins (store_law.IsIssue Which) (store_law.IsIssue Any) asks more [] goes.es (issue_weaker Which Any weaker) part goes.come;
+    traces = goes.traces;
+    after = goes.after;
+  }

@@ -9,7 +9,7 @@ use Rattle.mdv_shown.proofs.Choice.{shows_nothing}
 use Rattle.mdv_shown.proofs.Slots.{never_below}
 use Rattle.mdv_store_law.specs.Anew.{HasNoneAgain}
 use Rattle.mdv_standing.specs.Below.{Again, Claiming, Core, HaveRead, Identity, Image, IsBelow, Log, Mark, Seen, Site, Spot, SpotLists, Table, Version, is_named, place_at, same_spot, spot_seen, spots_seen, table_at}
-use Rattle.mdv_standing.specs.Matching.{HasStaleVote, Matches, Reached, floor_among, lists_of, spot_floor, spot_of_place, tables_of, version_at}
+use Rattle.mdv_standing.specs.Matching.{HasStaleVote, Matches, Reached, floor_among, lists_of, spot_of_place, tables_of, version_at}
 use Rattle.mdv_standing.specs.Worlds.{HasClaimed}
 use Rattle.mdv_standing.proofs.Versions.{has_version}
 use Rattle.mdv_standing.proofs.Reaching.{same_number, standing}

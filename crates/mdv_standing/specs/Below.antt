@@ -38,9 +38,9 @@ pub use Rattle.mdv_shown.specs.Site.{IsSite, place_on, site_area, spot_on}
 pub use Rattle.mdv_shown.specs.Wipes.{FirstIs, HasFirst}
 pub use Rattle.mdv_shown.specs.declared.site.Site.{Site}
 pub use Rattle.mdv_shown.specs.Steps.{IsAbove, IsBodyOf, last_number}
+pub use Rattle.mdv_store_law.specs.Changes.{Change}
 pub use Rattle.mdv_store_law.specs.Log.{Again, Ends, Lives, Log, MayHappen, Over, Version, Writing as WritesLog, Written, log_after}
 pub use Rattle.mdv_table.specs.Plan.{last_of}
-pub use Rattle.mdv_table.specs.declared.change.Change.{Change}
 pub use Rattle.mdv_table.specs.declared.plan.Lists.{Lists}
 pub use Rattle.mdv_table.specs.declared.plan.Lists.TheVariants.{One, Two}
 pub use Rattle.mdv_table.specs.declared.table.Table.{Table}

@@ -1,6 +1,6 @@
 -- How the drives stand with the log of a database, and how it goes on.
 use Rattle.std.specs.Prelude.{ℕ, List, [], Option}
-use Rattle.mdv_store_law.specs.Log.{Adds, IsLog, NoCreation}
+use Rattle.mdv_store_law.specs.Log.{Adds, ChangesAlone, IsLog}
 use Rattle.mdv_store_law.specs.Machine as machine
 use Rattle.mdv_standing.specs.Below.{Change, Core, Everywhere, Geometry, Identity, Image, Log, MayHappen, Site, Table, Tale, log_after}
 use Rattle.mdv_standing.specs.Worlds.{IsWorld}
@@ -23,4 +23,4 @@ pub record Stands (Spells : List ℕ → Table → Type 0) (g : Geometry) (site 
 abbrev pub GoesFrom : (List ℕ → Table → Type 0) → Geometry → Site → Identity → (Log → Type 0) → List (Option Change) → (Log → Type 0) → Tale → Tale → Type 0
 GoesFrom Spells g site identity Known asks After t m =
     (log : Log) → Covers Spells site identity log t → Known log
-    → machine.Goes log_after (MayHappen g) (Adds NoCreation asks []) (λ next. Covers Spells site identity next m) (λ es next. After next) log
+    → machine.Goes log_after (MayHappen g) (Adds ChangesAlone asks []) (λ next. Covers Spells site identity next m) (λ es next. After next) log

@@ -1,6 +1,6 @@
 -- By which events a call leads from each world that an image of its start shows to one that an image of the moment shows.
 use Rattle.std.specs.Prelude.{◌≡◌, ℕ, ◌+◌, ◌<◌, ◌^◌, Bool, false, List, [], ◌∷◌, ◌++◌, map, Option, None, Some, IsTrue}
-use Rattle.mdv_store_law.specs.Log.{Adds, Event as LogEvent, HasOneList, IsCourse, IsMade, NoCreation, log_after_all}
+use Rattle.mdv_store_law.specs.Log.{Adds, ChangesAlone, Event as LogEvent, HasOneList, IsCourse, IsMade, IsNotOver, Issue, log_after_all}
 use Rattle.mdv_store_law.specs.Part.{IsPart}
 use Rattle.mdv_standing.specs.Below.{Lives, Change, Claimed, Claims, Core, Event, Everywhere, Filled, Fills, FirstIs, Formatted, Formats, Geometry, Head, Identity, IsAbove, IsBodyOf, IsSpareSlot, LeftClosed, Leaves, Lists, Log, Mark, Master, MayClaim, MayFill, MayFormat, MayHappen, MayWipe, NextLists, PlaceAt, Reads, Seen, Site, SliceLine, Slot, Slotted, Spot, SpotLists, Table, Tale, Told, Version, WritesLog, Written, greatest_seen, is_claimed, is_in, is_named, is_none, is_written, log_after, master_on, place_on, spot_on, spots_seen, start}
 use Rattle.mdv_standing.specs.Adopting.{IsLook, IsMarked, drawn}
@@ -20,18 +20,25 @@ abbrev pub Traces : (List ℕ → Table → Type 0) → Site → Identity → Lo
 Traces Spells site identity log next Know Are Then =
     Leaves (λ old new. (w : Core) → IsWorld Spells site identity log w old → Know w → Turned Spells site identity next w new Are Then)
 
--- A log goes on by events that may happen, with nothing told and only such changes begun as are asked, to one to which the call traces its worlds.
-pub record GoesTraced (Spells : List ℕ → Table → Type 0) (g : Geometry) (site : Site) (identity : Identity) (asks : List (Option Change)) (Know : Core → Type 0) (Are : List Event → Type 0) (Then : Core → Type 0) (After : Log → Type 0) (t m : Tale) (log : Log) : Type 0 where
+-- A log goes on by events that may happen and issue such things alone, with nothing told and only such changes begun as are asked, to one to which the call traces its worlds.
+pub record GoesTracedBy (Which : Issue → Type 0) (Spells : List ℕ → Table → Type 0) (g : Geometry) (site : Site) (identity : Identity) (asks : List (Option Change)) (Know : Core → Type 0) (Are : List Event → Type 0) (Then : Core → Type 0) (After : Log → Type 0) (t m : Tale) (log : Log) : Type 0 where
   pub es : List LogEvent
   pub course : IsCourse g log es
-  pub come : Adds NoCreation asks [] es
+  pub come : Adds Which asks [] es
   pub traces : Traces Spells site identity log (log_after_all log es) Know Are Then t m
   pub after : After (log_after_all log es)
 
 -- So does each log that the drives stood with, of which so much was known, and of whose worlds this was known.
+abbrev pub TracesBy : (Issue → Type 0) → (List ℕ → Table → Type 0) → Geometry → Site → Identity → (Log → Type 0) → List (Option Change) → (Core → Type 0) → (List Event → Type 0) → (Core → Type 0) → (Log → Type 0) → Tale → Tale → Type 0
+TracesBy Which Spells g site identity Known asks Know Are Then After t m =
+    (log : Log) → CoversWith Spells site identity (λ image w. Know w) log t → Known log → GoesTracedBy Which Spells g site identity asks Know Are Then After t m log
+
+-- the same where changes alone are issued
+abbrev pub GoesTraced : (List ℕ → Table → Type 0) → Geometry → Site → Identity → List (Option Change) → (Core → Type 0) → (List Event → Type 0) → (Core → Type 0) → (Log → Type 0) → Tale → Tale → Log → Type 0
+GoesTraced = GoesTracedBy ChangesAlone
+
 abbrev pub TracesFrom : (List ℕ → Table → Type 0) → Geometry → Site → Identity → (Log → Type 0) → List (Option Change) → (Core → Type 0) → (List Event → Type 0) → (Core → Type 0) → (Log → Type 0) → Tale → Tale → Type 0
-TracesFrom Spells g site identity Known asks Know Are Then After t m =
-    (log : Log) → CoversWith Spells site identity (λ image w. Know w) log t → Known log → GoesTraced Spells g site identity asks Know Are Then After t m log
+TracesFrom = TracesBy ChangesAlone
 
 -- The events begin so, and behind that come some of the plan's, in this order.
 pub record IsRun (Begins : List Event → Type 0) (plan es : List Event) : Type 0 where
@@ -156,7 +163,7 @@ pub record CreationsTrace : Type 0 where
       → IsToFormat site identity t line first.blocks first.count k lists done → IsBehind (Reads read) site t line k first → Leaves (Formats (place_on line first.blocks first.count k) (master_on site identity line first.blocks first.count k) 1) t m
       → Traces (Reads read) site identity log log (IsCreating (spots_of site lists) done) (λ es. es ≡ Formatted (spot_on line first.blocks k) ∷ []) (IsCreating (spots_of site lists) (spot_on line first.blocks k ∷ done)) t m
   -- once each place of the first table was formatted that may be written, which has one list of places and no volumes, and begins to be
-  pub may : (g : Geometry) (identity : Identity) (log : Log) (table : Table) → log.issued ≡ Some identity → log.family ≡ [] → table.plan.volumes ≡ [] → HasOneList table → MayHappen g log (WritesLog first_mark None [] table)
+  pub may : (g : Geometry) (identity : Identity) (log : Log) (table : Table) → log.issued ≡ Some identity → log.family ≡ [] → IsNotOver log.fate → table.plan.volumes ≡ [] → HasOneList table → MayHappen g log (WritesLog first_mark None [] table)
   pub writes : (read : List ℕ → Option Table) (site : Site) (identity : Identity) (log : Log) (t : Tale) (p : Spot) (table : Table) (done : List Spot) → log.family ≡ [] → is_none (spots_of site table.plan.lists).first ≡ false
       → IsTrue (is_in done p) → IsTrue (is_named (spots_of site table.plan.lists) p) → Everywhere (AreAllPlaced (Reads read) site identity table.plan.lists) t
       → Traces (Reads read) site identity log (log_after log (WritesLog first_mark None [] table)) (IsCreating (spots_of site table.plan.lists) done) (λ es. es ≡ Slotted p LeftClosed ∷ []) (IsTaking false first_mark []) t t

@@ -1,4 +1,4 @@
--- What is done at the places of a creation touches only these.
+-- What is done at places that are formatted touches only these.
 use Rattle.std.proofs.Common.{◌≡◌, inl, inr, ℕ, zero, suc, ◌+◌, ◌-◌, ◌*◌, ◌<◌, ◌≤◌, Bool, true, false, if◌then◌else◌, List, [], ◌∷◌, ◌++◌, Contains, refl, sym, ◌∙◌, ap, subst, arith}
 use Rattle.std.specs.Prelude.{flat_map, nat_lt}
 use Rattle.std.specs.List.{list_any}
@@ -22,7 +22,7 @@ quiet_same area t = record { outside = kept_outside_same area t; quiet = refl }
 pub quiet_more : (area : Area) (t u m : Tale) → IsQuiet area t u → IsQuiet area u m → IsQuiet area t m
 quiet_more area t u m first second = record { outside = kept_outside_more area t u m first.outside second.outside; quiet = second.quiet ∙ first.quiet }
 
-module _ (key : Key) (identity : Identity) (lines : List SliceLine) (count blocks : ℕ) (least : 16 ≤ blocks) where
+module _ (key : Key) (identity : Identity) (lines : List SliceLine) (count blocks claim : ℕ) (least : 16 ≤ blocks) where
   abbrev seats : List Seat
   seats = seats_asked key identity lines count blocks
 
@@ -79,7 +79,7 @@ module _ (key : Key) (identity : Identity) (lines : List SliceLine) (count block
   done_on [] t v on is = subst (λ (w : Tale). IsQuiet (seats_area seats) t w) (sym is) (quiet_same (seats_area seats) t)
   done_on (a ∷ acts) t v on is = quiet_more (seats_area seats) t is.0 v (one_quiet a t is.0 on.0 (while_done a t is.0 is.1)) (done_on acts is.0 v on.1 is.2)
 
-  -- all that a creation does is
+  -- all that is done is
   module _ (line : SliceLine) (among : Contains lines line) where
     at_place : (k : ℕ) → k < count → IsPlace (place_on line blocks count k)
     at_place k lt = record { line = line; number = k; among = among; lt = lt; is = refl }
@@ -88,7 +88,7 @@ module _ (key : Key) (identity : Identity) (lines : List SliceLine) (count block
     behind_on zero lt = tt
     behind_on (suc n) lt = (at_place (n + 1) (omega (arith, lt)), behind_on n (omega (arith, lt)))
 
-    from_on : (k n : ℕ) → k + n ≤ count → AreOn (forms_from key identity 1 line count blocks k n)
+    from_on : (k n : ℕ) → k + n ≤ count → AreOn (forms_from key identity claim line count blocks k n)
     from_on k zero within = tt
     from_on k (suc n) within = (at_place k (omega (arith, within)), from_on (k + 1) n (omega (arith, within)))
 
@@ -98,19 +98,19 @@ module _ (key : Key) (identity : Identity) (lines : List SliceLine) (count block
       on_more (blanks_on count blocks l) (flat_map (blanks_on count blocks) rest) (at_place l (within l (contains_first l rest)) 0 (omega (arith, some)), behind_on l (within l (contains_first l rest)) (count - 1) (omega (arith, some)))
       (all_blanks_on some rest (λ x has. within x (contains_behind l x rest has)))
 
-  all_forms_on : (rest : List SliceLine) → ((l : SliceLine) → Contains rest l → Contains lines l) → AreOn (forms_asked key identity 1 rest count blocks)
+  all_forms_on : (rest : List SliceLine) → ((l : SliceLine) → Contains rest l → Contains lines l) → AreOn (forms_asked key identity claim rest count blocks)
   all_forms_on [] within = tt
   all_forms_on (l ∷ rest) within =
-      on_more (forms_on key identity 1 count blocks l) (forms_asked key identity 1 rest count blocks) (from_on l (within l (contains_first l rest)) 0 count (omega arith)) (all_forms_on rest (λ x has. within x (contains_behind l x rest has)))
+      on_more (forms_on key identity claim count blocks l) (forms_asked key identity claim rest count blocks) (from_on l (within l (contains_first l rest)) 0 count (omega arith)) (all_forms_on rest (λ x has. within x (contains_behind l x rest has)))
 
-  acts_on : 1 ≤ count → AreOn (blanks_asked lines count blocks ++ forms_asked key identity 1 lines count blocks)
-  acts_on some = on_more (blanks_asked lines count blocks) (forms_asked key identity 1 lines count blocks) (by (nat_lt 1 count)) (all_forms_on lines (λ l has. has)) where
+  acts_on : 1 ≤ count → AreOn (blanks_asked lines count blocks ++ forms_asked key identity claim lines count blocks)
+  acts_on some = on_more (blanks_asked lines count blocks) (forms_asked key identity claim lines count blocks) (by (nat_lt 1 count)) (all_forms_on lines (λ l has. has)) where
     by : (b : Bool) → AreOn (if b then flat_map (blanks_on count blocks) lines else [])
     by true = all_blanks_on some lines (λ l has. has)
     by false = tt
 
-  pub acts_quiet : 1 ≤ count → (t m : Tale) → AreDoing (blanks_asked lines count blocks ++ forms_asked key identity 1 lines count blocks) t m → IsQuiet (seats_area seats) t m
-  acts_quiet some t m is = doing_on (blanks_asked lines count blocks ++ forms_asked key identity 1 lines count blocks) t m (acts_on some) is
+  pub acts_quiet : 1 ≤ count → (t m : Tale) → AreDoing (blanks_asked lines count blocks ++ forms_asked key identity claim lines count blocks) t m → IsQuiet (seats_area seats) t m
+  acts_quiet some t m is = doing_on (blanks_asked lines count blocks ++ forms_asked key identity claim lines count blocks) t m (acts_on some) is
 
-  pub acts_done_quiet : 1 ≤ count → (t v : Tale) → AreDone (blanks_asked lines count blocks ++ forms_asked key identity 1 lines count blocks) t v → IsQuiet (seats_area seats) t v
-  acts_done_quiet some t v is = done_on (blanks_asked lines count blocks ++ forms_asked key identity 1 lines count blocks) t v (acts_on some) is
+  pub acts_done_quiet : 1 ≤ count → (t v : Tale) → AreDone (blanks_asked lines count blocks ++ forms_asked key identity claim lines count blocks) t v → IsQuiet (seats_area seats) t v
+  acts_done_quiet some t v is = done_on (blanks_asked lines count blocks ++ forms_asked key identity claim lines count blocks) t v (acts_on some) is

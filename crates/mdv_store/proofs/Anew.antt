@@ -9,7 +9,7 @@ use Rattle.mdv_base.specs.declared.name.Key.TheVariants.{Local, Set}
 use Rattle.mdv_look.proofs.Among.{among_calm, is_one_of}
 use Rattle.mdv_look.proofs.Bringing.{one_number, same_drive}
 use Rattle.mdv_look.proofs.Quiet.{quiet_more, quiet_wider}
-use Rattle.mdv_record.proofs.Rooms.{last_room, room_most}
+use Rattle.mdv_record.proofs.Rooms.{last_room}
 use Rattle.mdv_shelf.proofs.Between.{between_then, between_wider}
 use Rattle.mdv_shelf.proofs.Counts.{took_more}
 use Rattle.mdv_shelf.proofs.Everywhere.{last_image}
@@ -57,6 +57,7 @@ use Rattle.mdv_store.specs.declared.booting.Taken.{Taken}
 use Rattle.mdv_store.specs.declared.seats.Need.TheVariants.{Half, More}
 use Rattle.mdv_store.specs.declared.seats.Seat.{Seat}
 use Rattle.mdv_store.specs.declared.seats.Share.{Share}
+use Rattle.mdv_store.proofs.Rooms.{first_least}
 use Rattle.mdv_store.proofs.Again.{last_none, left_now, more_some, now_active, now_area, none_all, none_of, now_enough, now_in, now_once, now_room, now_seat, now_seats, now_spots, spot_apart, spots_among}
 use Rattle.mdv_store.proofs.Committing.{AreWritten, IsCommitting, bodies, ends_so, goes_on, left_show, others_blank, others_stand, over_newest}
 use Rattle.mdv_store.proofs.Finishing.{settled_less}
@@ -119,6 +120,7 @@ module _ {S : Type 0} (shelf : Ghosts S) (key : Key) (hand : Hand) (table : Tabl
     count = omega arith;
     seats = last_are;
     whole = omega (arith, is);
+    first = omega (arith, is);
     short = room_short hand table ready room is;
     marks = λ half n has. (let one = left_replica (DriveFailures shelf old mid) Both hand.seats last n w.took has in both_none_above hand.number (length (record_text table)) one.0 n (ready.above one.0 one.1) one.2);
   }
@@ -221,10 +223,6 @@ module _ {S : Type 0} (shelf : Ghosts S) (key : Key) (hand : Hand) (table : Tabl
     comes_some = more_some hand.seats comes (last_none hand.seats More table.plan.lists ready.enough)
 
     -- so it may be written again, with room for its text, and for those that come
-    first_least : (places : List Place) → 1 ≤ length places → least_room places ≤ first_room places
-    first_least [] some = absurd (omega (arith, some))
-    first_least (p ∷ places) some = omega (arith, room_most places)
-
     pub two_draft : (room : ℕ) → room ≡ room_of table → IsDraft opened room hand.next
     two_draft room room_is = record {
       seats = last_are;
@@ -240,7 +238,8 @@ module _ {S : Type 0} (shelf : Ghosts S) (key : Key) (hand : Hand) (table : Tabl
           let less = settled_less table in
           omega (arith, fits, less, ap (λ (x : Replica). x.first.blocks) one.2.2);
       in_room = (let less = settled_less table in omega (arith, room_is, less));
-      whole = (let least = first_least comes comes_some in let same = ap first_room comes_again in omega (arith, room_is, least, same));
+      whole = (let least = first_least comes comes_some in omega (arith, room_is, least));
+      first = omega (arith, room_is);
       short = room_short hand table ready room room_is;
     }
 

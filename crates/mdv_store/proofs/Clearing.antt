@@ -1,4 +1,4 @@
--- Masters are blanked for a creation, slice by slice: what shows no table, whatever lies on the drives; and how its worlds and all other databases go on.
+-- Masters are blanked for a database, slice by slice: what shows no table, whatever lies on the drives; and how its worlds and all other databases go on.
 use Rattle.std.proofs.Common.{◌≡◌, ◌⊎◌, inl, inr, ℕ, zero, suc, ◌+◌, ◌-◌, ◌*◌, ◌<◌, ◌≤◌, Bool, true, false, if◌then◌else◌, List, [], ◌∷◌, ◌++◌, Contains, refl, sym, subst, arith}
 use Rattle.std.specs.Prelude.{flat_map, nat_lt}
 use Rattle.std.proofs.lemmas.Bool.Decides.{nat_tests}
@@ -13,8 +13,9 @@ use Rattle.mdv_shelf.specs.Everywhere.{Everywhere, Leaves}
 use Rattle.mdv_shelf.specs.Tale.{IsImage}
 use Rattle.mdv_standing.specs.Blanking.{AreBlank, HasNoFirst, MayClear}
 use Rattle.mdv_standing.specs.Creating.{IsCreating, issued_log}
+use Rattle.mdv_standing.specs.Rest.{RestMayBeTaken, RestStands}
 use Rattle.mdv_standing.specs.Tracing.{IsCreationBegin, IsStart, Traces}
-use Rattle.mdv_standing.proofs.Blanking.{AreAllBefore, blank_more, blank_wiping, clears_later, first_place_before, no_first_now, no_first_still, none_before, rest_first_place, taken_before, unled_before}
+use Rattle.mdv_standing.proofs.Blanking.{AreAllBefore, blank_more, blank_wiping, clears_later, first_place_before, no_first_now, no_first_still, none_before, rest_first_place, rest_later, taken_before, unled_before}
 use Rattle.mdv_standing.proofs.Stretches.{traced_clearing, traced_creation}
 use Rattle.mdv_standing.proofs.Tracing.{run_traced, trace_more}
 use Rattle.mdv_acts.specs.Acts.{AreDoing, AreDone, blanks_asked, blanks_behind, blanks_on}
@@ -188,7 +189,7 @@ module _ (site : Site) (lines : List SliceLine) (count blocks : ℕ) (some : 1 �
     pub all_cleared : (u : Tale) → AreDone (blanks_asked lines count blocks) t u → AreCleared u
     all_cleared u is = clearing.1 u is
 
-module _ (g : Geometry) (key : Key) (identity : Identity) (lines : List SliceLine) (count blocks : ℕ) (given : IsGiven g key identity lines count blocks) (some : 1 ≤ count) (t : Tale) where
+module _ (g : Geometry) (key : Key) (identity : Identity) (lines : List SliceLine) (count blocks claim : ℕ) (given : IsGiven g key identity lines count blocks claim) (some : 1 ≤ count) (t : Tale) where
   abbrev site : Site
   site = site_of g key
 
@@ -223,7 +224,7 @@ module _ (g : Geometry) (key : Key) (identity : Identity) (lines : List SliceLin
   pub dark_now : StayDark g key identity t t
   dark_now = stay_dark g key identity t
 
-  pub may_put : (u : Tale) → IsCleared site lines count blocks some (StayDark g key identity t) dark_known (λ line. Contains lines line) u → ArePut g key identity lines count blocks t (λ other j. ⊥) (λ other from. Contains lines other × (1 ≤ from)) u
+  pub may_put : (u : Tale) → IsCleared site lines count blocks some (StayDark g key identity t) dark_known (λ line. Contains lines line) u → ArePut g key identity lines count blocks claim t (λ other j. ⊥) (λ other from. Contains lines other × (1 ≤ from)) u
   may_put u s = record {
     dark = s.known;
     own = λ line j none. absurd none;
@@ -241,6 +242,39 @@ module _ (g : Geometry) (key : Key) (identity : Identity) (lines : List SliceLin
     abbrev Clear : Tale → Type 0
     Clear u = MayClear (Spells g) g all key identity lines u
 
+    -- the rest stands, and may be taken on the slices
+    pub record IsRested (u : Tale) : Type 0 where
+      pub rest : RestStands (Spells g) g all identity u
+      pub taken : (line : SliceLine) → Contains lines line → RestMayBeTaken (Spells g) g all identity line u
+
+    -- so it is while the first place of a slice is blanked, whatever first master it has
+    rests_front : (line : SliceLine) (u m : Tale) → Contains lines line → Leaves (MayWipe (place_on line blocks count 0)) u m → IsRested u → IsRested m
+    rests_front line u m among leaves s =
+        let f = given.format line 0 among (omega (arith, some)) in
+        record {
+          rest = λ image is.
+              let from = leaves image is in
+              let before = first_of site from.0 line in
+              rest_first_place (read_of g) g given.sound key line f.one_of from.0 image all identity (s.rest from.0 from.1) blocks count claim before.0 f before.1 (s.taken line among from.0 from.1) from.2;
+          taken = λ other has image is d of_rest.
+              let from = leaves image is in
+              taken_before (Spells g) g from.0 image (front_before line among from.0 image from.2) other d (s.taken other has from.0 from.1 d of_rest);
+        }
+
+    -- and while any place is of a slice that has none
+    rests_later : (line : SliceLine) (k : ℕ) (u m : Tale) → Contains lines line → k < count → HasNoFirst site line u → Leaves (MayWipe (place_on line blocks count k)) u m → IsRested u → IsRested m
+    rests_later line k u m among lt none leaves s = record {
+      rest = λ image is.
+          let from = leaves image is in
+          rest_later (read_of g) g given.sound key line (looks_on line among) from.0 image all identity (s.rest from.0 from.1) blocks count k (within_line line k among lt) (none from.0 from.1) from.2;
+      taken = λ other has image is d of_rest.
+          let from = leaves image is in
+          taken_before (Spells g) g from.0 image (unled_before (read_of g) g given.sound key line (looks_on line among) from.0 image blocks count k (within_line line k among lt) (none from.0 from.1) from.2) other d (s.taken other has from.0 from.1 d of_rest);
+    }
+
+    pub rested_known : StaysKnown site lines count blocks IsRested
+    rested_known = record { first = rests_front; later = rests_later }
+
     -- nothing happened to the database
     pub record IsClearing (m : Tale) : Type 0 where
       pub clear : Clear m
@@ -257,16 +291,11 @@ module _ (g : Geometry) (key : Key) (identity : Identity) (lines : List SliceLin
     -- the first place of a slice is blanked, whatever first master it has
     clears_front : (line : SliceLine) (u m : Tale) → Contains lines line → Leaves (MayWipe (place_on line blocks count 0)) u m → Clear u → Clear m
     clears_front line u m among leaves clear =
-        let f = given.format line 0 among (omega (arith, some)) in
+        let rested = rests_front line u m among leaves (record { rest = clear.rest; taken = clear.taken }) in
         record {
           none = λ image is. (let from = leaves image is in none_before (Spells g) g from.0 image (front_before line among from.0 image from.2) key identity (clear.none from.0 from.1));
-          rest = λ image is.
-              let from = leaves image is in
-              let before = first_of site from.0 line in
-              rest_first_place (read_of g) g given.sound key line f.one_of from.0 image all identity (clear.rest from.0 from.1) blocks count 1 before.0 f before.1 (clear.taken line among from.0 from.1) from.2;
-          taken = λ other has image is d of_rest.
-              let from = leaves image is in
-              taken_before (Spells g) g from.0 image (front_before line among from.0 image from.2) other d (clear.taken other has from.0 from.1 d of_rest);
+          rest = rested.rest;
+          taken = rested.taken;
         }
 
     pub clear_known : StaysKnown site lines count blocks IsClearing
@@ -279,19 +308,21 @@ module _ (g : Geometry) (key : Key) (identity : Identity) (lines : List SliceLin
     pub clear_now : Clear t → IsClearing t
     clear_now clear = record { clear = clear; traces = λ image is. (image, is, λ w world known. record { events = []; are = refl; may = tt; world = world; known = known }) }
 
-    pub may_form : (u : Tale) → IsClearing u → ArePut g key identity lines count blocks t (λ other j. ⊥) (λ other from. Contains lines other × (1 ≤ from)) u
-        → IsFormedTo g all key identity lines count blocks t (λ other j. ⊥) (λ other from. Contains lines other × (1 ≤ from)) [] (spots_of (seats g key identity lines count blocks)) u
-    may_form u s put = record {
-      put = put;
-      whole = refl;
-      made = [];
-      traces =
-          run_traced (Spells g) site identity log log (IsStart site) (IsCreating (named g key identity lines count blocks) []) (IsCreationBegin (named g key identity lines count blocks)) t u
-          (trace_more (Spells g) site identity log log log (IsStart site) (IsStart site) (IsCreating (named g key identity lines count blocks) []) (λ es. es ≡ []) (IsCreationBegin (named g key identity lines count blocks)) (IsCreationBegin (named g key identity lines count blocks)) t u u
-          (λ es fs none begins. subst (λ (l : List Event). IsCreationBegin (named g key identity lines count blocks) (l ++ fs)) (sym none) begins) s.traces
-          (traced_creation (Spells g) site identity log u s.clear.none (lists g key identity lines count blocks)));
-      only = λ q is. absurd (cc (is));
-      has = λ line j none. absurd none;
-      rest = s.clear.rest;
-      taken = s.clear.taken;
-    }
+-- The masters of a creation were blanked, so its places may be formatted.
+module _ (g : Geometry) (key : Key) (identity : Identity) (lines : List SliceLine) (count blocks : ℕ) (given : IsGiven g key identity lines count blocks 1) (some : 1 ≤ count) (t : Tale) (all : List Database) where
+  pub may_form : (u : Tale) → IsClearing g key identity lines count blocks 1 given some t all u → ArePut g key identity lines count blocks 1 t (λ other j. ⊥) (λ other from. Contains lines other × (1 ≤ from)) u
+      → IsFormedTo g all key identity lines count blocks t (λ other j. ⊥) (λ other from. Contains lines other × (1 ≤ from)) [] (spots_of (seats g key identity lines count blocks)) u
+  may_form u s put = record {
+    put = put;
+    whole = refl;
+    made = [];
+    traces =
+        run_traced (Spells g) (site_of g key) identity (issued_log identity) (issued_log identity) (IsStart (site_of g key)) (IsCreating (named g key identity lines count blocks) []) (IsCreationBegin (named g key identity lines count blocks)) t u
+        (trace_more (Spells g) (site_of g key) identity (issued_log identity) (issued_log identity) (issued_log identity) (IsStart (site_of g key)) (IsStart (site_of g key)) (IsCreating (named g key identity lines count blocks) []) (λ es. es ≡ []) (IsCreationBegin (named g key identity lines count blocks)) (IsCreationBegin (named g key identity lines count blocks)) t u u
+        (λ es fs none begins. subst (λ (l : List Event). IsCreationBegin (named g key identity lines count blocks) (l ++ fs)) (sym none) begins) s.traces
+        (traced_creation (Spells g) (site_of g key) identity (issued_log identity) u s.clear.none (lists g key identity lines count blocks)));
+    only = λ q is. absurd (cc (is));
+    has = λ line j none. absurd none;
+    rest = s.clear.rest;
+    taken = s.clear.taken;
+  }

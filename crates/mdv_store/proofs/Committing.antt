@@ -13,15 +13,17 @@ use Rattle.mdv_standing.proofs.Stretches.{may_change, traced_answer, traced_chan
 use Rattle.mdv_standing.proofs.Tracing.{may_answer, more, newest_begun, part_one, run_traced, run_within, trace_here, trace_weaker}
 use Rattle.mdv_standing.specs.Tracing.{GoesTraced, IsCommitBegin, IsRun, taken_at}
 use Rattle.mdv_standing.specs.Turning.{IsPlaceAt}
+use Rattle.mdv_store_law.proofs.Issues.{any_asked}
 use Rattle.mdv_store_law.proofs.Parts.{part_front, part_itself}
 use Rattle.mdv_store_law.specs.Log.{Event as LogEvent, IsNewestTellable, MayHappen, Writing, Written, log_after}
 use Rattle.mdv_store_law.specs.Part.{IsPart}
 use Rattle.mdv_standing.specs.Committing.{MayChangeLists, MayFollow, MayListNext}
 use Rattle.mdv_table.specs.declared.plan.Lists.{Lists}
 use Rattle.mdv_store.specs.Blank.{StayBlank}
-use Rattle.mdv_store.specs.Below.{Change, Core, CoversWith, Database, Event, Failures, Geometry, HasNoneAbove, IsCommitRun, IsMade, IsNewest, IsOfGeometry, IsReadyWith, IsSound, IsTaking, Log, Mark, Replica, RestStands, Site, Spot, Table, Tale, Traces, asks_of, fills_at, is_named, last, lists_of_spots, places_of, record_text, site_of}
+use Rattle.mdv_store.specs.Below.{Change, Core, CoversWith, Database, Event, Failures, Geometry, HasNoneAbove, IsCommitRun, IsMade, IsNewest, IsOfGeometry, IsReadyWith, IsSound, IsTaking, Log, Mark, Replica, RestStands, Site, Spot, Table, Tale, Traces, asks_of, fills_at, is_named, last, last_of, lists_of_spots, places_of, record_text, site_of}
 use Rattle.mdv_store.specs.Commit.{AnyLog, AnyWorld, AreOfCommit, CommitDone, CommitGoes, CommitMoment, IsCommitted, IsCommittedTo, IsLogOf, IsLostNow, IsNewestWritten, MayCommit, next_mark, room_in}
 use Rattle.mdv_store.specs.Opened.{AreSeatsOf, IsOpen, IsOpenedAt, Opened, least_room, shortage}
+use Rattle.mdv_store.specs.Settled.{first_room}
 use Rattle.mdv_store.specs.Records.{Spells}
 use Rattle.mdv_store.specs.Seats.{AreLeft, AreNamed, HaveRoom, TakesSlot, replicas_of, spot_of, spots_of}
 use Rattle.mdv_store.specs.Slots.{AreAbove, AreBodies, AreFills, FillsTrace, IsWritten}
@@ -164,7 +166,7 @@ module _ (old : Opened) (next : Table) (c : IsCommitting old next) where
     goes_on m writing = record {
       es = writes asked log known ∷ [];
       course = (may_write, tt);
-      come = record { tells = refl; issues = (tt, tt); begins = only_asked };
+      come = record { tells = refl; issues = (any_asked asked, tt); begins = only_asked };
       traces =
           trace_weaker (Spells g) site old.identity log begun (IsReadyWith places) (IsReadyWith places) (IsTaking false mark []) AnyWorld (IsRun Begins (fills_at places)) (AreWritten g old next) t m (λ w ready. ready)
           (λ es run. (p, active, run_within Begins (fills_at places) (taken_at places) es (part_front (fills_at places) (Told ∷ [])) run)) (λ w taking. tt)
@@ -200,7 +202,7 @@ module _ (old : Opened) (next : Table) (c : IsCommitting old next) where
       ends_so = record {
         es = writes asked log known ∷ (Written ∷ []);
         course = (may_write, (may_answer g begun mark next newest, tt));
-        come = record { tells = refl; issues = (tt, (tt, tt)); begins = only_asked };
+        come = record { tells = refl; issues = (any_asked asked, (tt, tt)); begins = only_asked };
         traces =
             trace_weaker (Spells g) site old.identity log over (IsReadyWith places) (IsReadyWith places) (IsReadyWith took) (IsReadyWith (spots_of new)) (IsRun Begins (taken_at places)) (AreWritten g old next) t u (λ w ready. ready)
             (λ es is. (p, active, is)) (λ w ready. subst (λ (l : List Spot). IsReadyWith l w) (append-nil (spots_of new)) ready) run;
@@ -303,23 +305,25 @@ module _ (old : Opened) (next : Table) (seats : AreSeatsOf old.table old.seats) 
   commit_moments a b = moments_weaker (WritingMoment old.seats next_to next) (CommitMoment old next) a b commit_moment
 
   module _ (failed : ℕ → Failures) (new : List Seat) (left : AreLeft failed (TakesSlot next_to (text_size next)) old.seats new) where
-    pub new_open : (rooms : ℕ) → least_room (places_of old.table.plan.lists) ≤ rooms → 512 * rooms < 2 ^ 32 → IsOpen (record old { mark = next_to; table = next; seats = new }) rooms
-    new_open rooms whole short = record {
+    pub new_open : (rooms : ℕ) → least_room (places_of old.table.plan.lists) ≤ rooms → first_room (last_of old.table.plan.lists) ≤ rooms → 512 * rooms < 2 ^ 32 → IsOpen (record old { mark = next_to; table = next; seats = new }) rooms
+    new_open rooms whole first short = record {
       boot = boot;
       count = small;
       seats = new_seats old next committing failed new left next refl;
       whole = subst (λ (l : Lists). least_room (places_of l) ≤ rooms) (sym lists) whole;
+      first = subst (λ (l : Lists). first_room (last_of l) ≤ rooms) (sym lists) first;
       short = short;
       marks = λ half. left_none_above failed old.mark (text_size next) old.seats new left none_above;
     }
 
     -- of a list fewer than half took it
-    pub lost_open : (rooms : ℕ) → least_room (places_of old.table.plan.lists) ≤ rooms → 512 * rooms < 2 ^ 32 → (share : Share) → short_of Half new old.table.plan.lists ≡ Some share → IsOpen (record old { seats = new }) rooms
-    lost_open rooms whole short share few = record {
+    pub lost_open : (rooms : ℕ) → least_room (places_of old.table.plan.lists) ≤ rooms → first_room (last_of old.table.plan.lists) ≤ rooms → 512 * rooms < 2 ^ 32 → (share : Share) → short_of Half new old.table.plan.lists ≡ Some share → IsOpen (record old { seats = new }) rooms
+    lost_open rooms whole first short share few = record {
       boot = boot;
       count = omega (arith, small);
       seats = new_seats old next committing failed new left old.table (sym lists);
       whole = whole;
+      first = first;
       short = short;
       marks = λ half. absurd (cc (few, half));
     }

@@ -9,6 +9,7 @@ use Rattle.mdv_store_law.specs.Log.{Writing as WritesLog, Written, log_after}
 use Rattle.mdv_standing.specs.Creating.{AreAllPlaced, IsCreating, first_mark, issued_log}
 use Rattle.mdv_standing.specs.Tracing.{IsCreationBegin, IsRun, IsStart, Traces, formats_at, written_at}
 use Rattle.mdv_standing.proofs.Creating.{may_write_first}
+use Rattle.mdv_store_law.proofs.Logs.{lives_there}
 use Rattle.mdv_standing.proofs.Stretches.{traced_answer, traced_first_write}
 use Rattle.mdv_standing.proofs.Tracing.{adds_begun, adds_none, adds_written, course_one, course_written, more, newest_begun, part_one, run_within, trace_weaker}
 use Rattle.mdv_acts.specs.Acts.{Act, AreDoing, AreDone, blanks_asked, forms_asked}
@@ -68,10 +69,10 @@ module _ (g : Geometry) (all : List Database) (key : Key) (identity : Identity) 
   abbrev Begin : List Event → Type 0
   Begin = IsCreationBegin (lists_of_spots site table.plan.lists)
 
-  abbrev given : IsGiven g key identity lines count blocks
+  abbrev given : IsGiven g key identity lines count blocks 1
   given = formed.given g key identity lines count blocks sizes t owner asked may.forms
 
-  abbrev steps : GoesOn key identity lines count blocks (IsFormedTo g all key identity lines count blocks t) (IsFormingAt g all key identity lines count blocks t)
+  abbrev steps : GoesOn key identity lines count blocks 1 (IsFormedTo g all key identity lines count blocks t) (IsFormingAt g all key identity lines count blocks t)
   steps = form_steps g all key identity lines count blocks given may.one_of t
 
   abbrev pairs : ArePairsApart lines
@@ -99,7 +100,7 @@ module _ (g : Geometry) (all : List Database) (key : Key) (identity : Identity) 
   unbegun m traces rest = record { goes = record { es = []; course = tt; come = adds_none; traces = traces; after = refl }; rest = rest }
 
   abbrev Clearing : Tale → Type 0
-  Clearing = IsClearing g key identity lines count blocks given asked.more t all
+  Clearing = IsClearing g key identity lines count blocks 1 given asked.more t all
 
   from_clearing : (m : Tale) → Clearing m → IsUnbegun m
   from_clearing m c = unbegun m (trace_weaker (Spells g) site identity log log (IsStart site) (IsStart site) (IsStart site) AnyWorld (λ es. es ≡ []) Are t m (λ w known. known) (λ es none. inl none) (λ w known. tt) c.traces) c.clear.rest
@@ -116,10 +117,10 @@ module _ (g : Geometry) (all : List Database) (key : Key) (identity : Identity) 
 
   -- the masters are blanked, where there are more than one on a slice
   abbrev clear : Clearing t
-  clear = clear_now g key identity lines count blocks given asked.more t all may.clear
+  clear = clear_now g key identity lines count blocks 1 given asked.more t all may.clear
 
   abbrev known : StaysKnown site lines count blocks Clearing
-  known = clear_known g key identity lines count blocks given asked.more t all
+  known = clear_known g key identity lines count blocks 1 given asked.more t all
 
   clear_to : (u : Tale) → AreDone (blanks_asked lines count blocks) t u → IsFormedTo g all key identity lines count blocks t (λ other j. ⊥) (λ other from. Contains lines other × (1 ≤ from)) [] (spots_of seats) u
   clear_to u is =
@@ -131,15 +132,15 @@ module _ (g : Geometry) (all : List Database) (key : Key) (identity : Identity) 
   pub acts_unbegun : (m : Tale) → AreDoing acts t m → IsUnbegun m
   acts_unbegun m is = elim (doing_split (blanks_asked lines count blocks) (forms_asked key identity 1 lines count blocks) t m is) [
     | inl here ↦ from_clearing m (all_clearing site lines count blocks asked.more Clearing known t clear m here)
-    | inr behind ↦ from_forming m (all_forming key identity lines count blocks (IsFormedTo g all key identity lines count blocks t) (IsFormingAt g all key identity lines count blocks t) steps pairs behind.0 (clear_to behind.0 behind.1) m behind.2)
+    | inr behind ↦ from_forming m (all_forming key identity lines count blocks 1 (IsFormedTo g all key identity lines count blocks t) (IsFormingAt g all key identity lines count blocks t) steps pairs behind.0 (clear_to behind.0 behind.1) m behind.2)
   ]
 
   -- The first table is written.
   module _ (v : Tale) (is_done : AreDone acts t v) where
-    f : Ended key identity lines count blocks (IsFormedTo g all key identity lines count blocks t) (IsFormingAt g all key identity lines count blocks t) steps v
+    f : Ended key identity lines count blocks 1 (IsFormedTo g all key identity lines count blocks t) (IsFormingAt g all key identity lines count blocks t) steps v
     f =
         let two = done_split (blanks_asked lines count blocks) (forms_asked key identity 1 lines count blocks) t v is_done in
-        all_formed key identity lines count blocks (IsFormedTo g all key identity lines count blocks t) (IsFormingAt g all key identity lines count blocks t) steps pairs two.0 (clear_to two.0 two.1) v two.2
+        all_formed key identity lines count blocks 1 (IsFormedTo g all key identity lines count blocks t) (IsFormingAt g all key identity lines count blocks t) steps pairs two.0 (clear_to two.0 two.1) v two.2
 
     held : AreHeld g key identity seats v
     held = formed.held g key identity lines count blocks sizes t owner asked may.forms v is_done
@@ -190,7 +191,7 @@ module _ (g : Geometry) (all : List Database) (key : Key) (identity : Identity) 
       first_write =
           let lt : 0 < count = (let more_than = asked.more in omega (arith, more_than)) in
           more (Spells g) site identity log log (IsStart site) (IsCreating (lists_of_spots site table.plan.lists) f.made) Begin (formats_at spots) t v f.traces begun (IsTaking false first_mark []) (λ es. es ≡ opening ∷ []) (opening ∷ []) v
-          (λ fs is. part_one opening fs is) (traced_first_write (Spells g) site identity log v p table f.made refl some_first (f.has line 0 (in_end key identity lines count blocks (IsFormedTo g all key identity lines count blocks t) (IsFormingAt g all key identity lines count blocks t) steps line 0 among lt)) (given.names line 0 among lt) placed)
+          (λ fs is. part_one opening fs is) (traced_first_write (Spells g) site identity log v p table f.made refl some_first (f.has line 0 (in_end key identity lines count blocks 1 (IsFormedTo g all key identity lines count blocks t) (IsFormingAt g all key identity lines count blocks t) steps line 0 among lt)) (given.names line 0 among lt) placed)
 
       fills : (now : List Spot) (m : Tale) → Traces (Spells g) site identity begun begun (IsTaking false first_mark []) (AreFills spots) (IsTaking false first_mark now) v m
           → Traces (Spells g) site identity log begun (IsStart site) (IsRun Begin ((formats_at spots ++ opening ∷ []) ++ fills_at spots)) (IsTaking false first_mark now) t m
@@ -208,7 +209,7 @@ module _ (g : Geometry) (all : List Database) (key : Key) (identity : Identity) 
           let within = subst (λ (l : List Event). IsPart plan l) told_last (part_front plan (Told ∷ [])) in
           record {
             es = WritesLog first_mark None [] table ∷ [];
-            course = course_one g log (WritesLog first_mark None [] table) (may_write_first g identity log table refl refl refl (_, refl));
+            course = course_one g log (WritesLog first_mark None [] table) (may_write_first g identity log table refl refl (lives_there log.fate refl) refl (_, refl));
             come = adds_begun first_mark None [] table;
             traces = trace_weaker (Spells g) site identity log begun (IsStart site) (IsStart site) (IsTaking false first_mark []) AnyWorld (IsRun Begin plan) Are t m (λ w known. known)
                 (λ es run. inr (p, run_within Begin plan (formats_at spots ++ written_at p spots) es within run)) (λ w known. tt) (fills [] m (slotting.traces g key identity begun table false [] written));
@@ -247,7 +248,7 @@ module _ (g : Geometry) (all : List Database) (key : Key) (identity : Identity) 
             (λ fs is. part_one Told fs is) (traced_answer (Spells g) site identity begun u first_mark table false took enough newest) in
             record {
               es = WritesLog first_mark None [] table ∷ (Written ∷ []);
-              course = course_written g log first_mark None [] table (may_write_first g identity log table refl refl refl (_, refl));
+              course = course_written g log first_mark None [] table (may_write_first g identity log table refl refl (lives_there log.fate refl) refl (_, refl));
               come = adds_written first_mark None [] table;
               traces = trace_weaker (Spells g) site identity log answered (IsStart site) (IsStart site) (IsReadyWith took) (IsReadyWith (spots_of new)) (IsRun Begin (((formats_at spots ++ opening ∷ []) ++ fills_at spots) ++ Told ∷ [])) Are t u (λ w known. known)
                   (λ es run. inr (p, subst (λ (l : List Event). IsRun Begin l es) told_last run)) (λ w known. subst (λ (l : List Spot). IsReadyWith l w) (append-nil (spots_of new)) known) all_told;

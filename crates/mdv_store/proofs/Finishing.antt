@@ -7,7 +7,7 @@ use Rattle.mdv_store.specs.Below.{Failures, Ghosts, Lists, One, Place, Table, Tw
 use Rattle.mdv_store.specs.Commit.{next_mark}
 use Rattle.mdv_store.specs.Opened.{AreSeatsOf, IsOpen, least_room}
 use Rattle.mdv_store.specs.Seats.{AreLeft, TakesSlot, active_of}
-use Rattle.mdv_store.specs.Settled.{seat_now}
+use Rattle.mdv_store.specs.Settled.{first_room, seat_now}
 use Rattle.mdv_store.specs.Settling.{IsDraft, WasSettled, last_seats, opened_of, settled_by}
 use Rattle.mdv_store.specs.Shares.{short_of}
 use Rattle.mdv_store.specs.Writing.{WroteAll, text_size}
@@ -40,12 +40,13 @@ module _ (d : Draft) (next : List Seat) (is : IsDraft (opened_of d) (vec_len d.r
   over_seats = now_seats d.seats d.table is.seats (let count = last_count in let some = is.some in omega (arith, some, count)) (let count = last_count in let few = is.few in omega (arith, few, count))
 
   module _ (failed : ℕ → Failures) (bytes : ℕ) (now : List Seat) (left : AreLeft failed (TakesSlot (next_mark d.mark) bytes) (last_seats d) now) where
-    pub over_open : (room : ℕ) → least_room places ≤ room → 512 * room < 2 ^ 32 → IsOpen (settled_by d now) room
-    over_open room whole short = record {
+    pub over_open : (room : ℕ) → least_room places ≤ room → first_room places ≤ room → 512 * room < 2 ^ 32 → IsOpen (settled_by d now) room
+    over_open room whole first short = record {
       boot = is.boot;
       count = is.count;
       seats = left_seats failed (TakesSlot (next_mark d.mark) bytes) (settled d.table) (settled d.table) (last_seats d) now (slot_stays (next_mark d.mark) bytes) refl left over_seats;
       whole = whole;
+      first = first;
       short = short;
       marks = λ half. left_none_above failed d.mark bytes (last_seats d) now left (λ r has. is.marks r (now_in d.seats places r has));
     }

@@ -1,10 +1,10 @@
 -- The places of a creation are formatted, and its first table is written to their replicas, whatever else lies on the drives.
-use Rattle.std.proofs.Common.{◌≡◌, ℕ, ◌+◌, ◌*◌, ◌≤◌, true, List, length, Contains, inl, inr, sym, ◌∙◌, ap, subst, arith}
+use Rattle.std.proofs.Common.{◌≡◌, ℕ, ◌+◌, ◌*◌, ◌≤◌, true, List, length, Contains, sym, ◌∙◌, ap, subst, arith}
 use Rattle.mdv_replica.specs.declared.forms.Gate.TheVariants.{Closed}
 use Rattle.mdv_replica.specs.declared.forms.Master.{Master}
 use Rattle.mdv_shown.specs.Formats.{master_on}
 use Rattle.mdv_standing.specs.Creating.{first_mark}
-use Rattle.mdv_acts.specs.Acts.{AreDoing, AreDone, acts_asked, blanks_asked, forms_asked}
+use Rattle.mdv_acts.specs.Acts.{AreDoing, AreDone, acts_asked, blanks_asked}
 use Rattle.mdv_store.specs.Below.{Failures, First, Geometry, Identity, IsOwn, Key, Mark, Open, Replica, Second, Site, SliceLine, Slot, Table, Tale, gate_of, is_named, lists_of_spots, record_text, site_of}
 use Rattle.mdv_store.specs.Blank.{StayBlank}
 use Rattle.mdv_acts.specs.Asked.{AreAsked}
@@ -15,16 +15,15 @@ use Rattle.mdv_store.specs.Seats.{AreHeld, AreLeft, AreNamed, AreTheirs, TakesSl
 use Rattle.mdv_store.specs.Slots.{AreAbove, AreBodies, SlottingEnds, SlottingMoment}
 use Rattle.mdv_store.specs.Text.{IsSpelled}
 use Rattle.mdv_store.specs.declared.seats.Seat.{Seat}
-use Rattle.mdv_acts.proofs.Acting.{done_split, doing_split}
 use Rattle.mdv_store.proofs.Blanks.{StayDark, still_blank}
-use Rattle.mdv_store.proofs.Clearing.{all_cleared, all_clearing, dark_known, dark_now, may_put}
+use Rattle.mdv_store.proofs.Doing.{PutsEnded, blanked_put, dark_each, put_end}
 use Rattle.mdv_store.proofs.Given.{ArePairsApart, IsOwner, all_given, slices_apart}
 use Rattle.mdv_store.proofs.Putting.{ArePut, IsGiven, Puts, put_steps}
 use Rattle.mdv_store.proofs.Records.{record_spelled}
 use Rattle.mdv_store.proofs.Seated.{replica_is, room_for_text, spots_once, text_fits}
 use Rattle.mdv_store.proofs.Sitting.{left_replica}
 use Rattle.mdv_store.proofs.Slotting.{slot_theirs}
-use Rattle.mdv_store.proofs.Slices.{Ended, all_formed, all_forming, in_end}
+use Rattle.mdv_store.proofs.Slices.{in_end}
 
 module _ (g : Geometry) (key : Key) (identity : Identity) (lines : List SliceLine) (count blocks : ℕ) (sizes : List ℕ) (t : Tale) (owner : IsOwner key identity) (asked : AreAsked sizes lines count blocks)
     (may : MayForm g key lines (seats_asked key identity lines count blocks)) where
@@ -40,33 +39,22 @@ module _ (g : Geometry) (key : Key) (identity : Identity) (lines : List SliceLin
   abbrev bytes : ℕ
   bytes = length (record_text table)
 
-  pub given : IsGiven g key identity lines count blocks
+  pub given : IsGiven g key identity lines count blocks 1
   given = all_given g key identity lines count blocks sizes owner asked may
 
   pub pairs : ArePairsApart lines
-  pairs = slices_apart g key identity lines count blocks sizes owner asked may lines (λ l has. has) asked.once
+  pairs = slices_apart g key identity lines count blocks sizes owner asked may
 
-  -- the masters are blanked, where there are more than one on a slice
-  blanking_dark : (m : Tale) → AreDoing (blanks_asked lines count blocks) t m → StayDark g key identity t m
-  blanking_dark = all_clearing site lines count blocks asked.more (StayDark g key identity t) (dark_known g key identity lines count blocks given asked.more t) t (dark_now g key identity lines count blocks given asked.more t)
-
-  pub blanked : (u : Tale) → AreDone (blanks_asked lines count blocks) t u → ArePut g key identity lines count blocks t (λ other j. ⊥) (λ other from. Contains lines other × (1 ≤ from)) u
-  blanked u is =
-      may_put g key identity lines count blocks given asked.more t u
-      (all_cleared site lines count blocks asked.more (StayDark g key identity t) (dark_known g key identity lines count blocks given asked.more t) t (dark_now g key identity lines count blocks given asked.more t) u is)
+  pub blanked : (u : Tale) → AreDone (blanks_asked lines count blocks) t u → ArePut g key identity lines count blocks 1 t (λ other j. ⊥) (λ other from. Contains lines other × (1 ≤ from)) u
+  blanked = blanked_put g key identity lines count blocks 1 given asked.more pairs t
 
   pub acts_dark : (m : Tale) → AreDoing (acts_asked key identity 1 lines count blocks) t m → StayDark g key identity t m
-  acts_dark m is = elim (doing_split (blanks_asked lines count blocks) (forms_asked key identity 1 lines count blocks) t m is) [
-    | inl here ↦ blanking_dark m here
-    | inr behind ↦ all_forming key identity lines count blocks (Puts g key identity lines count blocks given t) (StayDark g key identity t) (put_steps g key identity lines count blocks given t) pairs behind.0 (blanked behind.0 behind.1) m behind.2
-  ]
+  acts_dark = dark_each g key identity lines count blocks 1 given asked.more pairs t
 
   -- The first table is written.
   module _ (v : Tale) (is_done : AreDone (acts_asked key identity 1 lines count blocks) t v) where
-    put : Ended key identity lines count blocks (Puts g key identity lines count blocks given t) (StayDark g key identity t) (put_steps g key identity lines count blocks given t) v
-    put =
-        let two = done_split (blanks_asked lines count blocks) (forms_asked key identity 1 lines count blocks) t v is_done in
-        all_formed key identity lines count blocks (Puts g key identity lines count blocks given t) (StayDark g key identity t) (put_steps g key identity lines count blocks given t) pairs two.0 (blanked two.0 two.1) v two.2
+    put : PutsEnded g key identity lines count blocks 1 given asked.more pairs t v
+    put = put_end g key identity lines count blocks 1 given asked.more pairs t v is_done
 
     first_same : (l : SliceLine) → master_on site identity l blocks count 0 ≡ (replica_on key identity l count blocks 0).first
     first_same l =
@@ -77,7 +65,7 @@ module _ (g : Geometry) (key : Key) (identity : Identity) (lines : List SliceLin
     held = record {
       each = λ r has image is.
           let one = replica_is key identity count blocks lines r has in
-          let its = in_end key identity lines count blocks (Puts g key identity lines count blocks given t) (StayDark g key identity t) (put_steps g key identity lines count blocks given t) one.line one.number one.among one.lt in
+          let its = in_end key identity lines count blocks 1 (Puts g key identity lines count blocks 1 given t) (StayDark g key identity t) (put_steps g key identity lines count blocks 1 given t) one.line one.number one.among one.lt in
           subst (λ (x : Replica). IsOwn (Spells g) site identity x.line x.number image x.first x.head) (sym one.is)
           (subst (λ (m : Master). IsOwn (Spells g) site identity one.line one.number image m (replica_on key identity one.line count blocks one.number).head) (first_same one.line) (put.own one.line one.number its image is));
       once = spots_once key identity count blocks asked.least lines pairs asked.within;

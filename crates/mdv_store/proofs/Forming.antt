@@ -18,9 +18,7 @@ use Rattle.mdv_standing.specs.Holding.{IsOneOf}
 use Rattle.mdv_standing.specs.Rest.{RestMayBeTaken, RestStands}
 use Rattle.mdv_standing.specs.Tracing.{IsCreationBegin, IsRun, IsStart, Traces, formats_at}
 use Rattle.mdv_standing.specs.Worlds.{IsNoneOr, IsWorld}
-use Rattle.mdv_standing.proofs.Blanking.{first_taken, later_taken}
 use Rattle.mdv_standing.proofs.Creating.{first_formatted, first_formatting}
-use Rattle.mdv_standing.proofs.Rest.{rest_first, rest_later}
 use Rattle.mdv_standing.proofs.Stretches.{traced_later, traced_later_done}
 use Rattle.mdv_standing.proofs.Tracing.{formats_one, more, part_none_or, part_one, trace_by, trace_weaker}
 use Rattle.mdv_acts.specs.Acts.{IsDoing, IsDone, form_on}
@@ -38,6 +36,7 @@ use Rattle.mdv_store.proofs.Locating.{first_of}
 use Rattle.mdv_store.proofs.Places.{AreNow, AreThose, GoesOn, IsNext, OfPlaces}
 use Rattle.mdv_store.proofs.Putting as put
 use Rattle.mdv_store.proofs.Putting.{ArePut, IsGiven, behind_here, format_here, one_put, put_recast}
+use Rattle.mdv_store.proofs.Resting.{IsResting, first_rest, later_rest}
 
 module _ (g : Geometry) (all : List Database) (key : Key) (identity : Identity) (lines : List SliceLine) (count blocks : ℕ) where
   abbrev site : Site
@@ -71,7 +70,7 @@ module _ (g : Geometry) (all : List Database) (key : Key) (identity : Identity) 
 
   -- where these places were formatted, and the masters behind these numbers are blank
   pub record IsFormedTo (t : Tale) (Done Blank : OfPlaces) (part due : List Spot) (u : Tale) : Type 0 where
-    pub put : ArePut g key identity lines count blocks t Done Blank u
+    pub put : ArePut g key identity lines count blocks 1 t Done Blank u
     pub whole : part ++ due ≡ spots_of seats
     pub made : List Spot
     pub traces : RunsTo (IsCreating named made) t part u
@@ -83,7 +82,7 @@ module _ (g : Geometry) (all : List Database) (key : Key) (identity : Identity) 
   -- said of the same places in other words
   recast : (t : Tale) (Done Blank Other Less : OfPlaces) (part due : List Spot) (u : Tale) → AreThose Done Blank Other Less → IsFormedTo t Done Blank part due u → IsFormedTo t Other Less part due u
   recast t Done Blank Other Less part due u those s = record {
-    put = put_recast g key identity lines count blocks t Done Blank Other Less u those s.put;
+    put = put_recast g key identity lines count blocks 1 t Done Blank Other Less u those s.put;
     whole = s.whole;
     made = s.made;
     traces = s.traces;
@@ -103,7 +102,7 @@ module _ (g : Geometry) (all : List Database) (key : Key) (identity : Identity) 
     rest = s.rest;
   }
 
-  module _ (given : IsGiven g key identity lines count blocks) (one_of : IsOneOf all key identity) where
+  module _ (given : IsGiven g key identity lines count blocks 1) (one_of : IsOneOf all key identity) where
     -- One place is formatted.
     module _ (line : SliceLine) (k : ℕ) where
       abbrev at : PlaceAt
@@ -119,8 +118,7 @@ module _ (g : Geometry) (all : List Database) (key : Key) (identity : Identity) 
       record IsStep (made : List Spot) (u : Tale) : Type 0 where
         going : (m : Tale) → Leaves (MayFormat at master 1) u m → Traces (Spells g) site identity log log (IsCreating named made) (IsNoneOr (Formatted p)) (MayBeFormatted named p made) u m
         done : (m : Tale) → Leaves (Formats at master 1) u m → Traces (Spells g) site identity log log (IsCreating named made) (λ es. es ≡ Formatted p ∷ []) (IsCreating named (p ∷ made)) u m
-        rests : (m : Tale) → Leaves (MayFormat at master 1) u m → RestStands (Spells g) g all identity m
-        takes : (m : Tale) → Leaves (MayFormat at master 1) u m → (other : SliceLine) → RestMayBeTaken (Spells g) g all identity other u → RestMayBeTaken (Spells g) g all identity other m
+        rested : IsResting g all key identity lines count blocks 1 given one_of line k u
 
     -- the first place of a slice, whatever first master it has
     first_step : (line : SliceLine) (made : List Spot) (u : Tale) → IsToFormat site identity u line blocks count 0 lists made → RestStands (Spells g) g all identity u → RestMayBeTaken (Spells g) g all identity line u → IsStep line 0 made u
@@ -131,14 +129,7 @@ module _ (g : Geometry) (all : List Database) (key : Key) (identity : Identity) 
       done = λ m leaves. trace_by (Spells g) site identity (Formats (at line 0) (master line 0) 1) log log (IsCreating named made) (λ es. es ≡ Formatted (p line 0) ∷ []) (IsCreating named (p line 0 ∷ made)) u m leaves
           (λ w old new is world known formats.
           (let before = first_of site old line in first_formatted (Spells g) site identity log w old line blocks count lists made before.0 (formatting w old is world known) before.1 new formats));
-      rests = λ m leaves image is.
-          let from = leaves image is in
-          let before = first_of site from.0 line in
-          rest_first (Spells g) g all from.0 image given.sound key identity (rest from.0 from.1) line one_of (taken from.0 from.1) blocks count 1 before.0 (place.format from.0 from.1) before.1 from.2;
-      takes = λ m leaves other may image is d of_rest.
-          let from = leaves image is in
-          let before = first_of site from.0 line in
-          first_taken (Spells g) g given.sound key identity line from.0 image blocks count 1 before.0 (place.format from.0 from.1) before.1 from.2 other d of_rest.1 (may from.0 from.1 d of_rest);
+      rested = first_rest g all key identity lines count blocks 1 given one_of line u place.format rest taken;
     }
       where
         formatting : (w : Core) (old : Image) → IsImage u old → IsWorld (Spells g) site identity log w old → IsCreating named made w → IsFormatting (Spells g) site identity log w old line blocks count 0 lists made
@@ -150,18 +141,13 @@ module _ (g : Geometry) (all : List Database) (key : Key) (identity : Identity) 
     later_step line k made u place behind rest taken = record {
       going = λ m leaves. traced_later (Spells g) site identity log u m line lists made refl k (first_on line) place behind leaves;
       done = λ m leaves. traced_later_done (Spells g) site identity log u m line lists made refl k (first_on line) place behind leaves;
-      rests = λ m leaves image is.
-          let from = leaves image is in
-          rest_later (Spells g) g all from.0 image given.sound key identity (rest from.0 from.1) line one_of (taken from.0 from.1) k 1 (first_on line) behind.later (place.format from.0 from.1) (behind.has from.0 from.1) from.2;
-      takes = λ m leaves other may image is d of_rest.
-          let from = leaves image is in
-          later_taken (Spells g) g given.sound key identity line from.0 image k 1 (first_on line) behind.later (place.format from.0 from.1) (behind.has from.0 from.1) from.2 other d of_rest.1 (may from.0 from.1 d of_rest);
+      rested = later_rest g all key identity lines count blocks 1 given one_of line k u place.format behind rest taken;
     }
 
     module _ (t : Tale) (Done Blank : OfPlaces) (part due : List Spot) (u : Tale) (line : SliceLine) (k : ℕ) (next : IsNext lines count Done Blank line k) (s : IsFormedTo t Done Blank part (spot_on line blocks k ∷ due) u) where
       to_format : IsToFormat site identity u line blocks count k lists s.made
       to_format = record {
-        format = format_here g key identity lines count blocks given t Done Blank u line k next s.put;
+        format = format_here g key identity lines count blocks 1 given t Done Blank u line k next s.put;
         named = given.names line k next.among next.lt;
         before = λ q is drive from to.
             let o = s.only q is in
@@ -185,7 +171,7 @@ module _ (g : Geometry) (all : List Database) (key : Key) (identity : Identity) 
       step_of (inl none) =
           subst (λ (i : ℕ). IsStep line i s.made u) (sym none)
           (first_step line s.made u (subst (λ (i : ℕ). IsToFormat site identity u line blocks count i lists s.made) none to_format) s.rest (s.taken line next.among))
-      step_of (inr (j, is, done)) = later_step line k s.made u to_format (behind_here g key identity lines count blocks given t Done Blank u line k next s.put j is done) s.rest (s.taken line next.among)
+      step_of (inr (j, is, done)) = later_step line k s.made u to_format (behind_here g key identity lines count blocks 1 given t Done Blank u line k next s.put j is done) s.rest (s.taken line next.among)
 
       abbrev step : IsStep line k s.made u
       step = step_of next.front
@@ -208,7 +194,7 @@ module _ (g : Geometry) (all : List Database) (key : Key) (identity : Identity) 
         whole = whole_now;
         traces = trace_weaker (Spells g) site identity log log (IsStart site) (IsStart site) (MayBeFormatted named (p line k) s.made) AnyWorld (IsRun (IsCreationBegin named) (formats_at (part ++ spot_on line blocks k ∷ []))) (IsRun (IsCreationBegin named) (formats_at (part ++ spot_on line blocks k ∷ []))) t m (λ w is. is) (λ es run. run) (λ w known. tt)
             (runs (MayBeFormatted named (p line k) s.made) (IsNoneOr (Formatted (p line k))) m (λ fs is. part_none_or (Formatted (p line k)) fs is) (step.going m (leaving m formatting)));
-        rest = step.rests m (leaving m formatting);
+        rest = step.rested.rests m (leaving m formatting);
       }
 
       module _ (Next Less : OfPlaces) (now : AreNow Done Blank line k Next Less) where
@@ -217,7 +203,7 @@ module _ (g : Geometry) (all : List Database) (key : Key) (identity : Identity) 
             let leaves = leaving v is.0 in
             let formats = leaves_settled line.at.drive.0 (line.at.start + (16 + k * blocks)) (formatted_blocks (master line k) 1) u v is.0.outside is.1 in
             record {
-              put = one_put g key identity lines count blocks given t Done Blank u line k next s.put Next Less now v is;
+              put = one_put g key identity lines count blocks 1 given t Done Blank u line k next s.put Next Less now v is;
               whole = whole_now;
               made = p line k ∷ s.made;
               traces = runs (IsCreating named (p line k ∷ s.made)) (λ es. es ≡ Formatted (p line k) ∷ []) v (λ fs are. part_one (Formatted (p line k)) fs are) (step.done v formats);
@@ -230,12 +216,12 @@ module _ (g : Geometry) (all : List Database) (key : Key) (identity : Identity) 
                 | inr new ↦ or_left (same_spot (p line k) (spot_on other blocks j)) (is_in s.made (spot_on other blocks j))
                     (subst (λ (l : SliceLine). same_spot (p line k) (spot_on l blocks j) ≡ true) (sym new.0) (subst (λ (i : ℕ). same_spot (p line k) (spot_on line blocks i) ≡ true) (sym new.1) (same_self (p line k))))
               ];
-              rest = step.rests v leaves;
-              taken = λ other among. step.takes v leaves other (s.taken other among);
+              rest = step.rested.rests v leaves;
+              taken = λ other among. step.rested.takes v leaves other (s.taken other among);
             }
 
     -- So it goes on with each place.
-    pub form_steps : (t : Tale) → GoesOn key identity lines count blocks (IsFormedTo t) (IsFormingAt t)
+    pub form_steps : (t : Tale) → GoesOn key identity lines count blocks 1 (IsFormedTo t) (IsFormingAt t)
     form_steps t = record {
       recast = λ Done Blank Other Less part due u those s. recast t Done Blank Other Less part due u those s;
       here = λ Done Blank part due u s. formed_here t Done Blank part due u s;

@@ -11,6 +11,7 @@ pub mod Ending
 pub mod Few
 pub mod Formed
 pub mod Forming
+pub mod Doing
 pub mod Given
 pub mod Shares
 pub mod Halves
@@ -18,6 +19,8 @@ pub mod Holding
 pub mod Leaving
 pub mod Lettering
 pub mod Locating
+pub mod Relisting
+pub mod Resting
 pub mod Losing
 pub mod Making
 pub mod Marks

@@ -17,6 +17,8 @@ use Rattle.mdv_store.specs.Below.{DriveNo, Failures, First, Geometry, Ghosts, He
 use Rattle.mdv_store.specs.Counts.{ArePassCounted, MadeCallsBetween, drives_lost}
 use Rattle.mdv_acts.specs.Asked.{AreAsked, blanked_asked, drives_asked}
 use Rattle.mdv_store.specs.Create.{CreateAnswer, CreateEnds, CreateMoment, IsCreated, IsCreationCounted, MayForm, StayFormed, WereFormed, seats_asked, table_of}
+use Rattle.mdv_store.specs.Listing.{list_room}
+use Rattle.mdv_store.proofs.Rooms.{first_most}
 use Rattle.mdv_store.specs.Opened.{IsOpen, Opened, least_room}
 use Rattle.mdv_store.specs.Seats.{AreLaid, AreLeft, TakesSlot, active_of, drives_of, replicas_of}
 use Rattle.mdv_store.specs.Shares.{short_of}
@@ -88,7 +90,7 @@ module _ {S : Type 0} (shelf : Ghosts S) (key : Key) (identity : Identity) (line
 
   unbegun_moment : (t m : Tale) → AreDoing acts t m → Moment t m
   unbegun_moment t m is = record {
-    quiet = acts_quiet key identity lines count blocks asked.least asked.more t m is;
+    quiet = acts_quiet key identity lines count blocks 1 asked.least asked.more t m is;
     goes = λ g all may. (let x = (acts_unbegun g all key identity lines count blocks (shelf.sizes a) t owner asked may m is).goes in record { es = x.es; course = x.course; come = x.come; traces = x.traces; after = tt });
     rest = λ g all may. (acts_unbegun g all key identity lines count blocks (shelf.sizes a) t owner asked may m is).rest;
     blank = λ g may. (acts_dark g key identity lines count blocks (shelf.sizes a) t owner asked may m is).others;
@@ -96,7 +98,7 @@ module _ {S : Type 0} (shelf : Ghosts S) (key : Key) (identity : Identity) (line
 
   writing_moment : (t v m : Tale) → AreDone acts t v → WritingMoment seats first_mark table v m → Moment t m
   writing_moment t v m done w = record {
-    quiet = quiet_more _ t v m (acts_done_quiet key identity lines count blocks asked.least asked.more t v done) w.slotting.quiet;
+    quiet = quiet_more _ t v m (acts_done_quiet key identity lines count blocks 1 asked.least asked.more t v done) w.slotting.quiet;
     goes = λ g all may. writing_goes g all key identity lines count blocks (shelf.sizes a) t owner asked may v done w.body w.spelled m w.slotting;
     rest = λ g all may. writing_rest g all key identity lines count blocks (shelf.sizes a) t owner asked may v done w.body w.spelled m w.slotting;
     blank = λ g may. writing_dark g key identity lines count blocks (shelf.sizes a) t owner asked may v done w.body w.spelled m w.slotting;
@@ -282,15 +284,17 @@ module _ {S : Type 0} (shelf : Ghosts S) (key : Key) (identity : Identity) (line
         ends_more (AreDone acts) (WritingEnds seats new first_mark table) (Ended (Err (unmade.Lost some listed))) (shelf.tale a) (shelf.tale b) (shelf.tale c) (λ t v u done w. record { ended = λ g all may. tt; opened = tt; unmade = λ same. absurd (cc (same)) }) s.end end
 
     -- so it is open
-    pub made_open : (room : ℕ) → room ≡ least_room (map (λ (x : Seat). x.place) seats) → IsOpen made room
+    pub made_open : (room : ℕ) → room ≡ list_room (table_of seats).plan.lists → IsOpen made room
     made_open room is =
         let most = room_most (map (λ (x : Seat). x.place) seats) in
+        let first_long = first_most (map (λ (x : Seat). x.place) seats) in
         record {
           boot = omega arith;
           count = omega arith;
           seats = left_seats (DriveFailures shelf b c) (TakesSlot first_mark bytes) table table seats new (slot_stays first_mark bytes) refl left (seats_of_table key identity count blocks lines (shelf.sizes a) asked);
           whole = omega (arith, is);
-          short = omega (arith, is, most);
+          first = omega (arith, is);
+          short = omega (arith, is, most, first_long);
           marks = λ half r has other m n gate below.
               let was = left_replica (DriveFailures shelf b c) (TakesSlot first_mark bytes) seats new r left has in
               let took = was.2 in

@@ -1,4 +1,4 @@
--- Places that are formatted one behind another: which were, which one comes next, and a state that goes on with each.
+-- Places that are formatted one behind another: which were, which one comes next, and a state that goes on with each, under whatever claim.
 use Rattle.std.proofs.Common.{◌≡◌, ◌⊎◌, ℕ, ◌+◌, ◌<◌, List, [], ◌∷◌, ◌++◌, Contains}
 use Rattle.mdv_shelf.specs.Area.{AreApart}
 use Rattle.mdv_shown.specs.Site.{line_area}
@@ -31,10 +31,10 @@ pub record AreThose (Done Blank Other Less : OfPlaces) : Type 0 where
   pub less : (line : SliceLine) (from : ℕ) → Less line from → Blank line from
 
 -- A state of the places that were formatted and of those that are due goes on with the next one; and at each moment something is known.
-pub record GoesOn (key : Key) (identity : Identity) (lines : List SliceLine) (count blocks : ℕ) (State : OfPlaces → OfPlaces → List Spot → List Spot → Tale → Type 0) (At : Tale → Type 0) : Type 1 where
+pub record GoesOn (key : Key) (identity : Identity) (lines : List SliceLine) (count blocks claim : ℕ) (State : OfPlaces → OfPlaces → List Spot → List Spot → Tale → Type 0) (At : Tale → Type 0) : Type 1 where
   pub recast : (Done Blank Other Less : OfPlaces) (part due : List Spot) (u : Tale) → AreThose Done Blank Other Less → State Done Blank part due u → State Other Less part due u
   pub here : (Done Blank : OfPlaces) (part due : List Spot) (u : Tale) → State Done Blank part due u → At u
   pub forming : (Done Blank : OfPlaces) (part due : List Spot) (u : Tale) (line : SliceLine) (k : ℕ) → IsNext lines count Done Blank line k → State Done Blank part (spot_on line blocks k ∷ due) u
-      → (m : Tale) → IsDoing (form_on key identity 1 line count blocks k) u m → At m
+      → (m : Tale) → IsDoing (form_on key identity claim line count blocks k) u m → At m
   pub formed : (Done Blank Next Less : OfPlaces) (part due : List Spot) (u : Tale) (line : SliceLine) (k : ℕ) → IsNext lines count Done Blank line k → AreNow Done Blank line k Next Less
-      → State Done Blank part (spot_on line blocks k ∷ due) u → (v : Tale) → IsDone (form_on key identity 1 line count blocks k) u v → State Next Less (part ++ spot_on line blocks k ∷ []) due v
+      → State Done Blank part (spot_on line blocks k ∷ due) u → (v : Tale) → IsDone (form_on key identity claim line count blocks k) u v → State Next Less (part ++ spot_on line blocks k ∷ []) due v

@@ -3,6 +3,7 @@ use Rattle.std.proofs.Common.{◌≡◌, ◌⊎◌, inl, inr, ◌<◌, ◌≤◌
 use Rattle.std.proofs.Math.Nat.{mul-le-mul_left}
 use Rattle.mdv_base.specs.Causes.{RoseOnce}
 use Rattle.mdv_record.proofs.Rooms.{room_most}
+use Rattle.mdv_store.proofs.Rooms.{first_most}
 use Rattle.mdv_shelf.proofs.Between.{between_then, between_wider}
 use Rattle.mdv_shelf.proofs.Counts.{took_more}
 use Rattle.mdv_shelf.proofs.Moments.{ends_both, ends_more, moments_after, moments_end, moments_weaker}
@@ -15,7 +16,7 @@ use Rattle.mdv_store_law.specs.Anew.{HasNoneAgain}
 use Rattle.mdv_standing.specs.Adopting.{drawn}
 use Rattle.mdv_standing.specs.Others.{Anything}
 use Rattle.mdv_standing.specs.Tracing.{GoesTraced}
-use Rattle.mdv_store.specs.Below.{CoversWith, DriveNo, Failures, Geometry, Ghosts, IsReadyWith, IsSynced, Key, Log, One, Place, Replica, Table, Tale, Two, places_of, record_text, settled, site_of}
+use Rattle.mdv_store.specs.Below.{CoversWith, DriveNo, Failures, Geometry, Ghosts, IsReadyWith, IsSynced, Key, Log, One, Place, Replica, Table, Tale, Two, last_of, places_of, record_text, settled, site_of}
 use Rattle.mdv_store.specs.Boot.{IfAdopted, TakesBoth, TakesClaimOrBoth, need_of}
 use Rattle.mdv_store.specs.BootCounts.{blocks_at, calls_at, most_blocks, most_calls}
 use Rattle.mdv_store.specs.Claims.{ClaimingEnds, ClaimingMoment}
@@ -25,7 +26,7 @@ use Rattle.mdv_store.specs.Opened.{IsOpenedAt, Opened}
 use Rattle.mdv_store.specs.Records.{Spells}
 use Rattle.mdv_store.specs.Passing.{IsPassing, Passed, WentBy, WentOver, claiming, slotting}
 use Rattle.mdv_store.specs.Seats.{AreLaid, AreLeft, HaveRoom, IsLaid, TakesClaim, TakesSlot, active_of, drive_of, drives_of, replicas_of, seats_area, spots_of}
-use Rattle.mdv_store.specs.Settled.{again_of, first_room, seats_now}
+use Rattle.mdv_store.specs.Settled.{again_of, seats_now}
 use Rattle.mdv_store.specs.Slots.{SlottingEnds, SlottingMoment}
 use Rattle.mdv_store.specs.Taking.{GoneShow, IsCalmOver, IsReadied, IsRewriteAnswer, IsRewriteEnd, IsTakingCounted, IsToAdopt, RewriteEnds, RewriteMoment, StaySynced, WereClaimed, WerePassed, WereSettled, WereSlotted, room_of, second_mark}
 use Rattle.mdv_store.specs.Text.{IsSpelled, blocks_for}
@@ -416,15 +417,8 @@ module _ (hand : Hand) (table : Table) (ready : IsReadied hand table) where
       let short = ready.short some.0 some.1 in
       omega (arith, fits, short)
 
-  -- nor is the first slot of the new list longer
-  first_most : first_room (again_of table.plan.lists) ≤ 4094
-  first_most = by (again_of table.plan.lists) where
-    by : (places : List Place) → first_room places ≤ 4094
-    by [] = omega arith
-    by (p ∷ places) = omega arith
-
   pub room_short : (room : ℕ) → room ≡ room_of table → 512 * room < 2 ^ 32
-  room_short room is = omega (arith, is, text_most, room_most (places_of table.plan.lists), first_most)
+  room_short room is = omega (arith, is, text_most, room_most (places_of table.plan.lists), first_most (last_of table.plan.lists))
 
   module _ (failed : ℕ → Failures) (now : List Seat) (left : AreLeft failed (TakesClaim hand.number) hand.seats now) where
     pub claimed_laid : (sizes next : List ℕ) → next ≡ sizes → AreLaid sizes hand.seats → AreLaid next now

@@ -1,8 +1,10 @@
 -- The smallest slot of some places, and of the places of some seats.
-use Rattle.std.proofs.Common.{◌≤◌, ◌*◌, ℕ, List, [], ◌∷◌, Contains, map, ap, arith, inl, inr}
+use Rattle.std.proofs.Common.{◌≤◌, ◌*◌, ℕ, List, [], ◌∷◌, Contains, length, map, ap, arith, inl, inr}
+use Rattle.mdv_record.proofs.Rooms.{room_most}
 use Rattle.mdv_store.specs.Below.{Place, Table, places_of, slot_blocks}
 use Rattle.mdv_store.specs.Opened.{AreSeatsOf, least_room}
 use Rattle.mdv_store.specs.Seats.{HaveRoom}
+use Rattle.mdv_store.specs.Settled.{first_room}
 use Rattle.mdv_store.specs.Text.{blocks_for}
 use Rattle.mdv_store.specs.declared.seats.Seat.{Seat}
 use Rattle.mdv_store.proofs.Sitting.{first_or_behind, seat_of}
@@ -26,3 +28,13 @@ have_room table seats bytes are some fits r has =
     let least = room_least seats seat.0 seat.1 in
     let room = ap least_room are.places in
     omega arith
+
+-- the first slot is no longer than that of the longest place
+pub first_most : (places : List Place) → first_room places ≤ 4094
+first_most [] = omega arith
+first_most (p ∷ places) = omega arith
+
+-- nor is the smallest one longer than the first
+pub first_least : (places : List Place) → 1 ≤ length places → least_room places ≤ first_room places
+first_least [] some = absurd (omega (arith, some))
+first_least (p ∷ places) some = omega (arith, room_most places)

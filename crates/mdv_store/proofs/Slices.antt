@@ -17,7 +17,7 @@ use Rattle.mdv_store.proofs.Spotting.{spots_more}
 flip : (a b : SliceLine) → AreApart (line_area a) (line_area b) → AreApart (line_area b) (line_area a)
 flip a b apart drive block in_b in_a = apart drive block in_a in_b
 
-module _ (key : Key) (identity : Identity) (lines : List SliceLine) (count blocks : ℕ) (State : OfPlaces → OfPlaces → List Spot → List Spot → Tale → Type 0) (At : Tale → Type 0) (steps : GoesOn key identity lines count blocks State At) where
+module _ (key : Key) (identity : Identity) (lines : List SliceLine) (count blocks claim : ℕ) (State : OfPlaces → OfPlaces → List Spot → List Spot → Tale → Type 0) (At : Tale → Type 0) (steps : GoesOn key identity lines count blocks claim State At) where
   -- One slice.
   module _ (Done Blank : OfPlaces) (line : SliceLine) (one_of : Contains lines line) (apart_done : (other : SliceLine) (j : ℕ) → Done other j → AreApart (line_area line) (line_area other))
       (apart_blank : (other : SliceLine) (from : ℕ) → Blank other from → AreApart (line_area line) (line_area other)) where
@@ -52,7 +52,7 @@ module _ (key : Key) (identity : Identity) (lines : List SliceLine) (count block
 
     -- its places from this number on
     slice_from : (n k : ℕ) (part due : List Spot) (u : Tale) → k + n ≡ count → State (DoneTo k) (BlankTo k) part (Spots k n ++ due) u
-        → ((m : Tale) → AreDoing (forms_from key identity 1 line count blocks k n) u m → At m) × ((v : Tale) → AreDone (forms_from key identity 1 line count blocks k n) u v → State (DoneTo count) (BlankTo count) (part ++ Spots k n) due v)
+        → ((m : Tale) → AreDoing (forms_from key identity claim line count blocks k n) u m → At m) × ((v : Tale) → AreDone (forms_from key identity claim line count blocks k n) u v → State (DoneTo count) (BlankTo count) (part ++ Spots k n) due v)
     slice_from zero k part due u whole s =
         let last : k ≡ count = omega (arith, whole) in (
           λ m is. subst At (sym is) (steps.here (DoneTo k) (BlankTo k) part due u s),
@@ -66,7 +66,7 @@ module _ (key : Key) (identity : Identity) (lines : List SliceLine) (count block
         let comes : IsNext lines count (DoneTo k) (BlankTo k) line k = record { among = one_of; lt = lt; beside = beside k; blank = inr (refl, omega arith); front = front k } in
         let now : AreNow (DoneTo k) (BlankTo k) line k (DoneTo (k + 1)) (BlankTo (k + 1)) = record { back = back k; to = to k; new = inr (refl, omega arith); less = less k } in
         let one = steps.forming (DoneTo k) (BlankTo k) part rest u line k comes s in
-        let formed = λ (w : Tale) (done : IsDone (form_on key identity 1 line count blocks k) u w).
+        let formed = λ (w : Tale) (done : IsDone (form_on key identity claim line count blocks k) u w).
         slice_from n (k + 1) (part ++ spot_on line blocks k ∷ []) due w next (steps.formed (DoneTo k) (BlankTo k) (DoneTo (k + 1)) (BlankTo (k + 1)) part rest u line k comes now s w done) in (
           λ m is. elim is [
             | inl same ↦ subst At (sym same) (steps.here (DoneTo k) (BlankTo k) part (spot_on line blocks k ∷ rest) u s)
@@ -101,7 +101,7 @@ module _ (key : Key) (identity : Identity) (lines : List SliceLine) (count block
   SpotsOf rest = spots_of (seats_asked key identity rest count blocks)
 
   abbrev ActsOf : List SliceLine → List Act
-  ActsOf rest = flat_map (forms_on key identity 1 count blocks) rest
+  ActsOf rest = flat_map (forms_on key identity claim count blocks) rest
 
   slices : (rest : List SliceLine) (Done : OfPlaces) (part : List Spot) (u : Tale) → ((line : SliceLine) → Contains rest line → Contains lines line) → ArePairsApart rest
       → ((line other : SliceLine) (j : ℕ) → Contains rest line → Done other j → AreApart (line_area line) (line_area other)) → State Done (BlankOf rest) part (SpotsOf rest) u
@@ -131,7 +131,7 @@ module _ (key : Key) (identity : Identity) (lines : List SliceLine) (count block
       (subst (λ (d : List Spot). State Done (BlankOf (line ∷ rest)) part d u) split s) in
       let one = slice_from Done (BlankOf rest) line has apart_done apart_blank count 0 part (SpotsOf rest) u (omega arith) start in
       let Next : OfPlaces = λ other j. Done other j ⊎ ((other ≡ line) × (j < count)) in
-      let more = λ (w : Tale) (done : AreDone (forms_on key identity 1 count blocks line) u w).
+      let more = λ (w : Tale) (done : AreDone (forms_on key identity claim count blocks line) u w).
       slices rest Next (part ++ on) w (λ l among. within l (contains_behind line l rest among)) pairs.1
       (λ l other j among is. elim is [
         | inl before ↦ apart l other j (contains_behind line l rest among) before
@@ -139,12 +139,12 @@ module _ (key : Key) (identity : Identity) (lines : List SliceLine) (count block
       ])
       (steps.recast (DoneTo Done (BlankOf rest) line has apart_done apart_blank count) (BlankTo Done (BlankOf rest) line has apart_done apart_blank count) Next (BlankOf rest) (part ++ on) (SpotsOf rest) w
       (record { to = λ other j is. is; back = λ other j is. is; less = λ other from blank. inl blank }) (one.1 w done)) in (
-        λ m is. elim (doing_split (forms_on key identity 1 count blocks line) (ActsOf rest) u m is) [
+        λ m is. elim (doing_split (forms_on key identity claim count blocks line) (ActsOf rest) u m is) [
           | inl here ↦ one.0 m here
           | inr behind ↦ (more behind.0 behind.1).0 m behind.2
         ],
         λ v is.
-            let two = done_split (forms_on key identity 1 count blocks line) (ActsOf rest) u v is in
+            let two = done_split (forms_on key identity claim count blocks line) (ActsOf rest) u v is in
             subst (λ (l : List Spot). State (done_after Next rest) (λ other from. ⊥) l [] v) (append_assoc part on (SpotsOf rest) ∙ ap (λ (l : List Spot). part ++ l) (sym split)) ((more two.0 two.1).1 v two.2),
       )
 

@@ -41,6 +41,7 @@ pub use Rattle.mdv_standing.specs.Standing.{Covers, CoversWith}
 pub use Rattle.mdv_standing.specs.Tracing.{IsBootRun, IsCommitRun, IsVersionWith, Traces, TracesFrom, claims_at, fills_at}
 pub use Rattle.mdv_standing.specs.Turning.{IsNewest, IsOpen}
 pub use Rattle.mdv_standing.specs.Worlds.{IsReadyWith, IsTaking, MayBeClaimed}
+pub use Rattle.mdv_store_law.specs.Changes.{Change}
 pub use Rattle.mdv_store_law.specs.Log.{IsMade, Log, Version, asks_of}
 pub use Rattle.mdv_store_law.specs.Part.{IsPart}
 pub use Rattle.mdv_survey.specs.Newest.{HasNoneAbove}
@@ -48,7 +49,6 @@ pub use Rattle.mdv_survey.specs.Replica.{at_of}
 pub use Rattle.mdv_survey.specs.declared.replica.Replica.{Replica}
 pub use Rattle.mdv_table.specs.Plan.{last_of, places_of, settled}
 pub use Rattle.mdv_table.specs.Table.{IsOfGeometry}
-pub use Rattle.mdv_table.specs.declared.change.Change.{Change}
 pub use Rattle.mdv_table.specs.declared.plan.Lists.{Lists}
 pub use Rattle.mdv_table.specs.declared.plan.Lists.TheVariants.{One, Two}
 pub use Rattle.mdv_table.specs.declared.table.Table.{Table}

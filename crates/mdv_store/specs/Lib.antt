@@ -11,6 +11,7 @@ pub mod Slots
 pub mod Writing
 pub mod Opened
 pub mod Commit
+pub mod Listing
 pub mod Counts
 pub mod Boot
 pub mod Letters

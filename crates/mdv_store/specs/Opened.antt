@@ -1,8 +1,9 @@
 -- An open database, and what the drives have of it.
 use Rattle.std.specs.Prelude.{◌≡◌, ◌<◌, ◌≤◌, ◌*◌, ◌^◌, ℕ, List, length, map, Contains, Option, None, Some}
 pub use Rattle.mdv_record.specs.Room.{least_room}
-use Rattle.mdv_store.specs.Below.{Geometry, HasNoneAbove, Identity, IsOfGeometry, IsSound, Key, Mark, Replica, Table, Tale, at_of, places_of, site_of}
+use Rattle.mdv_store.specs.Below.{Geometry, HasNoneAbove, Identity, IsOfGeometry, IsSound, Key, Mark, Replica, Table, Tale, at_of, last_of, places_of, site_of}
 use Rattle.mdv_store.specs.Seats.{AreHeld, AreNamed, AreShown, replicas_of}
+use Rattle.mdv_store.specs.Settled.{first_room}
 use Rattle.mdv_store.specs.Shares.{short_of}
 use Rattle.mdv_store.specs.declared.seats.Need.TheVariants.{Half}
 use Rattle.mdv_store.specs.declared.seats.Seat.{Seat}
@@ -27,13 +28,14 @@ pub record AreSeatsOf (table : Table) (seats : List Seat) : Type 0 where
   pub few : length seats ≤ 100
   pub at : (s : Seat) (r : Replica) → Contains seats s → s.replica ≡ Some r → (at_of r).place ≡ s.place
 
--- The numbers of an open database are in their limits, it has room for the longest text that its smallest slot takes, and as long as half of each of its
+-- The numbers of an open database are in their limits, it has room for the longest text that its smallest slot takes, also once its first place is the only one, and as long as half of each of its
 -- lists is active no active place has a greater mark.
 pub record IsOpen (o : Opened) (room : ℕ) : Type 0 where
   pub boot : o.mark.boot < 2 ^ 63
   pub count : o.mark.count < 2 ^ 63
   pub seats : AreSeatsOf o.table o.seats
   pub whole : least_room (places_of o.table.plan.lists) ≤ room
+  pub first : first_room (last_of o.table.plan.lists) ≤ room
   pub short : 512 * room < 2 ^ 32
   pub marks : shortage o ≡ None → (r : Replica) → Contains (replicas_of o.seats) r → HasNoneAbove o.mark r.head
 

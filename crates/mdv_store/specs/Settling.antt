@@ -4,7 +4,7 @@ use Rattle.mdv_store.specs.Below.{Ghosts, HasNoneAbove, One, Replica, last_of, s
 use Rattle.mdv_store.specs.Commit.{next_mark}
 use Rattle.mdv_store.specs.Opened.{AreSeatsOf, Opened, least_room}
 use Rattle.mdv_store.specs.Seats.{HaveRoom, active_of, replicas_of}
-use Rattle.mdv_store.specs.Settled.{seats_now}
+use Rattle.mdv_store.specs.Settled.{first_room, seats_now}
 use Rattle.mdv_store.specs.Shares.{short_of}
 use Rattle.mdv_store.specs.Text.{blocks_for}
 use Rattle.mdv_store.specs.Writing.{WroteAll, text_size}
@@ -35,6 +35,7 @@ pub record IsDraft (o : Opened) (room : ℕ) (next : List Seat) : Type 0 where
   pub in_seats : HaveRoom (blocks_for (text_size (settled o.table))) o.seats
   pub in_room : blocks_for (text_size (settled o.table)) ≤ room
   pub whole : least_room (last_of o.table.plan.lists) ≤ room
+  pub first : first_room (last_of o.table.plan.lists) ≤ room
   pub short : 512 * room < 2 ^ 32
 
 -- what is open then

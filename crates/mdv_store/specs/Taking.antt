@@ -42,7 +42,7 @@ AreNumbered replicas = (r : Replica) → Contains replicas r → greatest r.head
 
 -- how many blocks of room its writing takes, and that of the tables that come
 abbrev pub room_of : Table → ℕ
-room_of table = max (max (least_room (places_of table.plan.lists)) (first_room (again_of table.plan.lists))) (blocks_for (length (record_text table)))
+room_of table = max (max (least_room (places_of table.plan.lists)) (first_room (last_of table.plan.lists))) (blocks_for (length (record_text table)))
 
 -- What an adoption of the newest table has in hand.
 pub record IsHandOf (replicas : List Replica) (newest : Newest) (hand : Hand) : Type 0 where

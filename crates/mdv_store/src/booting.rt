@@ -231,7 +231,7 @@ fn in_hand(alloc: Global, replicas: &[Replica], newest: &Newest) -> Result<Hand,
     let places = lists.each();
     let again = again_of(lists);
     let text = blocks_for(text_bytes(&newest.table) as u32);
-    let most = least_room(lists).max(first_room(again)).max(text);
+    let most = least_room(lists).max(first_room(lists.last())).max(text);
     Ok(Hand {
         identity,
         number: greatest_number(replicas, identity) + 1,

@@ -7,14 +7,13 @@ ghost use Rattle.mdv_replica.specs.Forms.{name_of_key};
 ghost use Rattle.mdv_acts.specs.Asked.{AreAsked, drives_asked};
 ghost use Rattle.mdv_store.specs.Create.{CreateEnds, CreateMoment, IsCreated, IsCreationCounted, replica_on as spec_replica_on, seats_asked as spec_seats_asked, seats_on, table_of};
 
+use crate::listing::room_of;
 use crate::seats::{Need, Seat, Share, short};
 use crate::store::Store;
-use crate::text::room_for;
 use crate::writing::write_all;
 use mdv_acts::{Owner, clear_all, format_all};
 use mdv_base::{Failed, Identity, Key, Mark, Place, Places};
 use mdv_name::SliceLine;
-use mdv_record::least_room;
 use mdv_replica::{Gate, Head, Master};
 use mdv_shelf::Shelf;
 use mdv_survey::Replica;
@@ -76,7 +75,7 @@ pub fn create<S: Shelf>(
     check_owner(key, identity);
     let mut seats = seats_asked(alloc, key, identity, lines, count, blocks)?;
     let table = table_asked(alloc, seats.as_slice());
-    let mut room = room_for(alloc, least_room(&table.plan.lists))?;
+    let mut room = room_of(alloc, &table.plan.lists)?;
     clear_all(shelf, lines, count, blocks)?;
     let owner = Owner {
         key: *key,
@@ -129,8 +128,8 @@ fn name_bytes(key: &Key) -> &[u8]
     }
 }
 
-// The places that are asked for, each with its replica as it will be formatted.
-fn seats_asked(
+/// The places that are asked for, each with its replica as a creation formats it.
+pub fn seats_asked(
     alloc: Global,
     key: &Key,
     identity: Identity,

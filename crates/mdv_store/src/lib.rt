@@ -6,6 +6,7 @@ mod booting;
 mod creating;
 mod law;
 mod letters;
+mod listing;
 mod seats;
 mod settling;
 mod store;
@@ -13,8 +14,9 @@ mod text;
 mod writing;
 
 pub use booting::{BootEnd, Booted, boot};
-pub use creating::{CreateFault, create};
+pub use creating::{CreateFault, create, seats_asked};
 pub use law::seats_tell;
 pub use letters::{Lettered, Letters};
+pub use listing::room_of;
 pub use seats::{Need, Seat, Share};
 pub use store::{CommitFault, Store};

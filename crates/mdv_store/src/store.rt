@@ -131,7 +131,7 @@ impl Store {
     }
 
     // The share of the first list of which fewer than half is active.
-    fn shortage(&self) -> Option<Share>
+    pub(crate) fn shortage(&self) -> Option<Share>
         ensures { result ≡ spec_shortage self.now }
     {
         short(self.seats.as_slice(), &self.table.plan.lists, Need::Half)
@@ -150,7 +150,7 @@ impl Store {
     }
 }
 
-fn lost(share: Share) -> CommitFault
+pub(crate) fn lost(share: Share) -> CommitFault
     ensures { result ≡ CommitFault.Lost share.active share.listed }
 {
     CommitFault::Lost {

@@ -6,7 +6,7 @@ use Rattle.mdv_votes.specs.Family.{raised, since_after}
 use Rattle.mdv_votes.specs.declared.version.Since.{Since}
 use Rattle.mdv_votes.specs.declared.version.Since.TheVariants.{Never, Listed, Dropped}
 use Rattle.mdv_store_law.specs.Below.{Place, last_of}
-use Rattle.mdv_store_law.specs.Log.{Again, AreNumbered, IsPlaceable, Version, answered, begins_in, placed_again, since_of}
+use Rattle.mdv_store_law.specs.Log.{Again, AreNumbered, IsPlaceable, Log, Version, answered, begins_in, placed_again, since_of}
 
 -- once a table is firm, a place that is dropped was before, or is dropped by it
 pub dropped_after : (i k : ℕ) (listed : Bool) (s : Since) → since_after i listed s ≡ Dropped k → (s ≡ Dropped k) ⊎ ((s ≡ Listed) × (listed ≡ false) × (k ≡ i))
@@ -37,9 +37,15 @@ raised_known n Listed some known = some
 raised_known n (Dropped i) some known = (let lt = known i refl in omega (arith, lt))
 
 -- so its number is that of one, or 0
-pub placed_numbered : (family : List Version) (places : List Place) (again : List Again) → IsPlaceable family places → AreNumbered family again → AreNumbered family (placed_again family places ++ again)
-placed_numbered family places again may are = by places
+pub placed_numbered : (log : Log) (places : List Place) → IsPlaceable log places → AreNumbered log.family log.again → AreNumbered log.family (placed_again log.family places ++ log.again)
+placed_numbered log places may are = by places
   where
+    family : List Version
+    family = log.family
+
+    again : List Again
+    again = log.again
+
     some : 0 < length family
     some = (let long : length family ≡ length (may.newest ∷ may.older) = ap length may.is in omega (arith, long))
 

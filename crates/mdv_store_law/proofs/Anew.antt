@@ -3,19 +3,25 @@ use Rattle.std.proofs.Common.{◌≡◌, inl, inr, List, [], ◌∷◌, ◌++◌
 use Rattle.std.proofs.lemmas.List.Elements.{All-cons, All-head, All-nil, All-same, All-tail}
 use Rattle.mdv_store_law.specs.Anew.{HasNoneAgain, IsAnew, IsFresh}
 use Rattle.mdv_votes.specs.Family.{raised}
-use Rattle.mdv_store_law.specs.Below.{Never, Change, Geometry, Identity, Mark, One, Place, Table, last_of}
-use Rattle.mdv_store_law.specs.Log.{Again, Clearing, Event, Gone, IsCourse, IsFirst, IsIssue, IsMade, IsNext, Issued, Log, MayHappen, Placing, Told, Version, Writing, Written, answered, empty_log, log_after, log_after_all, placed_again, since_of, with_asked}
+use Rattle.mdv_store_law.specs.Below.{Never, Geometry, Identity, Lists, One, Place, PlanChange, Table, last_of}
+use Rattle.mdv_store_law.specs.Changes.{AddPlaces, Change, DropPlaces, FirstPlace, IsMadeBy, OfPlan}
+use Rattle.mdv_store_law.specs.Log.{Again, Clearing, Event, Gone, IsAskable, IsCourse, IsIssue, IsMade, Issued, Log, MayHappen, Placing, Told, Version, PlacesStay, Writing, Written, answered, empty_log, log_after, log_after_all, placed_again, since_of}
 use Rattle.mdv_store_law.specs.Machine.{AreAll}
 use Rattle.mdv_store_law.proofs.Families.{contains_behind, contains_cases, contains_first}
 use Rattle.mdv_table.specs.declared.change.Change.TheVariants.{MakeStripe}
-use Rattle.mdv_table.specs.declared.plan.Lists.{Lists}
 use Rattle.mdv_table.specs.declared.plan.Plan.{Plan}
 
--- a change makes volumes, and moves no place of one list
-pub made_lists : (g : Geometry) (asked : Option Change) (old next : Table) (places : List Place) → IsMade g asked old next → old.plan.lists ≡ One places → next.plan.lists ≡ One places
-made_lists g None old next places (inl same) one = ap (λ (t : Table). t.plan.lists) same ∙ one
-made_lists g None old next places (inr over) one = ap (λ (t : Table). t.plan.lists) over ∙ ap (λ (l : Lists). One (last_of l)) one
-made_lists g (Some (MakeStripe volume slice)) old next places made one = ap (λ (p : Plan). p.lists) made.0.1 ∙ one
+-- a change of volumes moves no place of one list
+pub plan_lists : (g : Geometry) (change : PlanChange) (old next : Table) → IsMadeBy g (OfPlan change) old next → next.plan.lists ≡ old.plan.lists
+plan_lists g (MakeStripe volume slice) old next made = ap (λ (p : Plan). p.lists) made.0.1
+
+pub made_lists : (g : Geometry) (asked : Option Change) (old next : Table) (places : List Place) → IsAskable PlacesStay asked → IsMade g asked old next → old.plan.lists ≡ One places → next.plan.lists ≡ One places
+made_lists g None old next places keeps (inl same) one = ap (λ (t : Table). t.plan.lists) same ∙ one
+made_lists g None old next places keeps (inr over) one = ap (λ (t : Table). t.plan.lists) over ∙ ap (λ (l : Lists). One (last_of l)) one
+made_lists g (Some (OfPlan change)) old next places keeps made one = plan_lists g change old next made ∙ one
+made_lists g (Some (AddPlaces slices count blocks)) old next places keeps made one = absurd keeps
+made_lists g (Some (DropPlaces slices)) old next places keeps made one = absurd keeps
+made_lists g (Some FirstPlace) old next places keeps made one = absurd keeps
 
 none_has : (v : Version) → Contains [] v → ⊥
 none_has v has = absurd (omega (arith, has.1))
@@ -28,9 +34,9 @@ answered_one (newest ∷ older) places each v has = elim (contains_cases (record
   | inr behind ↦ each v (contains_behind newest v older behind)
 ]
 
-pub anew_after : (g : Geometry) (Which : Identity → Type 0) (log : Log) (e : Event) → IsAnew log → MayHappen g log e → IsIssue Which e → IsAnew (log_after log e)
-anew_after g Which log (Issued identity) anew may is = record { none = refl; lives = refl; places = []; each = λ v has. absurd (none_has v has) }
-anew_after g Which log (Writing mark asked before table) anew (above, inl first) is = record {
+pub anew_after : (g : Geometry) (log : Log) (e : Event) → IsAnew log → MayHappen g log e → IsIssue PlacesStay e → IsAnew (log_after log e)
+anew_after g log (Issued identity) anew may is = record { none = refl; lives = refl; places = []; each = λ v has. absurd (none_has v has) }
+anew_after g log (Writing mark asked before table) anew (above, inl first) is = record {
   none = anew.none;
   lives = refl;
   places = first.one.0;
@@ -39,24 +45,24 @@ anew_after g Which log (Writing mark asked before table) anew (above, inl first)
     | inr behind ↦ absurd (none_has v (subst (λ (f : List Version). Contains f v) first.none behind))
   ];
 }
-anew_after g Which log (Writing mark asked before table) anew (above, inr next) is = record {
+anew_after g log (Writing mark asked before table) anew (above, inr next) is = record {
   none = anew.none;
   lives = refl;
   places = anew.places;
   each = λ v has. elim (contains_cases _ v log.family has) [
-    | inl here ↦ ap (λ (x : Version). x.table.plan.lists) (sym here) ∙ made_lists g asked next.parent.table table anew.places next.made (anew.each next.parent next.one_of)
+    | inl here ↦ ap (λ (x : Version). x.table.plan.lists) (sym here) ∙ made_lists g asked next.parent.table table anew.places is next.made (anew.each next.parent next.one_of)
     | inr behind ↦ anew.each v behind
   ];
 }
-anew_after g Which log Written anew may is = record { none = anew.none; lives = anew.lives; places = anew.places; each = answered_one log.family anew.places anew.each }
-anew_after g Which log (Told which before) anew may is = record { none = anew.none; lives = anew.lives; places = anew.places; each = anew.each }
-anew_after g Which log (Placing places) anew may is = absurd is
-anew_after g Which log Clearing anew may is = absurd is
-anew_after g Which log Gone anew may is = absurd is
+anew_after g log Written anew may is = record { none = anew.none; lives = anew.lives; places = anew.places; each = answered_one log.family anew.places anew.each }
+anew_after g log (Told which before) anew may is = record { none = anew.none; lives = anew.lives; places = anew.places; each = anew.each }
+anew_after g log (Placing places) anew may is = absurd is
+anew_after g log Clearing anew may is = absurd is
+anew_after g log Gone anew may is = absurd is
 
-pub anew_after_all : (g : Geometry) (Which : Identity → Type 0) (log : Log) (es : List Event) → IsAnew log → IsCourse g log es → AreAll (IsIssue Which) es → IsAnew (log_after_all log es)
-anew_after_all g Which log [] anew course are = anew
-anew_after_all g Which log (e ∷ es) anew course are = anew_after_all g Which (log_after log e) es (anew_after g Which log e anew course.0 are.0) course.1 are.1
+pub anew_after_all : (g : Geometry) (log : Log) (es : List Event) → IsAnew log → IsCourse g log es → AreAll (IsIssue PlacesStay) es → IsAnew (log_after_all log es)
+anew_after_all g log [] anew course are = anew
+anew_after_all g log (e ∷ es) anew course are = anew_after_all g (log_after log e) es (anew_after g log e anew course.0 are.0) course.1 are.1
 
 pub empty_anew : IsAnew empty_log
 empty_anew = record { none = refl; lives = refl; places = []; each = λ v has. absurd (none_has v has) }

@@ -4,7 +4,8 @@ use Rattle.std.proofs.lemmas.List.Elements.{All-cons, All-head, All-tail, All-co
 use Rattle.std.specs.List.{list_any}
 use Rattle.mdv_table.specs.Plan.{last_of}
 use Rattle.mdv_table.specs.declared.plan.Lists.{Lists}
-use Rattle.mdv_store_law.specs.Below.{IsBelow, Geometry, Change, One, Table, settled}
+use Rattle.mdv_store_law.specs.Below.{IsBelow, Geometry, One, Table, settled}
+use Rattle.mdv_store_law.specs.Changes.{Change}
 use Rattle.mdv_store_law.specs.Log.{Version, with_asked, answered, Extends, IsSameOrSettled, IsMade, AreMade, IsRising, IsDescended, IsHeld}
 
 pub extends_itself : (changes : List Change) → Extends changes changes

@@ -1,8 +1,9 @@
 -- How logs go on, event by event.
 use Rattle.std.proofs.Common.{◌≡◌, ◌<◌, ◌⊎◌, inl, inr, true, false, List, [], ◌∷◌, ◌++◌, slice_index_or, refl, sym, ◌∙◌, subst, Option, Some, None, All, Contains}
 use Rattle.std.proofs.lemmas.List.Elements.{All-nil, All-cons, All-same, All-contains, Contains-get_or}
-use Rattle.mdv_store_law.specs.Below.{Mark, Geometry, Change, Table}
-use Rattle.mdv_store_law.specs.Log.{Again, Version, Log, Event, Issued, Writing, Written, Told, Placing, Clearing, Gone, Lives, Ends, with_asked, log_after, log_after_all, is_firm, IsFirst, IsNext, Extends, IsUntold, IsTellable, MayHappen, IsCourse, told_by, AreMade, IsHeld, IsLog, empty_log}
+use Rattle.mdv_store_law.specs.Below.{Mark, Geometry, Table}
+use Rattle.mdv_store_law.specs.Changes.{Change}
+use Rattle.mdv_store_law.specs.Log.{Again, Version, Log, Event, Issued, Writing, Written, Told, Placing, Clearing, Gone, Fate, Lives, Ends, Over, IsNotOver, with_asked, log_after, log_after_all, is_firm, IsFirst, IsNext, Extends, IsUntold, IsTellable, MayHappen, IsCourse, told_by, AreMade, IsHeld, IsLog, empty_log}
 use Rattle.mdv_store_law.specs.Laws.{CoursesAreLogs}
 use Rattle.mdv_store_law.proofs.Again.{numbered_answered, numbered_more, placed_numbered}
 use Rattle.mdv_store_law.proofs.Families.{extends_itself, extends_more, extends_asked, made_next, contains_first, contains_behind, extends_written, written_firm, firm_answered, answered_rising, answered_descended, answered_made, answered_held}
@@ -56,6 +57,13 @@ empty_is_log g = record {
   was_there = λ gone. absurd (gone refl);
 }
 
+-- a database that lives isn't over
+pub lives_there : (fate : Fate) → fate ≡ Lives → IsNotOver fate
+lives_there fate lives over = differs (sym lives ∙ over)
+  where
+    differs : Lives ≡ Over → ⊥
+    differs e = cc
+
 pub is_log_after : (g : Geometry) (log : Log) (e : Event) → IsLog g log → MayHappen g log e → IsLog g (log_after log e)
 is_log_after g log (Issued identity) is may = record {
   rising = tt;
@@ -66,7 +74,7 @@ is_log_after g log (Issued identity) is may = record {
   was_there = λ gone. absurd (gone refl);
 }
 is_log_after g log (Writing mark asked before table) is may = record {
-  rising = (may.0, is.rising);
+  rising = (may.0.0, is.rising);
   made = All-cons (λ (v : Version). AreMade g v.changes v.table) (begun g log is mark asked before table) log.family (begun_made g log is mark asked before table may.1) is.made;
   descended = (begun_extends g log is mark asked before table may.1, is.descended);
   held = λ told same. begun_held g log is mark asked before table told (is.held told same);
@@ -94,7 +102,7 @@ is_log_after g log (Placing places) is may = record {
   made = is.made;
   descended = is.descended;
   held = is.held;
-  numbered = placed_numbered log.family places log.again may is.numbered;
+  numbered = placed_numbered log places may is.numbered;
   was_there = is.was_there;
 }
 is_log_after g log Clearing is may = record {

@@ -1,7 +1,8 @@
 -- In which order the changes of a log's tables were written, and told.
 use Rattle.std.proofs.Common.{◌≡◌, ◌⊎◌, inl, inr, true, false, List, [], ◌∷◌, ◌++◌, map, reverse, refl, sym, ◌∙◌, ap, subst, append_assoc, Option, Some, None, Contains, arith}
 use Rattle.std.proofs.lemmas.List.{append-nil, reverse-append}
-use Rattle.mdv_store_law.specs.Below.{Identity, Geometry, Mark, Change, Table}
+use Rattle.mdv_store_law.specs.Below.{Identity, Geometry, Mark, Table}
+use Rattle.mdv_store_law.specs.Changes.{Change}
 use Rattle.mdv_store_law.specs.Log.{Version, Log, Event, Issued, Writing, Written, Told, Placing, Clearing, Gone, with_asked, answered, log_after, log_after_all, is_firm, IsFirst, IsNext, Extends, IsUntold, IsTellable, IsCourse, asks_of, begun_by, changes_of, tells, told_by, IsLog}
 use Rattle.mdv_store_law.specs.Part.{IsPart}
 use Rattle.mdv_store_law.proofs.Families.{contains_first, contains_behind, contains_cases, written_firm}

@@ -1,5 +1,6 @@
 -- Laws of lists with some of their items left out.
-use Rattle.std.proofs.Common.{inl, inr, List, [], ◌∷◌, ◌++◌, map, refl, ◌∙◌, ap}
+use Rattle.std.proofs.Common.{inl, inr, List, [], ◌∷◌, ◌++◌, map, refl, sym, ◌∙◌, ap, subst}
+use Rattle.mdv_store_law.specs.Machine.{AreAll}
 use Rattle.mdv_store_law.specs.Part.{IsPart}
 
 pub part_itself : {A : Type 0} (whole : List A) → IsPart whole whole
@@ -35,3 +36,10 @@ part_mapped f [] whole is = tt
 part_mapped f (x ∷ part) [] is = absurd is
 part_mapped f (x ∷ part) (y ∷ whole) (inl is) = inl (ap f is.0, part_mapped f part whole is.1)
 part_mapped f (x ∷ part) (y ∷ whole) (inr is) = inr (part_mapped f (x ∷ part) whole is)
+
+-- what each item is, each of a part is
+pub part_all : {A : Type 0} (Is : A → Type 0) (part whole : List A) → IsPart part whole → AreAll Is whole → AreAll Is part
+part_all Is [] whole is are = tt
+part_all Is (x ∷ part) [] is are = absurd is
+part_all Is (x ∷ part) (y ∷ whole) (inl is) are = (subst Is (sym is.0) are.0, part_all Is part whole is.1 are.1)
+part_all Is (x ∷ part) (y ∷ whole) (inr is) are = part_all Is (x ∷ part) whole is are.1

@@ -1,6 +1,7 @@
 pub mod Below
 pub use Rattle.mdv_base.specs.Causes
 pub mod Part
+pub mod Changes
 pub mod Machine
 pub mod Log
 pub mod Anew

@@ -2,7 +2,8 @@
 -- whether it is there.
 use Rattle.std.specs.Prelude.{◌≡◌, ◌⊎◌, ◌<◌, ◌&&◌, ◌==◌, ℕ, Bool, true, false, cond, List, [], ◌∷◌, ◌++◌, length, map, reverse, Option, Some, None, All, Contains}
 use Rattle.std.specs.List.{list_any}
-use Rattle.mdv_store_law.specs.Below.{IsBelow, Identity, Mark, Geometry, IsAfter, Change, Place, Table, One, Since, Never, last_of, raised, same_slice, settled, since_after}
+use Rattle.mdv_store_law.specs.Below.{IsBelow, Identity, Mark, Geometry, Place, Table, One, Since, Never, last_of, raised, same_slice, settled, since_after}
+use Rattle.mdv_store_law.specs.Changes.{Change, IsMadeBy, KeepsPlaces}
 use Rattle.mdv_store_law.specs.Machine.{after_all, all_of}
 use Rattle.mdv_store_law.specs.Machine as machine
 
@@ -111,7 +112,7 @@ IsSameOrSettled old new = (new ≡ old) ⊎ (new ≡ settled old)
 -- the table that a change makes of another; without a change it is the same, or that one with its change of places over
 abbrev pub IsMade : Geometry → Option Change → Table → Table → Type 0
 IsMade g None old new = IsSameOrSettled old new
-IsMade g (Some change) old new = IsAfter g change old.plan new.plan × (new.status ≡ old.status)
+IsMade g (Some change) old new = IsMadeBy g change old new
 
 -- its places don't change
 abbrev pub HasOneList : Table → Type 0
@@ -173,19 +174,27 @@ pub record IsNewestTellable (log : Log) (asked : Option Change) : Type 0 where
   pub may : IsTellable log (with_asked asked []) before
   pub newest : may.later ≡ []
 
--- The newest table's write was answered, and none of these places begins where one of its last list does.
-pub record IsPlaceable (family : List Version) (places : List Place) : Type 0 where
+-- The database is there; its newest table's write was answered, and that has one list, and none of these places begins where one of that list does.
+pub record IsPlaceable (log : Log) (places : List Place) : Type 0 where
+  pub lives : log.fate ≡ Lives
   pub newest : Version
   pub older : List Version
-  pub is : family ≡ newest ∷ older
+  pub is : log.family ≡ newest ∷ older
   pub written : newest.is_written ≡ true
-  pub unlisted : All (λ p. begins_in (last_of newest.table.plan.lists) p ≡ false) places
+  pub olds : List Place
+  pub only : newest.table.plan.lists ≡ One olds
+  pub unlisted : All (λ p. begins_in olds p ≡ false) places
 
--- The newest table's write was answered, and it lists one place alone.
-pub record IsClearable (family : List Version) : Type 0 where
+-- some image may have the database
+abbrev pub IsNotOver : Fate → Type 0
+IsNotOver fate = fate ≡ Over → ⊥
+
+-- Some image may have it; its newest table's write was answered, and that lists one place alone.
+pub record IsClearable (log : Log) : Type 0 where
+  pub there : IsNotOver log.fate
   pub newest : Version
   pub older : List Version
-  pub is : family ≡ newest ∷ older
+  pub is : log.family ≡ newest ∷ older
   pub written : newest.is_written ≡ true
   pub place : Place
   pub only : newest.table.plan.lists ≡ One (place ∷ [])
@@ -193,11 +202,11 @@ pub record IsClearable (family : List Version) : Type 0 where
 -- when each event may happen
 abbrev pub MayHappen : Geometry → Log → Event → Type 0
 MayHappen g log (Issued identity) = is_firm log ≡ false
-MayHappen g log (Writing mark asked before table) = IsAbove mark log.family × (IsFirst log.issued log.family asked before table ⊎ IsNext g log.family asked before table)
+MayHappen g log (Writing mark asked before table) = (IsAbove mark log.family × IsNotOver log.fate) × (IsFirst log.issued log.family asked before table ⊎ IsNext g log.family asked before table)
 MayHappen g log Written = IsBegun log.family
 MayHappen g log (Told which before) = IsTellable log which before
-MayHappen g log (Placing places) = IsPlaceable log.family places
-MayHappen g log Clearing = IsClearable log.family
+MayHappen g log (Placing places) = IsPlaceable log places
+MayHappen g log Clearing = IsClearable log
 MayHappen g log Gone = log.fate ≡ Ends
 
 -- each of the events may happen where it happens
@@ -242,25 +251,59 @@ changes_of [] = []
 changes_of (None ∷ asked) = changes_of asked
 changes_of (Some change ∷ asked) = change ∷ changes_of asked
 
--- a creation that an event issues is such a one; nothing asks for places to be formatted again yet, nor for a database to end
-abbrev pub IsIssue : (Identity → Type 0) → Event → Type 0
-IsIssue Which (Issued identity) = Which identity
-IsIssue Which (Writing mark asked before table) = Unit {0}
+-- what an event issues: a creation, under this identity; a table, for this change; places that are about to be formatted; or the database's end
+pub data Issue : Type 0 where
+  OfCreation : Identity → Issue
+  OfChange : Change → Issue
+  OfPlaces : List Place → Issue
+  OfEnd : Issue
+
+-- a table may be issued for this change, as for none
+abbrev pub IsAskable : (Issue → Type 0) → Option Change → Type 0
+IsAskable Which None = Unit {0}
+IsAskable Which (Some change) = Which (OfChange change)
+
+-- what the event issues is so
+abbrev pub IsIssue : (Issue → Type 0) → Event → Type 0
+IsIssue Which (Issued identity) = Which (OfCreation identity)
+IsIssue Which (Writing mark asked before table) = IsAskable Which asked
 IsIssue Which Written = Unit {0}
 IsIssue Which (Told which before) = Unit {0}
-IsIssue Which (Placing places) = ⊥
-IsIssue Which Clearing = ⊥
-IsIssue Which Gone = ⊥
+IsIssue Which (Placing places) = Which (OfPlaces places)
+IsIssue Which Clearing = Which OfEnd
+IsIssue Which Gone = Which OfEnd
 
--- The events tell these; they begin only what is asked, creations and changes, in that order and each once; and each creation is such a one.
-abbrev pub Adds : (Identity → Type 0) → List (Option Change) → List (Option Change) → List Event → Type 0
+-- The events tell these; they begin only what is asked, creations and changes, in that order and each once; and what they issue is so.
+abbrev pub Adds : (Issue → Type 0) → List (Option Change) → List (Option Change) → List Event → Type 0
 Adds Which = machine.Adds tells begins (IsIssue Which)
 
-abbrev pub NoCreation : Identity → Type 0
-NoCreation identity = ⊥
+-- changes, and nothing else
+abbrev pub ChangesAlone : Issue → Type 0
+ChangesAlone (OfCreation identity) = ⊥
+ChangesAlone (OfChange change) = Unit {0}
+ChangesAlone (OfPlaces places) = ⊥
+ChangesAlone OfEnd = ⊥
 
-abbrev pub IsThis : Identity → Identity → Type 0
-IsThis identity other = other ≡ identity
+-- and these places are formatted
+abbrev pub ChangesAndPlaces : List Place → Issue → Type 0
+ChangesAndPlaces places (OfCreation identity) = ⊥
+ChangesAndPlaces places (OfChange change) = Unit {0}
+ChangesAndPlaces places (OfPlaces others) = others ≡ places
+ChangesAndPlaces places OfEnd = ⊥
+
+-- the database ends
+abbrev pub EndAlone : Issue → Type 0
+EndAlone (OfCreation identity) = ⊥
+EndAlone (OfChange change) = ⊥
+EndAlone (OfPlaces places) = ⊥
+EndAlone OfEnd = Unit {0}
+
+-- changes that move no place
+abbrev pub PlacesStay : Issue → Type 0
+PlacesStay (OfCreation identity) = ⊥
+PlacesStay (OfChange change) = KeepsPlaces change
+PlacesStay (OfPlaces places) = ⊥
+PlacesStay OfEnd = ⊥
 
 -- the table after these changes, the newest first, from one with one list of places and no volumes; behind each of them a change of places may be over
 abbrev pub AreMade : Geometry → List Change → Table → Type 0

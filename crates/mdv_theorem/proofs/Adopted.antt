@@ -81,7 +81,7 @@ use Rattle.mdv_survey.specs.declared.replica.Survey.{Survey}
 use Rattle.mdv_record.specs.Text.{record_text}
 use Rattle.mdv_table.proofs.Testing.{same_place-true}
 use Rattle.mdv_table.specs.Tests.{same_place}
-use Rattle.mdv_table.specs.Plan.{places_of, settled}
+use Rattle.mdv_table.specs.Plan.{last_of, places_of, settled}
 use Rattle.mdv_table.proofs.Settled.{settled_of}
 use Rattle.mdv_store.specs.Settled.{again_of, first_room}
 use Rattle.mdv_table.specs.Table.{IsListsOf, IsOfGeometry}
@@ -254,7 +254,7 @@ module _ (g : Geometry) (key : Key) (all : List Database) (t : Tale) (sound : Is
   room = room_of newest.table
 
   short : room < 2 ^ 63
-  short = omega (arith, room_most (places_of newest.table.plan.lists), first_short (again_of newest.table.plan.lists), spelled.1.in_room)
+  short = omega (arith, room_most (places_of newest.table.plan.lists), first_short (last_of newest.table.plan.lists), spelled.1.in_room)
 
   -- what the boot had in hand, with room for the text, is in order
   has_replica : Contains replicas a.replica

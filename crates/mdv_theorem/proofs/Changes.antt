@@ -8,13 +8,14 @@ use Rattle.mdv_name.specs.SliceIndex.{HasSlice, slice_at}
 use Rattle.mdv_name.specs.declared.geometry.Geometry.{Geometry}
 use Rattle.mdv_name.specs.declared.slice_lines.SliceAt.{SliceAt}
 use Rattle.mdv_name.proofs.Finding.{slice_at-some}
-use Rattle.mdv_store_law.specs.Log.{AreMade, IsSameOrSettled}
+use Rattle.mdv_store_law.specs.Changes.{AddPlaces, Change, DropPlaces, FirstPlace, OfPlan, moved}
+use Rattle.mdv_store_law.specs.Log.{AreMade, IsMade, IsSameOrSettled}
 use Rattle.mdv_table.specs.Change.{IsAfter, blocks_at}
 use Rattle.mdv_table.specs.Slices.{IsSound}
 use Rattle.mdv_table.specs.Volume.{kind_slices, stripe_on}
 use Rattle.mdv_table.specs.Table.{IsKindOf}
 use Rattle.mdv_table.specs.Volumes.{HasVolume, with_volume}
-use Rattle.mdv_table.specs.declared.change.Change.{Change}
+use Rattle.mdv_table.specs.declared.change.Change.{Change as PlanChange}
 use Rattle.mdv_table.specs.declared.change.Change.TheVariants.{MakeStripe}
 use Rattle.mdv_table.specs.declared.plan.Plan.{Plan}
 use Rattle.mdv_table.specs.declared.table.Table.{Table}
@@ -69,36 +70,65 @@ module _ (g : Geometry) where
   volumes_kept old next (inl same) = ap (λ (t : Table). t.plan.volumes) same
   volumes_kept old next (inr over) = ap (λ (t : Table). t.plan.volumes) over
 
+  -- places that come and go leave them too
+  moved_kept : (change : Change) (old new next : Table) → new ≡ moved change old → IsSameOrSettled new next → next.plan.volumes ≡ old.plan.volumes
+  moved_kept change old new next is more = volumes_kept new next more ∙ ap (λ (t : Table). t.plan.volumes) is
+
+  moved_has : {volume : VolId} {slice : SliceName} (change : Change) (old new next : Table) → new ≡ moved change old → IsSameOrSettled new next → HasStripe volume slice old → HasStripe volume slice next
+  moved_has {volume} {slice} change old new next is more has = subst (λ (vs : List Volume). Contains vs (stripe volume slice)) (sym (moved_kept change old new next is more)) has
+
+  -- a change of the plan among others is behind one that moves places
+  behind_move : (change : Change) (plan : PlanChange) (changes : List Change) → (change ≡ OfPlan plan → ⊥) → Contains (change ∷ changes) (OfPlan plan) → Contains changes (OfPlan plan)
+  behind_move change plan changes differ has = elim (first_or_behind change (OfPlan plan) changes has) [ inl here ↦ absurd (differ here) | inr before ↦ before ]
+
   -- the table has the volume that a change made
-  pub made_has : (changes : List Change) (table : Table) (volume : VolId) (slice : SliceName) → AreMade g changes table → Contains changes (MakeStripe volume slice) → HasStripe volume slice table
-  made_has [] table volume slice made has = absurd (never_in (MakeStripe volume slice) has)
-  made_has (MakeStripe other its ∷ changes) table volume slice (old, new, made, after, more) has =
-      subst (λ (vs : List Volume). Contains vs (stripe volume slice)) (sym (volumes_kept new table more)) (elim (first_or_behind (MakeStripe other its) (MakeStripe volume slice) changes has) [
-        | inl here ↦ stripe_made old new volume slice (subst (λ (c : Change). IsAfter g c old.plan new.plan) here after.0)
+  pub made_has : (changes : List Change) (table : Table) (volume : VolId) (slice : SliceName) → AreMade g changes table → Contains changes (OfPlan (MakeStripe volume slice)) → HasStripe volume slice table
+  made_has [] table volume slice made has = absurd (never_in (OfPlan (MakeStripe volume slice)) has)
+  made_has (OfPlan (MakeStripe other its) ∷ changes) table volume slice (old, new, made, after, more) has =
+      subst (λ (vs : List Volume). Contains vs (stripe volume slice)) (sym (volumes_kept new table more)) (elim (first_or_behind (OfPlan (MakeStripe other its)) (OfPlan (MakeStripe volume slice)) changes has) [
+        | inl here ↦ stripe_made old new volume slice (subst (λ (c : Change). IsMade g (Some c) old new) here after).0
         | inr before ↦ stripe_stays volume slice old new other its after.0 (made_has changes old volume slice made before)
       ])
+  made_has (AddPlaces slices count blocks ∷ changes) table volume slice (old, new, made, after, more) has =
+      moved_has (AddPlaces slices count blocks) old new table after more (made_has changes old volume slice made (behind_move (AddPlaces slices count blocks) (MakeStripe volume slice) changes (λ same. absurd (cc (same))) has))
+  made_has (DropPlaces slices ∷ changes) table volume slice (old, new, made, after, more) has =
+      moved_has (DropPlaces slices) old new table after more (made_has changes old volume slice made (behind_move (DropPlaces slices) (MakeStripe volume slice) changes (λ same. absurd (cc (same))) has))
+  made_has (FirstPlace ∷ changes) table volume slice (old, new, made, after, more) has =
+      moved_has FirstPlace old new table after more (made_has changes old volume slice made (behind_move FirstPlace (MakeStripe volume slice) changes (λ same. absurd (cc (same))) has))
 
   -- a change that made the volume
   pub record IsMadeBy (changes : List Change) (volume : VolId) (of : Volume) : Type 0 where
     pub slice : SliceName
-    pub change : Contains changes (MakeStripe volume slice)
+    pub change : Contains changes (OfPlan (MakeStripe volume slice))
     pub is : of ≡ stripe volume slice
+
+  -- one change more
+  made_behind : (change : Change) (changes : List Change) (volume : VolId) (of : Volume) → IsMadeBy changes volume of → IsMadeBy (change ∷ changes) volume of
+  made_behind change changes volume of before = record { slice = before.slice; change = contains_behind change (OfPlan (MakeStripe volume before.slice)) changes before.change; is = before.is }
+
+  -- a table that came by a move of places had the volume before
+  had_volume : (change : Change) (old new next : Table) (volume : VolId) (of : Volume) → new ≡ moved change old → IsSameOrSettled new next → HasVolume next.plan.volumes volume of → HasVolume old.plan.volumes volume of
+  had_volume change old new next volume of is more has = subst (λ (vs : List Volume). HasVolume vs volume of) (moved_kept change old new next is more) has
 
   pub made_by : (changes : List Change) (table : Table) (volume : VolId) (of : Volume) → AreMade g changes table → HasVolume table.plan.volumes volume of → IsMadeBy changes volume of
   made_by [] table volume of made has = absurd (never_in of (subst (λ (vs : List Volume). Contains vs of) made.0 has.0))
-  made_by (MakeStripe other its ∷ changes) table volume of (old_table, new_table, made, after, more) has =
+  made_by (OfPlan (MakeStripe other its) ∷ changes) table volume of (old_table, new_table, made, after, more) has =
       elim (was_there (stripe other its) old_table.plan.volumes of (subst (λ (p : Plan). Contains p.volumes of) after.0.1 (subst (λ (vs : List Volume). Contains vs of) (volumes_kept new_table table more) has.0))) [
         | inl new ↦
             let number : other ≡ volume = sym (ap (λ (x : Volume). x.number) new) ∙ has.1 in
             record {
               slice = its;
-              change = subst (λ (n : VolId). Contains (MakeStripe other its ∷ changes) (MakeStripe n its)) number (contains_first (MakeStripe other its) changes);
+              change = subst (λ (n : VolId). Contains (OfPlan (MakeStripe other its) ∷ changes) (OfPlan (MakeStripe n its))) number (contains_first (OfPlan (MakeStripe other its)) changes);
               is = new ∙ ap (λ (n : VolId). stripe n its) number;
             }
-        | inr old ↦
-            let before = made_by changes old_table volume of made (old, has.1) in
-            record { slice = before.slice; change = contains_behind (MakeStripe other its) (MakeStripe volume before.slice) changes before.change; is = before.is }
+        | inr old ↦ made_behind (OfPlan (MakeStripe other its)) changes volume of (made_by changes old_table volume of made (old, has.1))
       ]
+  made_by (AddPlaces slices count blocks ∷ changes) table volume of (old, new, made, after, more) has =
+      made_behind (AddPlaces slices count blocks) changes volume of (made_by changes old volume of made (had_volume (AddPlaces slices count blocks) old new table volume of after more has))
+  made_by (DropPlaces slices ∷ changes) table volume of (old, new, made, after, more) has =
+      made_behind (DropPlaces slices) changes volume of (made_by changes old volume of made (had_volume (DropPlaces slices) old new table volume of after more has))
+  made_by (FirstPlace ∷ changes) table volume of (old, new, made, after, more) has =
+      made_behind FirstPlace changes volume of (made_by changes old volume of made (had_volume FirstPlace old new table volume of after more has))
 
   -- its slice isn't set aside for replicas
   pub stripe_plain : (volume : VolId) (slice : SliceName) (at : SliceAt) → IsSound g → IsKindOf g (stripe volume slice).kind → HasSlice g.slices slice at → at.db ≡ false

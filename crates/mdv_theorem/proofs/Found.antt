@@ -22,6 +22,7 @@ use Rattle.mdv_run_law.proofs.Made.{some_told}
 use Rattle.mdv_shelf.specs.Everywhere.{Image}
 use Rattle.mdv_shelf.specs.Tale.{Tale, last}
 use Rattle.mdv_status.specs.Values.{values_reply}
+use Rattle.mdv_store_law.specs.Changes.{Change, OfPlan}
 use Rattle.mdv_store_law.specs.Log as log
 use Rattle.mdv_store_law.specs.Log.{AreMade, Log, Version, changes_of, empty_log, is_firm, IsLog}
 use Rattle.mdv_store_law.specs.Part.{IsPart}
@@ -29,7 +30,6 @@ use Rattle.mdv_store_law.proofs.Logs.{told_acknowledges, told_firm}
 use Rattle.mdv_store_law.proofs.Machine.{after_more, all_more}
 use Rattle.mdv_store_law.proofs.Orders.{IsToldPart, all_told}
 use Rattle.mdv_table.specs.Slices.{IsSound}
-use Rattle.mdv_table.specs.declared.change.Change.{Change}
 use Rattle.mdv_table.specs.declared.change.Change.TheVariants.{MakeStripe}
 use Rattle.mdv_table.specs.declared.table.Table.{Table}
 use Rattle.mdv_volumes.specs.Databases.{log_of}
@@ -274,7 +274,7 @@ module _ (drives : Geometry) (name : List ℕ) (made : Image) (before : List Ran
   -- So is a volume whose making was told, on the slice that was named.
   pub stripe_found : (one : Exchange) (volume : VolId) (slice : SliceName) → Contains (exchanges_by name before) one → Asks one (command.MakeStripe volume slice) → IsTold one ok_line → IsFoundWith drives name t (HasStripe own.drives volume slice)
   stripe_found one volume slice has asks told =
-      let change = MakeStripe volume slice in
+      let change = OfPlan (MakeStripe volume slice) in
       let found = change_found change (deed_among one (command.MakeStripe volume slice) (Changed own_key change) (λ done acks. acks) has asks told) in
       (found.0, λ table is. (let made = found.1 table is in made_has own.drives made.0 table volume slice made.1 made.2))
 

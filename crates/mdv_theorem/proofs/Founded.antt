@@ -46,6 +46,7 @@ use Rattle.mdv_theorem.proofs.Found.{created_written, is_log, its, its_course, n
 use Rattle.mdv_theorem.proofs.Given.{Given}
 use Rattle.mdv_theorem.proofs.Later.{Lasts, lasts_between, lasts_run, lasts_work, open_lasts}
 use Rattle.mdv_theorem.proofs.Left.{line_goes, lines_go, replies_behind, said_or_over, script_plain}
+use Rattle.mdv_theorem.proofs.Lined.{runs_keep}
 use Rattle.mdv_theorem.proofs.Lines.{never_in}
 use Rattle.mdv_theorem.proofs.Living.{lived_life}
 use Rattle.mdv_theorem.proofs.Opened.{known_there, point}
@@ -101,7 +102,7 @@ module _ (given : Given) (drives : Geometry) (name : List ℕ) (sound : IsSound 
       let is = its drives name image ran t sound of_table life in
       let same : is_of o.identity r ≡ true = subst (λ (i : Identity). same_identity r.head.master.identity i ≡ true) shown.own.of_identity (same_identity_self r.head.master.identity) in
       let version = shown_version own.drives (Local name) h.databases t is.history.stands.databases o.identity r same shown.own shown.slot o.mark o.table shown.newest in
-      let alike = alike_from_new own.drives (Local name) is.history.es (its_course drives name image ran t sound of_table life) in
+      let alike = alike_from_new own.drives (Local name) is.history.es (its_course drives name image ran t sound of_table life) (runs_keep drives name ran is.history.es is.history.come) in
       record {
         places = places;
         made = made_on;

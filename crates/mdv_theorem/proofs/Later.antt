@@ -18,25 +18,28 @@ use Rattle.mdv_run_law.specs.Lives.{IsNewWord, MayBeFound, Ran, as_it_was, crash
 use Rattle.mdv_run_law.specs.Run.{Leads}
 use Rattle.mdv_run_law.specs.Standing.{LinesMoment, RunMoment, context_of}
 use Rattle.mdv_run_law.proofs.Elsewhere.{stands_elsewhere}
-use Rattle.mdv_run_law.proofs.Owning.{IsOfRuns, IsOurs, all_make_weaker, owned_after, run_makes}
+use Rattle.mdv_run_law.proofs.Owning.{IsOfRuns, IsOurs, all_make_weaker, come_issued, owned_after, run_issued, run_makes}
 use Rattle.mdv_shelf.specs.Tale.{Tale}
 use Rattle.mdv_shelf.proofs.Blocks.{both_ways}
 use Rattle.mdv_status.specs.Telling.{left_in, replies_in}
 use Rattle.mdv_store.specs.Opened.{Opened}
-use Rattle.mdv_store_law.specs.Log.{IsMade, IsRising, Log, Version}
+use Rattle.mdv_store_law.specs.Changes.{Change}
+use Rattle.mdv_store_law.specs.Log.{IsAskable, IsMade, IsRising, Log, PlacesStay, Version}
+use Rattle.mdv_store_law.specs.Machine.{AreAll}
 use Rattle.mdv_store_law.specs.Machine as machine
 use Rattle.mdv_table.specs.Slices.{IsSound}
-use Rattle.mdv_table.specs.declared.change.Change.{Change}
 use Rattle.mdv_table.specs.Plan.{settled}
 use Rattle.mdv_table.specs.declared.plan.Lists.TheVariants.{One}
 use Rattle.mdv_table.specs.declared.table.Table.{Table}
 use Rattle.mdv_volumes.specs.Databases.{Database, log_of}
 use Rattle.mdv_volumes.specs.Happening as happening
+use Rattle.mdv_volumes.specs.Happening.{IsIssue}
 use Rattle.mdv_volumes.specs.History.{Crashes, Event, History, Stops, history_after, history_after_all}
 use Rattle.mdv_volumes.specs.HistoryLaws.{log_events_of}
 use Rattle.mdv_volumes.specs.Tables.{IsMapOf}
-use Rattle.mdv_volumes.proofs.Found.{AreLasting, lasting_all, newest_found}
+use Rattle.mdv_volumes.proofs.Found.{AreLasting, lasting_where, newest_found}
 use Rattle.mdv_volumes.proofs.Keys.{databases_live}
+use Rattle.mdv_volumes.proofs.Listed.{issues_ask}
 use Rattle.mdv_store_law.proofs.Anew.{made_lists}
 use Rattle.mdv_volumes.proofs.Made.{map_stays}
 use Rattle.mdv_volumes.proofs.Owners.{AreEach}
@@ -72,15 +75,16 @@ module _ (drives : Geometry) (name : List ℕ) (table : Table) where
     pub words : HaveWords (IsInRun name fresh before) history.databases
     pub lasting : IsLasting history
 
-  grows_stay : (asked : Option Change) (old next : Table) → IsMade own.drives asked old next → Has old → Has next
-  grows_stay asked old next made has = ((λ volume v lies. map_stays own.drives volume v asked old next made (has.0 volume v lies)), λ places one. made_lists own.drives asked old next places made (has.1 places one))
+  grows_stay : (asked : Option Change) (old next : Table) → IsAskable PlacesStay asked → IsMade own.drives asked old next → Has old → Has next
+  grows_stay asked old next stay made has = ((λ volume v lies. map_stays own.drives volume v asked old next made (has.0 volume v lies)), λ places one. made_lists own.drives asked old next places stay made (has.1 places one))
 
-  -- whatever happens
-  lasting_on : (h : History) (es : List Event) → machine.IsCourse history_after (Happening own) h es → IsLasting h → IsLasting (history_after_all h es)
-  lasting_on h es course are =
+  -- whatever a run does
+  lasting_on : (fresh : ℕ) (h : History) (es : List Event) → machine.IsCourse history_after (Happening own) h es → AreAll (IsIssue (IsOfRun (host_of drives name fresh))) es → IsLasting h → IsLasting (history_after_all h es)
+  lasting_on fresh h es course issues are =
       let may = may_course own h es course in
+      let stay = issues_ask (IsOfRun (host_of drives name fresh)) PlacesStay (λ change is. is) (Local name) es issues in
       subst (λ (lg : Log). AreLasting own.drives Has lg) (sym (databases_live.is (Local name) own.drives h es may))
-      (lasting_all own.drives Has grows_stay (log_of h.databases (Local name)) (log_events_of (Local name) es) (databases_live.may (Local name) own.drives h es may) are)
+      (lasting_where own.drives Has PlacesStay grows_stay (log_of h.databases (Local name)) (log_events_of (Local name) es) (databases_live.may (Local name) own.drives h es may) stay are)
 
   -- what is open is the newest table, whose write was answered
   pub open_lasts : (fresh : ℕ) (before : List Ran) (memory : Memory) (h : History) (t : Tale) (o : Opened) → IsKnown (host_of drives name fresh) memory h t → HaveWords (IsInRun name fresh before) h.databases → memory.opened ≡ Some o → o.table ≡ table
@@ -108,7 +112,7 @@ module _ (drives : Geometry) (name : List ℕ) (table : Table) where
         history = history_after_all is.history more.es;
         known = more.after.0;
         words = words_on host (IsInRun name fresh before) is.history more.es (inl refl) more.come.issues (λ d has. inr (is.its d has).1);
-        lasting = lasting_on is.history more.es more.course is.lasting;
+        lasting = lasting_on fresh is.history more.es more.course more.come.issues is.lasting;
       }
 
   -- a line leads on
@@ -119,7 +123,7 @@ module _ (drives : Geometry) (name : List ℕ) (table : Table) where
         history = history_after_all is.history more.es;
         known = more.after;
         words = words_on (host_of drives name fresh) (IsInRun name fresh before) is.history more.es (inl refl) more.come is.words;
-        lasting = lasting_on is.history more.es more.course is.lasting;
+        lasting = lasting_on fresh is.history more.es more.course more.come is.lasting;
       }
 
   -- the databases of the run, one of those before, or of this one
@@ -136,7 +140,7 @@ module _ (drives : Geometry) (name : List ℕ) (table : Table) where
         stands = more.stands;
         its = owned_after (IsOfRuns name (one ∷ before)) is.history more.es (λ d has. (is.known.its.own d has, with_run drives name one fresh before d.identity.fresh host_is fresh_is (is.words d has)))
             (all_make_weaker (IsOurs (IsOfRun (host_of drives name fresh)) (Local name)) (IsOfRuns name (one ∷ before)) (of_run one fresh before host_is fresh_is) more.es made);
-        lasting = lasting_on is.history more.es more.course is.lasting;
+        lasting = lasting_on fresh is.history more.es more.course (come_issued (host_of drives name fresh) (left_in moment.bytes) (context_of memory) script (replies_in moment.bytes) more.es more.come) is.lasting;
       }
 
   -- what is found of a moment as the next run starts
@@ -162,7 +166,7 @@ module _ (drives : Geometry) (name : List ℕ) (table : Table) where
         stands = more.stands;
         its = owned_after (IsOfRuns name (one ∷ before)) is.history more.es (earlier_each one before is.history.databases is.its)
             (all_make_weaker (IsOurs (IsOfRun host) (Local name)) (IsOfRuns name (one ∷ before)) (of_run one one.fresh before host_is refl) more.es (run_makes host one.script moment.bytes more.es more.come));
-        lasting = lasting_on is.history more.es more.course is.lasting;
+        lasting = lasting_on one.fresh is.history more.es more.course (run_issued host one.script moment.bytes more.es more.come) is.lasting;
       }
 
   pub lasts_run : (one : Ran) (before : List Ran) (t m : Tale) → IsNewWord one.host one.fresh before → RunMoment (host_of drives one.host one.fresh) one.script t m → Lasts before t → Lasts (one ∷ before) m
@@ -187,4 +191,4 @@ module _ (drives : Geometry) (name : List ℕ) (table : Table) where
 
   -- So some replica shows a table, and each table that a boot may adopt has the volumes.
   pub lasts_offers : IsSound drives → (ran : List Ran) (t : Tale) → Lasts ran t → (fresh : ℕ) → Offers (host_of drives name fresh) Has (contents t)
-  lasts_offers sound ran t is fresh = lasting_offers (host_of drives name fresh) (view_is_own.sound drives name sound) refl Has (λ table has. grows_stay None table (settled table) (inr refl) has) is.history t (contents t) is.stands is.lasting (λ drive block. refl)
+  lasts_offers sound ran t is fresh = lasting_offers (host_of drives name fresh) (view_is_own.sound drives name sound) refl Has (λ table has. grows_stay None table (settled table) tt (inr refl) has) is.history t (contents t) is.stands is.lasting (λ drive block. refl)

@@ -19,12 +19,13 @@ use Rattle.mdv_status.specs.Telling.{left_in, replies_in}
 use Rattle.mdv_store_law.specs.Part.{IsPart}
 use Rattle.mdv_store_law.proofs.Machine.{all_more}
 use Rattle.mdv_volumes.specs.Happening.{begins, issued_by, told_by}
-use Rattle.mdv_volumes.specs.History.{Deed, Event}
+use Rattle.mdv_volumes.specs.History.{Changed, Deed, Event}
+use Rattle.mdv_volumes.specs.HistoryLaws.{KeepPlaces}
 use Rattle.mdv_volumes.proofs.Lists.{contains_behind, contains_first}
 use Rattle.mdv_words.specs.Line.{Boot, Exec, Line, Tab}
 use Rattle.mdv_words.specs.declared.command.Command.TheVariants as command
 use Rattle.mdv_theorem.specs.Exchanges.{Exchange, exchanges, exchanges_by, exchanges_of}
-use Rattle.mdv_theorem.proofs.Lines.{MayBegin, begins_asked, lets, never_in}
+use Rattle.mdv_theorem.proofs.Lines.{MayBegin, begins_asked, begun_keeps, lets, never_in}
 
 -- events that begin nothing
 abbrev pub AreQuiet : List Event → Type 0
@@ -215,3 +216,7 @@ module _ (drives : Geometry) (name : List ℕ) where
   runs_lined (ran ∷ before) es are =
       let here = subst (λ (l : List Exchange). AreLined l (are.1 ++ are.2)) (append-nil (lines_of ran)) (lined_more (lines_of ran) [] are.1 are.2 (host_lined ran are.1 are.5) (between_quiet are.2 are.6)) in
       subst (AreLined (exchanges_by name (ran ∷ before))) (sym are.3) (lined_more (exchanges_by name before) (lines_of ran) are.0 (are.1 ++ are.2) (runs_lined before are.0 are.4) here)
+
+  -- so they move no place
+  pub runs_keep : (before : List Ran) (es : List Event) → AreOfRuns drives name before es → KeepPlaces (key_of host) es
+  runs_keep before es are change has = (let begun = lined_begins (exchanges_by name before) es (runs_lined before es are) (Changed (key_of host) change) has in begun_keeps (key_of host) (key_of host) change begun.0 begun.2)

@@ -16,8 +16,9 @@ use Rattle.mdv_run_law.proofs.Coming.{no_ok}
 use Rattle.mdv_status.specs.Telling.{begins_with_digit}
 use Rattle.mdv_status.specs.Values.{value_line, values_reply, values_text}
 use Rattle.mdv_status.proofs.Lines.{is_value_line}
+use Rattle.mdv_store_law.specs.Changes.{AddPlaces, Change, DropPlaces, FirstPlace, KeepsPlaces, OfPlan}
 use Rattle.mdv_table.specs.declared.change.Change.TheVariants.{MakeStripe}
-use Rattle.mdv_volumes.specs.History.{Changed, Created, Deed, Saw, Wrote}
+use Rattle.mdv_volumes.specs.History.{Changed, Created, Deed, Deleted, Saw, Wrote}
 use Rattle.mdv_volumes.proofs.Lists.{first_or_behind}
 use Rattle.mdv_words.specs.Line.{Boot, Exec, IsLine, Line, Tab}
 use Rattle.mdv_words.specs.declared.command.Command.TheVariants as command
@@ -27,9 +28,20 @@ use Rattle.mdv_theorem.proofs.Telling.{begins_append, is_fault, ok_is_none, one_
 -- the line may have begun the deed: a database of the host's key, a change, or a block that is written
 abbrev pub MayBegin : Key → Deed → Exchange → Type 0
 MayBegin own (Created key) one = key ≡ own
-MayBegin own (Changed key (MakeStripe volume slice)) one = MayBeMade volume slice one
+MayBegin own (Changed key (OfPlan (MakeStripe volume slice))) one = MayBeMade volume slice one
+MayBegin own (Changed key (AddPlaces slices count blocks)) one = ⊥
+MayBegin own (Changed key (DropPlaces slices)) one = ⊥
+MayBegin own (Changed key FirstPlace) one = ⊥
+MayBegin own (Deleted key) one = ⊥
 MayBegin own (Wrote key volume at blocks) one = (block : List ℕ) × (blocks ≡ block ∷ []) × MayBeWritten volume at block one
 MayBegin own (Saw key volume at blocks) one = Unit {0}
+
+-- no line may have begun a change that moves a place
+pub begun_keeps : (own key : Key) (change : Change) (one : Exchange) → MayBegin own (Changed key change) one → KeepsPlaces change
+begun_keeps own key (OfPlan change) one may = tt
+begun_keeps own key (AddPlaces slices count blocks) one may = absurd may
+begun_keeps own key (DropPlaces slices) one may = absurd may
+begun_keeps own key FirstPlace one may = absurd may
 
 pub never_in : {X : Type 0} (x : X) → Contains [] x → ⊥
 never_in x has = omega (arith, has.1)

@@ -1,7 +1,6 @@
 -- What a run has open: at least half of the places are active, on slices on which a boot looks. So where a boot or a line ends the run for want of places, a call failed on the drive of one of these.
-use Rattle.std.proofs.Common.{◌≡◌, ◌≢◌, ◌⊎◌, ◌*◌, ◌<◌, ◌≤◌, inl, inr, ℕ, Bool, true, false, List, [], ◌∷◌, Option, Some, None, Contains, MatchOption, length, if◌then◌else◌, refl, sym, ◌∙◌, ap, subst, arith, map}
+use Rattle.std.proofs.Common.{◌≡◌, ◌≢◌, ◌⊎◌, ◌*◌, ◌<◌, inl, inr, ℕ, Bool, true, false, List, [], ◌∷◌, Option, Some, None, Contains, MatchOption, length, if◌then◌else◌, refl, sym, ◌∙◌, ap, subst, arith, map}
 use Rattle.std.proofs.lemmas.Bool.{false≢true, ltb-false}
-use Rattle.std.proofs.lemmas.Bool.Decides.{nat_tests}
 use Rattle.mdv_databases.proofs.Finding.{failing_list}
 use Rattle.std.specs.List.{find}
 use Rattle.std.specs.Prelude.{◌&&◌, not}

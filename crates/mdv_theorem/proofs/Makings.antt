@@ -12,19 +12,19 @@ use Rattle.mdv_run_law.proofs.Deeds.{part_contains}
 use Rattle.mdv_shelf.specs.Everywhere.{Image}
 use Rattle.mdv_shelf.specs.Tale.{Tale}
 use Rattle.mdv_shelf.proofs.Blocks.{both_ways}
+use Rattle.mdv_store_law.specs.Changes.{Change, OfPlan}
 use Rattle.mdv_store_law.specs.Log as log
 use Rattle.mdv_store_law.specs.Log.{AreMade, Log, Version, changes_of, empty_log}
 use Rattle.mdv_store_law.specs.Part.{IsPart}
 use Rattle.mdv_store_law.proofs.Orders.{all_written}
 use Rattle.mdv_table.specs.Slices.{IsSound}
-use Rattle.mdv_table.specs.declared.change.Change.{Change}
 use Rattle.mdv_table.specs.declared.change.Change.TheVariants.{MakeStripe}
 use Rattle.mdv_table.specs.Volumes.{HasVolume}
 use Rattle.mdv_table.specs.declared.table.Table.{Table}
 use Rattle.mdv_table.specs.declared.volume.Volume.{Volume}
 use Rattle.mdv_volumes.specs.Databases.{same_key}
 use Rattle.mdv_volumes.specs.Happening.{issued_by}
-use Rattle.mdv_volumes.specs.History.{Changed, Created, Deed, Event, Saw, Wrote}
+use Rattle.mdv_volumes.specs.History.{Changed, Created, Deed, Deleted, Event, Saw, Wrote}
 use Rattle.mdv_databases.proofs.Lists.{key_is}
 use Rattle.mdv_volumes.proofs.Keys.{databases_live}
 use Rattle.mdv_volumes.proofs.Lists.{contains_behind, contains_first, first_or_behind}
@@ -59,6 +59,7 @@ module _ (key : Key) (change : Change) where
       | inl does ↦ rw does (λ is. ⊎_elim (λ same. inl (ap (λ (k : Key). Changed k its) (sym (key_is key other does)) ∙ ap (Changed key) same)) (λ behind. inr behind) (first_or_behind its change (changes_in key deeds) is))
       | inr never ↦ rw never (λ is. inr is)
     ]
+  deed_of_change (Deleted other ∷ deeds) has = contains_behind (Deleted other) (Changed key change) deeds (deed_of_change deeds has)
   deed_of_change (Wrote other beside at blocks ∷ deeds) has = contains_behind (Wrote other beside at blocks) (Changed key change) deeds (deed_of_change deeds has)
   deed_of_change (Saw other beside at blocks ∷ deeds) has = contains_behind (Saw other beside at blocks) (Changed key change) deeds (deed_of_change deeds has)
 
@@ -100,6 +101,6 @@ module _ (drives : Geometry) (name : List ℕ) (made : Image) (before : List Ran
       let one_of = is.one_of in
       let there = subst (λ (b : Table). HasVolume b.plan.volumes volume of) (sym is.is_table) has in
       let by = made_by own.drives version.changes version.table volume of (version_made version one_of) there in
-      let begun = change_begun version one_of (MakeStripe volume by.slice) by.change in
-      let came = lined_begins drives name (exchanges_by name before) all (lined drives name made before t sound of_table life) (Changed its_key (MakeStripe volume by.slice)) begun in
+      let begun = change_begun version one_of (OfPlan (MakeStripe volume by.slice)) by.change in
+      let came = lined_begins drives name (exchanges_by name before) all (lined drives name made before t sound of_table life) (Changed its_key (OfPlan (MakeStripe volume by.slice))) begun in
       (came.0, by.slice, came.1, came.2, by.is)

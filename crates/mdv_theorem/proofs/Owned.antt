@@ -14,10 +14,11 @@ use Rattle.mdv_run_law.proofs.Living.{lives_stand}
 use Rattle.mdv_run_law.proofs.Owning.{IsOfRuns, IsOurs, Makes, all_issue, come_issued, owned_after, runs_own}
 use Rattle.mdv_shelf.specs.Everywhere.{Image}
 use Rattle.mdv_shelf.specs.Tale.{Tale}
+use Rattle.mdv_store_law.specs.Log.{Issue, OfCreation}
 use Rattle.mdv_store_law.specs.Machine.{AreAll}
 use Rattle.mdv_volumes.specs.Databases.{Database}
 use Rattle.mdv_volumes.specs.Happening.{IsIssue}
-use Rattle.mdv_volumes.specs.History.{Acknowledges, Boots, Crashes, Created, Creation, Event, History, OfDatabase, OfVolume, Reads, Shows, Stops, history_after_all}
+use Rattle.mdv_volumes.specs.History.{Acknowledges, Boots, Crashes, Created, Creation, Deletes, Event, History, OfDatabase, OfVolume, Reads, Shows, Stops, history_after_all}
 use Rattle.mdv_volumes.specs.HistoryLaws.{new_history}
 use Rattle.mdv_volumes.proofs.Lists.{contains_behind, contains_first}
 use Rattle.mdv_volumes.proofs.Owners.{AreEach}
@@ -34,7 +35,7 @@ IsInRun name fresh before word = (word ≡ fresh) ⊎ HasWord name before word
 abbrev pub HaveWords : (ℕ → Type 0) → List Database → Type 0
 HaveWords Word = AreEach (λ key identity. Word identity.fresh)
 
-module _ (Which : Identity → Type 0) (P : Key → Identity → Type 0) (makes : (key : Key) (identity : Identity) → Which identity → P key identity) where
+module _ (Which : Issue → Type 0) (P : Key → Identity → Type 0) (makes : (key : Key) (identity : Identity) → Which (OfCreation identity) → P key identity) where
   issue_makes : (e : Event) → IsIssue Which e → Makes P e
   issue_makes (Creation key identity) is = makes key identity is
   issue_makes (OfDatabase key identity e) is = tt
@@ -42,6 +43,7 @@ module _ (Which : Identity → Type 0) (P : Key → Identity → Type 0) (makes 
   issue_makes (Reads key volume at blocks) is = tt
   issue_makes (Acknowledges place key volume at blocks) is = tt
   issue_makes (Shows place key volume at blocks) is = tt
+  issue_makes (Deletes place key) is = tt
   issue_makes (Boots key up) is = tt
   issue_makes Stops is = tt
   issue_makes Crashes is = tt

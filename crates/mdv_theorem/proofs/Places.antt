@@ -4,12 +4,12 @@ use Rattle.std.proofs.lemmas.List.Elements.{Contains-append_cases}
 use Rattle.mdv_base.specs.declared.name.Key.{Key}
 use Rattle.mdv_base.specs.declared.name.VolId.{VolId}
 use Rattle.mdv_name.specs.declared.geometry.Geometry.{Geometry}
+use Rattle.mdv_store_law.specs.Changes.{Change}
 use Rattle.mdv_store_law.specs.Log as log
-use Rattle.mdv_table.specs.declared.change.Change.{Change}
 use Rattle.mdv_volumes.specs.Events.{Answers, Begins, Flushes, Issues, VolumeEvent, Woke}
 use Rattle.mdv_volumes.specs.Events as lives
 use Rattle.mdv_volumes.specs.Happening.{IsCourse, MayHappen, deed_of, told_by}
-use Rattle.mdv_volumes.specs.History.{Acknowledges, Boots, Changed, Crashes, Created, Creation, Deed, Event, History, OfDatabase, OfVolume, Reads, Saw, Shows, Stops, Wrote, flushed_by, history_after, history_after_all, is_within, untold_after}
+use Rattle.mdv_volumes.specs.History.{Acknowledges, Boots, Changed, Crashes, Created, Creation, Deed, Deleted, Deletes, Event, History, OfDatabase, OfVolume, Reads, Saw, Shows, Stops, Wrote, gone_by, flushed_by, history_after, history_after_all, is_within, untold_after}
 use Rattle.mdv_volumes.proofs.Lists.{course_rest, first_or_behind, in_filter, in_without}
 use Rattle.mdv_theorem.proofs.Lines.{never_in}
 
@@ -39,6 +39,7 @@ may_at g h e es first later is course =
 abbrev pub IsOfBlocks : Deed → Type 0
 IsOfBlocks (Created key) = ⊥
 IsOfBlocks (Changed key change) = ⊥
+IsOfBlocks (Deleted key) = ⊥
 IsOfBlocks (Wrote key volume at blocks) = Unit {0}
 IsOfBlocks (Saw key volume at blocks) = Unit {0}
 
@@ -46,6 +47,7 @@ IsOfBlocks (Saw key volume at blocks) = Unit {0}
 abbrev pub telling_of : ℕ → Deed → Event
 telling_of place (Created key) = Stops
 telling_of place (Changed key change) = Stops
+telling_of place (Deleted key) = Stops
 telling_of place (Wrote key volume at blocks) = Acknowledges place key volume at blocks
 telling_of place (Saw key volume at blocks) = Shows place key volume at blocks
 
@@ -86,6 +88,10 @@ told_at deed (Shows place key volume at blocks ∷ es) of has = elim (first_or_b
   | inl here ↦ told_first place deed (Saw key volume at blocks) (Shows place key volume at blocks) es refl here
   | inr behind ↦ told_behind deed (Shows place key volume at blocks) es (told_at deed es of behind)
 ]
+told_at deed (Deletes place key ∷ es) of has = elim (first_or_behind (Deleted key) deed (told_by es) has) [
+  | inl here ↦ absurd (subst IsOfBlocks (sym here) of)
+  | inr behind ↦ told_behind deed (Deletes place key) es (told_at deed es of behind)
+]
 told_at deed (Boots key up ∷ es) of has = told_behind deed (Boots key up) es (told_at deed es of has)
 told_at deed (Stops ∷ es) of has = told_behind deed Stops es (told_at deed es of has)
 told_at deed (Crashes ∷ es) of has = told_behind deed Crashes es (told_at deed es of has)
@@ -94,6 +100,7 @@ told_at deed (Crashes ∷ es) of has = told_behind deed Crashes es (told_at deed
 reading_of : Deed → Event
 reading_of (Created key) = Stops
 reading_of (Changed key change) = Stops
+reading_of (Deleted key) = Stops
 reading_of (Wrote key volume at blocks) = Stops
 reading_of (Saw key volume at blocks) = Reads key volume at blocks
 
@@ -113,10 +120,20 @@ module _ (key : Key) (volume : VolId) (at : ℕ) (blocks : List (List ℕ)) wher
   never_flushed answered other beside lives.Crashes has = never_in seen has
   never_flushed answered other beside (Woke count content) has = never_in seen has
 
+  -- nor does one of a database
+  never_gone : (other : Key) (e : log.Event) → Contains (gone_by other e) seen → ⊥
+  never_gone other (log.Issued identity) has = never_in seen has
+  never_gone other (log.Writing mark asked before table) has = never_in seen has
+  never_gone other log.Written has = never_in seen has
+  never_gone other (log.Told which before) has = never_in seen has
+  never_gone other (log.Placing places) has = never_in seen has
+  never_gone other log.Clearing has = never_in seen has
+  never_gone other log.Gone has = ⊎_elim (λ same. absurd (cc (same))) (never_in seen) (first_or_behind (Deleted other) seen [] has)
+
   seen_step : (answered untold : List Deed) (e : Event) → Contains (untold_after answered untold e) seen → Contains untold seen ⊎ (e ≡ read)
   unfolding reading_of
   seen_step answered untold (Creation other identity) has = inl has
-  seen_step answered untold (OfDatabase other identity e) has = inl has
+  seen_step answered untold (OfDatabase other identity e) has = elim (Contains-append_cases (gone_by other e) untold seen has) [ inl here ↦ absurd (never_gone other e here) | inr old ↦ inl old ]
   seen_step answered untold (OfVolume other beside e) has = elim (Contains-append_cases (flushed_by other beside e answered) untold seen has) [
     | inl here ↦ absurd (never_flushed answered other beside e here)
     | inr old ↦ inl old
@@ -124,6 +141,7 @@ module _ (key : Key) (volume : VolId) (at : ℕ) (blocks : List (List ℕ)) wher
   seen_step answered untold (Reads other beside from values) has = elim (first_or_behind (Saw other beside from values) seen untold has) [ inl here ↦ inr (ap reading_of here) | inr old ↦ inl old ]
   seen_step answered untold (Acknowledges place other beside from values) has = inl (in_without place untold seen has)
   seen_step answered untold (Shows place other beside from values) has = inl (in_without place untold seen has)
+  seen_step answered untold (Deletes place other) has = inl (in_without place untold seen has)
   seen_step answered untold (Boots other up) has = inl has
   seen_step answered untold Stops has = absurd (never_in seen has)
   seen_step answered untold Crashes has = inl has

@@ -28,17 +28,20 @@ use Rattle.mdv_standing.proofs.Versions.{version_has}
 use Rattle.mdv_standing.proofs.Voting.{in_log}
 use Rattle.mdv_store.specs.Records.{Spells}
 use Rattle.mdv_store_law.specs.Log as log
-use Rattle.mdv_store_law.specs.Log.{HasOneList, Log, Version, answered, empty_log}
+use Rattle.mdv_store_law.specs.Log.{HasOneList, IsAskable, Log, PlacesStay, Version, answered, empty_log}
+use Rattle.mdv_store_law.specs.Machine.{AreAll}
 use Rattle.mdv_survey.specs.Choice.{is_of}
 use Rattle.mdv_survey.specs.Replica.{at_of}
 use Rattle.mdv_survey.specs.declared.replica.Replica.{Replica}
 use Rattle.mdv_table.specs.declared.table.Table.{Table}
 use Rattle.mdv_volumes.specs.Happening.{IsCourse}
 use Rattle.mdv_volumes.specs.History.{Event, History, history_after_all}
-use Rattle.mdv_volumes.specs.HistoryLaws.{log_events_of, new_history}
+use Rattle.mdv_volumes.specs.HistoryLaws.{KeepPlaces, log_events_of, new_history}
+use Rattle.mdv_volumes.proofs.Found.{asked_one}
 use Rattle.mdv_volumes.proofs.Keys.{databases_live}
+use Rattle.mdv_volumes.proofs.Listed.{keep_asked}
 use Rattle.mdv_store_law.proofs.Anew.{made_lists}
-use Rattle.mdv_volumes.proofs.Lists.{contains_behind, contains_first, first_or_behind}
+use Rattle.mdv_volumes.proofs.Lists.{all_front, all_rest, contains_behind, contains_first, first_or_behind}
 use Rattle.mdv_theorem.proofs.Adopted.{open_shows}
 use Rattle.mdv_theorem.proofs.Lines.{never_in}
 
@@ -71,38 +74,39 @@ answered_has (newest ∷ older) v has = elim (first_or_behind (record newest { i
 ]
 
 module _ (g : Geometry) where
-  alike_step : (lg : Log) (e : log.Event) → log.MayHappen g lg e → AreAlike lg.family → AreAlike (log.log_after lg e).family
-  alike_step lg (log.Issued identity) may alike = none_alike
-  alike_step lg (log.Writing mark asked before table) may alike = more_alike _ lg.family alike (its may.1) (first may.1) where
+  alike_step : (lg : Log) (e : log.Event) → log.MayHappen g lg e → AreAll (IsAskable PlacesStay) (log.begins e) → AreAlike lg.family → AreAlike (log.log_after lg e).family
+  alike_step lg (log.Issued identity) may keep alike = none_alike
+  alike_step lg (log.Writing mark asked before table) may keep alike = more_alike _ lg.family alike (its may.1) (first may.1) where
     its : log.IsFirst lg.issued lg.family asked before table ⊎ log.IsNext g lg.family asked before table → HasOneList table
     its (inl is) = is.one
-    its (inr is) = let was = alike.one is.parent is.one_of in (was.0, made_lists g asked is.parent.table table was.0 is.made was.1)
+    its (inr is) = let was = alike.one is.parent is.one_of in (was.0, made_lists g asked is.parent.table table was.0 (asked_one PlacesStay asked keep) is.made was.1)
 
     first : log.IsFirst lg.issued lg.family asked before table ⊎ log.IsNext g lg.family asked before table → (w : Version) → Contains lg.family w → table.plan.lists ≡ w.table.plan.lists
     first (inl is) w has = absurd (never_in w (subst (λ (f : List Version). Contains f w) is.none has))
-    first (inr is) w has = (let was = alike.one is.parent is.one_of in made_lists g asked is.parent.table table was.0 is.made was.1 ∙ sym was.1) ∙ alike.same is.parent w is.one_of has
-  alike_step lg log.Written may alike = record {
+    first (inr is) w has = (let was = alike.one is.parent is.one_of in made_lists g asked is.parent.table table was.0 (asked_one PlacesStay asked keep) is.made was.1 ∙ sym was.1) ∙ alike.same is.parent w is.one_of has
+  alike_step lg log.Written may keep alike = record {
     one = λ v has. (let was = answered_has lg.family v has in subst HasOneList was.2 (alike.one was.0 was.1));
     same = λ v w has also.
         (let one = answered_has lg.family v has in let other = answered_has lg.family w also in
         ap (λ (t : Table). t.plan.lists) (sym one.2) ∙ alike.same one.0 other.0 one.1 other.1 ∙ ap (λ (t : Table). t.plan.lists) other.2);
   }
-  alike_step lg (log.Told which before) may alike = alike
-  alike_step lg (log.Placing places) may alike = alike
-  alike_step lg log.Clearing may alike = alike
-  alike_step lg log.Gone may alike = alike
+  alike_step lg (log.Told which before) may keep alike = alike
+  alike_step lg (log.Placing places) may keep alike = alike
+  alike_step lg log.Clearing may keep alike = alike
+  alike_step lg log.Gone may keep alike = alike
 
-  alike_all : (lg : Log) (es : List log.Event) → log.IsCourse g lg es → AreAlike lg.family → AreAlike (log.log_after_all lg es).family
-  alike_all lg [] course alike = alike
-  alike_all lg (e ∷ es) course alike = alike_all (log.log_after lg e) es course.1 (alike_step lg e course.0 alike)
+  alike_all : (lg : Log) (es : List log.Event) → log.IsCourse g lg es → AreAll (IsAskable PlacesStay) (log.begun_by es) → AreAlike lg.family → AreAlike (log.log_after_all lg es).family
+  alike_all lg [] course keep alike = alike
+  alike_all lg (e ∷ es) course keep alike =
+      alike_all (log.log_after lg e) es course.1 (all_rest (IsAskable PlacesStay) (log.begins e) (log.begun_by es) keep) (alike_step lg e course.0 (all_front (IsAskable PlacesStay) (log.begins e) (log.begun_by es) keep) alike)
 
-  -- so it is of a key's tables, whatever happens
-  pub alike_on : (key : Key) (h : History) (es : List Event) → IsCourse g h es → AreAlike (log_of h.databases key).family → AreAlike (log_of (history_after_all h es).databases key).family
-  alike_on key h es course alike =
-      subst (λ (lg : Log). AreAlike lg.family) (sym (databases_live.is key g h es course)) (alike_all (log_of h.databases key) (log_events_of key es) (databases_live.may key g h es course) alike)
+  -- so it is of a key's tables, whatever happens, if no change moves a place
+  pub alike_on : (key : Key) (h : History) (es : List Event) → IsCourse g h es → KeepPlaces key es → AreAlike (log_of h.databases key).family → AreAlike (log_of (history_after_all h es).databases key).family
+  alike_on key h es course keep alike =
+      subst (λ (lg : Log). AreAlike lg.family) (sym (databases_live.is key g h es course)) (alike_all (log_of h.databases key) (log_events_of key es) (databases_live.may key g h es course) (keep_asked key es keep) alike)
 
-  pub alike_from_new : (key : Key) (es : List Event) → IsCourse g new_history es → AreAlike (log_of (history_after_all new_history es).databases key).family
-  alike_from_new key es course = alike_on key new_history es course none_alike
+  pub alike_from_new : (key : Key) (es : List Event) → IsCourse g new_history es → KeepPlaces key es → AreAlike (log_of (history_after_all new_history es).databases key).family
+  alike_from_new key es course keep = alike_on key new_history es course keep none_alike
 
 -- A table of the key's current database that a replica shows is one of its log's versions.
 pub record HasVersion (lg : Log) (table : Table) : Type 0 where

@@ -5,13 +5,15 @@ use Rattle.std.proofs.lemmas.List.Elements.{All-cons, All-contains, All-head, Al
 use Rattle.mdv_base.specs.Mark.{IsBelow}
 use Rattle.mdv_base.specs.declared.mark.Mark.{Mark}
 use Rattle.mdv_store_law.specs.Log as log
-use Rattle.mdv_store_law.specs.Log.{IsLog, IsMade, IsNotOlder, IsRising, Log, Version, answered, is_firm, log_after}
+use Rattle.mdv_store_law.specs.Log.{IsAskable, IsLog, IsMade, IsNotOlder, IsRising, Issue, Log, Version, answered, is_firm, log_after}
+use Rattle.mdv_store_law.specs.Machine.{AreAll}
 use Rattle.mdv_store_law.proofs.Families.{contains_behind, contains_cases, contains_first, written_firm}
 use Rattle.mdv_store_law.proofs.Logs.{firm_stays, is_log_after, is_log_after_all}
 use Rattle.mdv_table.specs.Plan.{settled}
 use Rattle.mdv_volumes.specs.Below.{Change, Geometry, Table}
 use Rattle.mdv_volumes.specs.Happening.{MayBeFound}
 use Rattle.mdv_volumes.specs.HistoryLaws.{AsksTable, IsAsked}
+use Rattle.mdv_volumes.proofs.Lists.{all_front, all_rest}
 
 never_both : (a b : Mark) → IsBelow a b → IsBelow b a → ⊥
 never_both a b (inl lt) (inl gt) = omega (arith, lt, gt)
@@ -67,11 +69,11 @@ module _ (P : Table → Type 0) where
   abbrev pub AllFound : List Version → Type 0
   AllFound family = (v : Version) → MayBeFound family v → P v.table
 
-  written_found : (family : List Version) → log.IsBegun family → AllFound family → AllFound (answered family)
+  pub written_found : (family : List Version) → log.IsBegun family → AllFound family → AllFound (answered family)
   written_found [] begun all v found = absurd begun
   written_found (newest ∷ older) begun all v found = let was = found_before newest older v found in subst P was.2 (all was.0 was.1)
 
-  begun_found : (lg : Log) (mark : Mark) (asked : Option Change) (before : List Change) (table : Table) → P table → AllFound lg.family → AllFound (log_after lg (log.Writing mark asked before table)).family
+  pub begun_found : (lg : Log) (mark : Mark) (asked : Option Change) (before : List Change) (table : Table) → P table → AllFound lg.family → AllFound (log_after lg (log.Writing mark asked before table)).family
   begun_found lg mark asked before table here all v found = ⊎_elim (λ new. subst P (ap (λ (w : Version). w.table) new) here) (λ old. all v old)
       (older_found (record { mark = mark; table = table; changes = log.with_asked asked before; is_written = false }) lg.family v found)
 
@@ -122,27 +124,43 @@ module _ (g : Geometry) (P : Table → Type 0) where
     by [] rising firm all = absurd (cc firm)
     by (newest ∷ older) rising firm all = let found = newest_found newest older rising in (newest, found, all newest found)
 
--- and what no change takes from a table stays so
-module _ (g : Geometry) (P : Table → Type 0) (stays : (asked : Option Change) (old next : Table) → IsMade g asked old next → P old → P next) where
-  next_lasts : (lg : Log) (asked : Option Change) (before : List Change) (table : Table) → is_firm lg ≡ true → AllFound P lg.family → log.IsFirst lg.issued lg.family asked before table ⊎ log.IsNext g lg.family asked before table → P table
-  next_lasts lg asked before table firm all (inl first) = let none = subst (λ (f : List Version). list_any (λ v. v.is_written) f ≡ true) first.none firm in absurd (cc none)
-  next_lasts lg asked before table firm all (inr next) = stays asked next.parent.table table next.made (all next.parent (next.one_of, next.not_older))
+-- what is asked alone
+pub asked_one : (Which : Issue → Type 0) (asked : Option Change) → AreAll (IsAskable Which) (log.asks_of asked) → IsAskable Which asked
+asked_one Which None are = tt
+asked_one Which (Some change) are = are.0
 
-  all_step : (lg : Log) (e : log.Event) → log.MayHappen g lg e → is_firm lg ≡ true → AllFound P lg.family → AllFound P (log_after lg e).family
-  all_step lg (log.Issued identity) may firm all = λ v found. absurd (none_found v found)
-  all_step lg (log.Writing mark asked before table) may firm all = begun_found P lg mark asked before table (next_lasts lg asked before table firm all may.1) all
-  all_step lg log.Written may firm all = written_found P lg.family may all
-  all_step lg (log.Told which before) may firm all = all
-  all_step lg (log.Placing places) may firm all = all
-  all_step lg log.Clearing may firm all = all
-  all_step lg log.Gone may firm all = all
+-- and what no such change takes from a table stays so
+module _ (g : Geometry) (P : Table → Type 0) (Which : Issue → Type 0) (stays : (asked : Option Change) (old next : Table) → IsAskable Which asked → IsMade g asked old next → P old → P next) where
+  next_lasts : (lg : Log) (asked : Option Change) (before : List Change) (table : Table) → IsAskable Which asked → is_firm lg ≡ true → AllFound P lg.family → log.IsFirst lg.issued lg.family asked before table ⊎ log.IsNext g lg.family asked before table → P table
+  next_lasts lg asked before table may firm all (inl first) = let none = subst (λ (f : List Version). list_any (λ v. v.is_written) f ≡ true) first.none firm in absurd (cc none)
+  next_lasts lg asked before table may firm all (inr next) = stays asked next.parent.table table may next.made (all next.parent (next.one_of, next.not_older))
 
-  -- whatever happens to the log
-  pub kept_all : (lg : Log) (es : List log.Event) → log.IsCourse g lg es → is_firm lg ≡ true → AllFound P lg.family → (is_firm (log.log_after_all lg es) ≡ true) × AllFound P (log.log_after_all lg es).family
-  kept_all lg [] course firm all = (firm, all)
-  kept_all lg (e ∷ es) course firm all = kept_all (log_after lg e) es course.1 (firm_stays g lg e course.0 firm) (all_step lg e course.0 firm all)
+  all_step : (lg : Log) (e : log.Event) → log.MayHappen g lg e → AreAll (IsAskable Which) (log.begins e) → is_firm lg ≡ true → AllFound P lg.family → AllFound P (log_after lg e).family
+  all_step lg (log.Issued identity) may asks firm all = λ v found. absurd (none_found v found)
+  all_step lg (log.Writing mark asked before table) may asks firm all = begun_found P lg mark asked before table (next_lasts lg asked before table (asked_one Which asked asks) firm all may.1) all
+  all_step lg log.Written may asks firm all = written_found P lg.family may all
+  all_step lg (log.Told which before) may asks firm all = all
+  all_step lg (log.Placing places) may asks firm all = all
+  all_step lg log.Clearing may asks firm all = all
+  all_step lg log.Gone may asks firm all = all
 
-  pub lasting_all : (lg : Log) (es : List log.Event) → log.IsCourse g lg es → AreLasting g P lg → AreLasting g P (log.log_after_all lg es)
-  lasting_all lg es course are =
-      let kept = kept_all lg es course are.firm are.all in
+  -- whatever else happens to the log
+  pub kept_all : (lg : Log) (es : List log.Event) → log.IsCourse g lg es → AreAll (IsAskable Which) (log.begun_by es) → is_firm lg ≡ true → AllFound P lg.family → (is_firm (log.log_after_all lg es) ≡ true) × AllFound P (log.log_after_all lg es).family
+  kept_all lg [] course asks firm all = (firm, all)
+  kept_all lg (e ∷ es) course asks firm all =
+      kept_all (log_after lg e) es course.1 (all_rest (IsAskable Which) (log.begins e) (log.begun_by es) asks) (firm_stays g lg e course.0 firm)
+      (all_step lg e course.0 (all_front (IsAskable Which) (log.begins e) (log.begun_by es) asks) firm all)
+
+  pub lasting_where : (lg : Log) (es : List log.Event) → log.IsCourse g lg es → AreAll (IsAskable Which) (log.begun_by es) → AreLasting g P lg → AreLasting g P (log.log_after_all lg es)
+  lasting_where lg es course asks are =
+      let kept = kept_all lg es course asks are.firm are.all in
       record { is_log = is_log_after_all g lg es are.is_log course; firm = kept.0; all = kept.1 }
+
+-- what no change takes from it stays whatever happens
+pub lasting_all : (g : Geometry) (P : Table → Type 0) → ((asked : Option Change) (old next : Table) → IsMade g asked old next → P old → P next) → (lg : Log) (es : List log.Event) → log.IsCourse g lg es → AreLasting g P lg → AreLasting g P (log.log_after_all lg es)
+lasting_all g P stays lg es course are = lasting_where g P (λ issue. Unit {0}) (λ asked old next may. stays asked old next) lg es course (all_askable (log.begun_by es)) are
+  where
+    all_askable : (asks : List (Option Change)) → AreAll (IsAskable (λ issue. Unit {0})) asks
+    all_askable [] = tt
+    all_askable (None ∷ asks) = (tt, all_askable asks)
+    all_askable (Some change ∷ asks) = (tt, all_askable asks)

@@ -1,5 +1,5 @@
 -- What a history says of one key's log is what happened to that log.
-use Rattle.std.proofs.Common.{◌≡◌, inl, inr, true, false, List, [], ◌∷◌, ◌++◌, Option, Some, None, map, refl, sym, ◌∙◌, ap, subst}
+use Rattle.std.proofs.Common.{append_assoc, ◌≡◌, inl, inr, true, false, List, [], ◌∷◌, ◌++◌, Option, Some, None, map, refl, sym, ◌∙◌, ap, subst}
 use Rattle.mdv_shelf.proofs.Blocks.{both_ways}
 use Rattle.mdv_store_law.specs.Log as log
 use Rattle.mdv_store_law.proofs.Machine.{after_more, course_more}
@@ -7,8 +7,8 @@ use Rattle.mdv_databases.proofs.Creating.{creation_elsewhere, creation_here}
 use Rattle.mdv_databases.proofs.Lists.{events_elsewhere, events_log, key_differs, key_is}
 use Rattle.mdv_volumes.specs.Below.{Change, Geometry, Identity, Key, Log, VolId, is_firm}
 use Rattle.mdv_volumes.specs.Databases.{Database, current_of, log_in, log_of, same_key, with_creation, with_event}
-use Rattle.mdv_volumes.specs.Happening.{IsCourse, IsOfCurrent, MayHappen, deed_of, issued_by, told_by}
-use Rattle.mdv_volumes.specs.History.{Acknowledges, Boots, Crashes, Creation, Deed, Event, History, OfDatabase, OfVolume, Reads, Shows, Stops, databases_after, history_after, history_after_all}
+use Rattle.mdv_volumes.specs.Happening.{IsCourse, IsOfCurrent, MayHappen, ends_of, begun_at, deed_of, issued_by, told_by}
+use Rattle.mdv_volumes.specs.History.{Acknowledges, Boots, Crashes, Creation, Deed, Deletes, Event, History, OfDatabase, OfVolume, Reads, Shows, Stops, databases_after, history_after, history_after_all}
 use Rattle.mdv_volumes.specs.HistoryLaws.{DatabasesLive, database_deeds, log_events_at, log_events_of}
 use Rattle.mdv_volumes.specs.Happening.{begun_of}
 use Rattle.mdv_volumes.specs.Events.{Answers, Begins, Flushes, Issues, VolumeEvent, Woke}
@@ -49,6 +49,7 @@ module _ (key : Key) where
   log_step g h (Reads other volume at blocks) may = refl
   log_step g h (Acknowledges place other volume at blocks) may = refl
   log_step g h (Shows place other volume at blocks) may = refl
+  log_step g h (Deletes place other) may = refl
   log_step g h (Boots other up) may = refl
   log_step g h Stops may = refl
   log_step g h Crashes may = refl
@@ -79,6 +80,7 @@ module _ (key : Key) where
     may_step h (Reads other volume at blocks) may = tt
     may_step h (Acknowledges place other volume at blocks) may = tt
     may_step h (Shows place other volume at blocks) may = tt
+    may_step h (Deletes place other) may = tt
     may_step h (Boots other up) may = tt
     may_step h Stops may = tt
     may_step h Crashes may = tt
@@ -111,6 +113,7 @@ module _ (key : Key) where
   tells_all (Reads other volume at blocks ∷ es) = tells_all es
   tells_all (Acknowledges place other volume at blocks ∷ es) = tells_all es
   tells_all (Shows place other volume at blocks ∷ es) = tells_all es
+  tells_all (Deletes place other ∷ es) = tells_all es
   tells_all (Boots other up ∷ es) = tells_all es
   tells_all (Stops ∷ es) = tells_all es
   tells_all (Crashes ∷ es) = tells_all es
@@ -124,6 +127,20 @@ module _ (key : Key) where
   of_volume other volume lives.Crashes deeds = refl
   of_volume other volume (Woke count content) deeds = refl
 
+  -- nor is its end a creation or a change
+  of_end : (other : Key) (e : log.Event) (deeds : List Deed) → database_deeds key (ends_of other e ++ deeds) ≡ database_deeds key deeds
+  of_end other (log.Issued identity) deeds = refl
+  of_end other (log.Writing mark asked before table) deeds = refl
+  of_end other log.Written deeds = refl
+  of_end other (log.Told which before) deeds = refl
+  of_end other (log.Placing places) deeds = refl
+  of_end other log.Clearing deeds = refl
+  of_end other log.Gone deeds = refl
+
+  -- what an event of a database begins, and more behind it
+  begun_more : (other : Key) (e : log.Event) (deeds : List Deed) → database_deeds key (begun_at other e ++ deeds) ≡ database_deeds key (map (deed_of other) (log.begins e) ++ (ends_of other e ++ deeds))
+  begun_more other e deeds = ap (database_deeds key) (append_assoc (map (deed_of other) (log.begins e)) (ends_of other e) deeds)
+
   begins_all : (es : List Event) → log.begun_by (log_events_of key es) ≡ database_deeds key (issued_by es)
   begins_all [] = refl
   begins_all (Creation other identity ∷ es) = elim (both_ways (same_key key other)) [
@@ -131,13 +148,18 @@ module _ (key : Key) where
     | inr never ↦ rw never (begins_all es)
   ]
   begins_all (OfDatabase other identity e ∷ es) = elim (both_ways (same_key key other)) [
-    | inl does ↦ rw does (ap (λ (l : List (Option Change)). log.begins e ++ l) (begins_all es) ∙ sym (deeds_more other (log.begins e) (issued_by es) does))
-    | inr never ↦ rw never (begins_all es ∙ sym (deeds_none other (log.begins e) (issued_by es) never))
+    | inl does ↦
+        let its = begun_more other e (issued_by es) ∙ deeds_more other (log.begins e) (ends_of other e ++ issued_by es) does ∙ ap (λ (l : List (Option Change)). log.begins e ++ l) (of_end other e (issued_by es)) in
+        rw does (ap (λ (l : List (Option Change)). log.begins e ++ l) (begins_all es) ∙ sym its)
+    | inr never ↦
+        let its = begun_more other e (issued_by es) ∙ deeds_none other (log.begins e) (ends_of other e ++ issued_by es) never ∙ of_end other e (issued_by es) in
+        rw never (begins_all es ∙ sym its)
   ]
   begins_all (OfVolume other volume e ∷ es) = begins_all es ∙ sym (of_volume other volume e (issued_by es))
   begins_all (Reads other volume at blocks ∷ es) = begins_all es
   begins_all (Acknowledges place other volume at blocks ∷ es) = begins_all es
   begins_all (Shows place other volume at blocks ∷ es) = begins_all es
+  begins_all (Deletes place other ∷ es) = begins_all es
   begins_all (Boots other up ∷ es) = begins_all es
   begins_all (Stops ∷ es) = begins_all es
   begins_all (Crashes ∷ es) = begins_all es

@@ -3,13 +3,14 @@ use Rattle.std.proofs.Common.{◌≡◌, inl, inr, List, [], ◌∷◌, ◌++◌
 use Rattle.std.proofs.lemmas.List.{map-append}
 use Rattle.mdv_shelf.proofs.Blocks.{both_ways}
 use Rattle.mdv_store_law.specs.Log as log
+use Rattle.mdv_store_law.specs.Machine.{all_of}
 use Rattle.mdv_databases.proofs.Creating.{creation_elsewhere, creation_here, creation_its}
 use Rattle.mdv_databases.proofs.Lists.{events_elsewhere, events_here, events_log, key_differs, key_is}
 use Rattle.mdv_volumes.specs.Below.{AreDisjoint, Change, Follows, Geometry, HasVolume, Identity, IsCurrentOf, Key, KeptOutside, Log, Map, Stand, Table, Tale, Version, VolId, site_area, site_of, with_events}
 use Rattle.mdv_volumes.specs.Databases.{Database, current_of, log_in, log_of, same_key, with_creation, with_event}
-use Rattle.mdv_volumes.specs.Happening.{IsCourse, IsNamed, MayBeFound, deed_of, issued_by, told_by}
+use Rattle.mdv_volumes.specs.Happening.{IsCourse, IsNamed, MayBeFound, begun_at, deed_of, issued_by, told_by}
 use Rattle.mdv_volumes.specs.Histories.{Stands}
-use Rattle.mdv_volumes.specs.History.{Deed, History, history_after_all}
+use Rattle.mdv_volumes.specs.History.{Deed, Deleted, History, gone_by, history_after_all}
 use Rattle.mdv_volumes.specs.HistoryLaws.{AreLater, CreationsGo, DatabasesGo, IsAsked, IsLifted, IsReady, identity_in, lifted}
 use Rattle.mdv_volumes.specs.Tables.{AreLaid, IsMapOf}
 use Rattle.mdv_volumes.proofs.Databases.{is_log_of}
@@ -19,8 +20,13 @@ use Rattle.mdv_volumes.proofs.Standing.{frames_stand}
 use Rattle.mdv_volumes.proofs.Volumes.{named_as}
 
 module _ (key : Key) where
+  -- what was done, and isn't told, behind them
+  abbrev pub untold_by : List log.Event → List Deed → List Deed
+  untold_by [] untold = untold
+  untold_by (e ∷ es) untold = untold_by es (gone_by key e ++ untold)
+
   -- nothing else of the history changes
-  pub lifted_after : (h : History) (identity : Identity) (es : List log.Event) → AreLater es → history_after_all h (lifted key identity es) ≡ record h { databases = with_events key es h.databases }
+  pub lifted_after : (h : History) (identity : Identity) (es : List log.Event) → AreLater es → history_after_all h (lifted key identity es) ≡ record h { databases = with_events key es h.databases; untold = untold_by es h.untold }
   lifted_after h identity [] later = refl
   lifted_after h identity (log.Issued other ∷ es) later = absurd later.0
   lifted_after h identity (log.Writing mark asked before table ∷ es) later = lifted_after (record h { databases = with_event key (log.Writing mark asked before table) h.databases }) identity es later.1
@@ -28,7 +34,7 @@ module _ (key : Key) where
   lifted_after h identity (log.Told which before ∷ es) later = lifted_after (record h { databases = with_event key (log.Told which before) h.databases }) identity es later.1
   lifted_after h identity (log.Placing places ∷ es) later = lifted_after (record h { databases = with_event key (log.Placing places) h.databases }) identity es later.1
   lifted_after h identity (log.Clearing ∷ es) later = lifted_after (record h { databases = with_event key log.Clearing h.databases }) identity es later.1
-  lifted_after h identity (log.Gone ∷ es) later = lifted_after (record h { databases = with_event key log.Gone h.databases }) identity es later.1
+  lifted_after h identity (log.Gone ∷ es) later = lifted_after (record h { databases = with_event key log.Gone h.databases; untold = Deleted key ∷ h.untold }) identity es later.1
 
   -- each may happen there
   lifted_course : (g : Geometry) (h : History) (es : List log.Event) (d : Database) → AreLater es → current_of h.databases key ≡ Some d → log.IsCourse g d.log es → IsCourse g h (lifted key d.identity es)
@@ -56,21 +62,21 @@ module _ (key : Key) where
   )
   lifted_course g h (log.Gone ∷ es) d later is course = (
     record { database = d; current = is; as_begun = refl; later = tt; may = course.0 },
-    lifted_course g (record h { databases = with_event key log.Gone h.databases }) es _ later.1 (events_here key (log.Gone ∷ []) h.databases d is) course.1,
+    lifted_course g (record h { databases = with_event key log.Gone h.databases; untold = Deleted key ∷ h.untold }) es _ later.1 (events_here key (log.Gone ∷ []) h.databases d is) course.1,
   )
 
   -- they begin what the log's begin, and tell what those tell
   more_deeds : (a b : List (Option Change)) (rest : List Deed) → rest ≡ map (deed_of key) b → map (deed_of key) a ++ rest ≡ map (deed_of key) (a ++ b)
   more_deeds a b rest is = ap (λ (l : List Deed). map (deed_of key) a ++ l) is ∙ sym (map-append (deed_of key) a b)
 
-  lifted_begins : (identity : Identity) (es : List log.Event) → AreLater es → issued_by (lifted key identity es) ≡ map (deed_of key) (log.begun_by es)
+  lifted_begins : (identity : Identity) (es : List log.Event) → AreLater es → issued_by (lifted key identity es) ≡ all_of (begun_at key) es
   lifted_begins identity [] later = refl
   lifted_begins identity (log.Issued other ∷ es) later = absurd later.0
-  lifted_begins identity (log.Writing mark asked before table ∷ es) later = more_deeds (log.asks_of asked) (log.begun_by es) (issued_by (lifted key identity es)) (lifted_begins identity es later.1)
+  lifted_begins identity (log.Writing mark asked before table ∷ es) later = ap (λ (l : List Deed). begun_at key (log.Writing mark asked before table) ++ l) (lifted_begins identity es later.1)
   lifted_begins identity (log.Written ∷ es) later = lifted_begins identity es later.1
   lifted_begins identity (log.Told which before ∷ es) later = lifted_begins identity es later.1
   lifted_begins identity (log.Placing places ∷ es) later = lifted_begins identity es later.1
-  lifted_begins identity (log.Clearing ∷ es) later = lifted_begins identity es later.1
+  lifted_begins identity (log.Clearing ∷ es) later = ap (λ (l : List Deed). Deleted key ∷ l) (lifted_begins identity es later.1)
   lifted_begins identity (log.Gone ∷ es) later = lifted_begins identity es later.1
 
   lifted_tells : (identity : Identity) (es : List log.Event) → told_by (lifted key identity es) ≡ map (deed_of key) (log.told_by es)
@@ -115,8 +121,8 @@ module _ (g : Geometry) (h : History) (key : Key) (now : List Database) (t m : T
       (λ volume beside v w differ named named_own. swapped w v ((ready named_own.version named_own.found).apart k beside volume w v away named_own.map (other_named k volume v away named)))
       (λ away_other volume beside v w differ named named_other. stands.apart k other volume beside v w differ (other_named k volume v away named) (other_named other beside w away_other named_other)))
 
-  stands_now : Stands g (record h { databases = now }) m
-  stands_now = record { databases = databases; laid = laid_now; apart = apart_now; volumes = volumes_now }
+  stands_now : (untold : List Deed) → Stands g (record h { databases = now; untold = untold }) m
+  stands_now untold = record { databases = databases; laid = laid_now; apart = apart_now; volumes = volumes_now }
 
 module _ (g : Geometry) (h : History) (key : Key) (identity : Identity) (es : List log.Event) (t m : Tale) (stands : Stands g h t) (its : IsCurrentOf h.databases key identity) (later : AreLater es)
     (course : log.IsCourse g (log_of h.databases key) es) (databases : Stand g (with_events key es h.databases) m) (kept : KeptOutside (site_area (site_of g key)) t m)
@@ -186,7 +192,7 @@ module _ (g : Geometry) (h : History) (key : Key) (identity : Identity) (es : Li
           course = course_lifted;
           begins = lifted_begins key name es later;
           tells = lifted_tells key name es;
-          stands = subst (λ (x : History). Stands g x m) (sym after) (stands_now g h key behind t m stands databases others own_ready followed);
+          stands = subst (λ (x : History). Stands g x m) (sym after) (stands_now g h key behind t m stands databases others own_ready followed (untold_by key es h.untold));
         };
         own = ap (λ (x : History). log_of x.databases key) after ∙ own;
         others = λ other differ. ap (λ (x : History). log_of x.databases other) after ∙ others other differ;
@@ -206,7 +212,7 @@ creations_go g h key identity t stands may databases = record {
     begins = refl;
     tells = refl;
     stands = stands_now g h key (with_creation key identity h.databases) t t stands databases (λ other differ. ap log_in (creation_elsewhere key identity h.databases other differ))
-        (λ v found. absurd (none_found v (subst (λ (o : Option Database). MayBeFound (log_in o).family v) (creation_here key identity h.databases) found))) stands.volumes;
+        (λ v found. absurd (none_found v (subst (λ (o : Option Database). MayBeFound (log_in o).family v) (creation_here key identity h.databases) found))) stands.volumes h.untold;
   };
   its = creation_its key identity h.databases;
 }

@@ -1,11 +1,10 @@
 -- What a change leaves of a table, and what the end of a change of places does, which leaves all its volumes.
-use Rattle.std.proofs.Common.{◌≡◌, inl, inr, List, Option, Some, None, sym, ◌∙◌, ap, subst}
+use Rattle.std.proofs.Common.{◌≡◌, inl, inr, Option, Some, None, sym, subst}
 use Rattle.mdv_shelf.specs.Tale.{Tale}
 use Rattle.mdv_store_law.specs.Log.{IsMade, IsSameOrSettled}
-use Rattle.mdv_table.specs.Plan.{last_of, settled}
-use Rattle.mdv_table.specs.declared.plan.Lists.{Lists}
-use Rattle.mdv_table.specs.declared.plan.Plan.{Plan}
-use Rattle.mdv_volumes.specs.Below.{Change, Geometry, Key, MakeStripe, Map, One, Place, Table, VolId}
+use Rattle.mdv_table.specs.Plan.{settled}
+use Rattle.mdv_store_law.specs.Changes.{AddPlaces, DropPlaces, FirstPlace, OfPlan, moved}
+use Rattle.mdv_volumes.specs.Below.{Change, Geometry, Key, MakeStripe, Map, Table, VolId}
 use Rattle.mdv_volumes.specs.History.{History}
 use Rattle.mdv_volumes.specs.HistoryLaws.{IsReady}
 use Rattle.mdv_volumes.specs.Tables.{AreLaid, IsMapOf}
@@ -43,8 +42,15 @@ pub map_was : (g : Geometry) (old next : Table) (volume : VolId) (v : Map) → I
 map_was g old next volume v (inl same) map = subst (λ (t : Table). IsMapOf g t volume v) same map
 map_was g old next volume v (inr over) map = settled_map g old volume v (subst (λ (t : Table). IsMapOf g t volume v) over map)
 
+-- places that come and go leave the volumes
+map_moved : (g : Geometry) (change : Change) (old next : Table) (volume : VolId) (v : Map) → next ≡ moved change old → IsMapOf g old volume v → IsMapOf g next volume v
+map_moved g change old next volume v made map = subst (λ (table : Table). IsMapOf g table volume v) (sym made) (record { of = map.of; has = map.has; kind = map.kind })
+
 -- a volume stays where it lies
 pub map_stays : (g : Geometry) (volume : VolId) (v : Map) (asked : Option Change) (old next : Table) → IsMade g asked old next → IsMapOf g old volume v → IsMapOf g next volume v
 map_stays g volume v None old next (inl same) map = subst (λ (table : Table). IsMapOf g table volume v) (sym same) map
 map_stays g volume v None old next (inr over) map = subst (λ (table : Table). IsMapOf g table volume v) (sym over) (map_settled g old volume v map)
-map_stays g volume v (Some (MakeStripe other slice)) old next made map = tables_lie.stays g old next other slice volume v made.0 map
+map_stays g volume v (Some (OfPlan (MakeStripe other slice))) old next made map = tables_lie.stays g old next other slice volume v made.0 map
+map_stays g volume v (Some (AddPlaces slices count blocks)) old next made map = map_moved g (AddPlaces slices count blocks) old next volume v made map
+map_stays g volume v (Some (DropPlaces slices)) old next made map = map_moved g (DropPlaces slices) old next volume v made map
+map_stays g volume v (Some FirstPlace) old next made map = map_moved g FirstPlace old next volume v made map

@@ -8,7 +8,7 @@ use Rattle.mdv_volumes.specs.Below.{Change, Geometry, IsCurrentOf, Key, KeptOuts
 use Rattle.mdv_volumes.specs.Databases.{Database, current_of, log_of, same_key}
 use Rattle.mdv_volumes.specs.Happening.{deed_of}
 use Rattle.mdv_volumes.specs.Histories.{Happens, Stands}
-use Rattle.mdv_volumes.specs.History.{Acknowledges, Changed, Created, Deed, Event, History, Saw, Shows, Wrote, history_after_all}
+use Rattle.mdv_volumes.specs.History.{Acknowledges, Changed, Created, Deed, Deleted, Deletes, Event, History, Saw, Shows, Wrote, history_after_all}
 use Rattle.mdv_volumes.specs.HistoryLaws.{IsAsked, IsLifted, IsTellable, IsTold, TellsGo, identity_in, lifted}
 use Rattle.mdv_volumes.proofs.Databases.{current_some}
 use Rattle.mdv_volumes.proofs.Lifting.{databases_go}
@@ -58,6 +58,12 @@ module _ (g : Geometry) (h : History) (t : Tale) (stands : Stands g h t) where
 pub tells_go : TellsGo
 tells_go g h (Created key) t can stands = told_by_database g h t stands key None can
 tells_go g h (Changed key change) t can stands = told_by_database g h t stands key (Some change) can
+tells_go g h (Deleted key) t can stands = told_one g h t stands (Deleted key) (Deletes can.0.0 key) (record {
+  course = (((can.0.1, can.0.2), can.1), tt);
+  begins = refl;
+  tells = refl;
+  stands = record { databases = stands.databases; laid = stands.laid; apart = stands.apart; volumes = stands.volumes };
+}) refl refl
 tells_go g h (Wrote key volume at blocks) t can stands = told_one g h t stands (Wrote key volume at blocks) (Acknowledges can.untold.0 key volume at blocks) (record {
   course = (((can.untold.1, can.untold.2), can.range, can.only), tt);
   begins = refl;

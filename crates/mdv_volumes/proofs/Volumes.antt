@@ -1,13 +1,13 @@
 -- What happens to one volume of a history, while the others stay.
 use Rattle.std.proofs.Common.{◌≡◌, inl, inr, Bool, true, false, List, ◌∷◌, ◌++◌, refl, sym, ◌∙◌, ap, subst}
 use Rattle.mdv_shelf.proofs.Blocks.{both_ways}
-use Rattle.mdv_store_law.specs.Log.{IsRising, Version}
+use Rattle.mdv_store_law.specs.Log.{IsRising, Issue, Version}
 use Rattle.mdv_store_law.specs.Machine.{AreAll}
 use Rattle.mdv_store_law.specs.Machine as machine
 use Rattle.mdv_store_law.specs.Part.{IsPart}
 use Rattle.mdv_store_law.proofs.Machine.{after_more, all_more, course_more}
 use Rattle.mdv_databases.proofs.Lists.{key_differs, key_is}
-use Rattle.mdv_volumes.specs.Below.{AreDisjoint, Follows, Geometry, Identity, Key, Log, Map, Stand, Tale, VolId}
+use Rattle.mdv_volumes.specs.Below.{AreDisjoint, Follows, Geometry, Key, Log, Map, Stand, Tale, VolId}
 use Rattle.mdv_volumes.specs.Databases.{Database, is_volume, log_of, same_key}
 use Rattle.mdv_volumes.specs.Events.{VolumeEvent}
 use Rattle.mdv_volumes.specs.Events as lives
@@ -93,7 +93,7 @@ module _ (g : Geometry) (h : History) (key : Key) (volume : VolId) (e : VolumeEv
   }
 
 -- events that happen, in the form of a history that goes on
-pub goes_by : (g : Geometry) (h : History) (Which : Identity → Type 0) (asks : List Deed) (After : List Event → History → Type 0) (es : List Event) (begun told : List Deed) (m : Tale) → Happens g h es begun told m → IsPart begun asks
+pub goes_by : (g : Geometry) (h : History) (Which : Issue → Type 0) (asks : List Deed) (After : List Event → History → Type 0) (es : List Event) (begun told : List Deed) (m : Tale) → Happens g h es begun told m → IsPart begun asks
     → AreAll (IsIssue Which) es → After es (history_after_all h es) → machine.Goes history_after (MayHappen g) (Adds Which asks told) (λ next. Stands g next m) After h
 goes_by g h Which asks After es begun told m happens part issues after = record {
   es = es;

@@ -14,6 +14,7 @@ pub use Rattle.mdv_name.specs.declared.slice_lines.SliceAt.{SliceAt}
 pub use Rattle.mdv_shelf.specs.Area.{Area, AreApart, IsKept, KeptOutside, range}
 pub use Rattle.mdv_shelf.specs.Everywhere.{Image}
 pub use Rattle.mdv_shelf.specs.Tale.{Among, Begun, IsImage, MayLeave, Start, Tale, last, values}
+pub use Rattle.mdv_store_law.specs.Changes.{Change}
 pub use Rattle.mdv_store_law.specs.Laws.{restarted}
 pub use Rattle.mdv_store_law.specs.Log.{Log, Version, empty_log, is_firm}
 pub use Rattle.mdv_databases.specs.Going.{IsCurrentOf, with_events}
@@ -27,9 +28,9 @@ pub use Rattle.mdv_table.specs.Change.{IsAfter}
 pub use Rattle.mdv_table.specs.Slices.{IsSound}
 pub use Rattle.mdv_table.specs.Table.{IsOfGeometry}
 pub use Rattle.mdv_table.specs.Volumes.{HasVolume}
-pub use Rattle.mdv_table.specs.declared.change.Change.{Change}
 pub use Rattle.mdv_table.specs.declared.change.Change.TheVariants.{MakeStripe}
-pub use Rattle.mdv_table.specs.declared.plan.Lists.TheVariants.{One}
+pub use Rattle.mdv_table.specs.declared.plan.Lists.{Lists}
+pub use Rattle.mdv_table.specs.declared.plan.Lists.TheVariants.{One, Two}
 pub use Rattle.mdv_table.specs.declared.table.Table.{Table}
 pub use Rattle.mdv_table.specs.declared.volume.Base.{Base}
 pub use Rattle.mdv_table.specs.declared.volume.Base.TheVariants.{Slice}

@@ -1,5 +1,5 @@
 -- When each event of a history may happen, what it tells and what it begins.
-use Rattle.std.specs.Prelude.{◌≡◌, ℕ, ◌+◌, ◌<◌, ◌≤◌, true, false, List, [], ◌∷◌, length, map, slice_index_or, Option, None, Some}
+use Rattle.std.specs.Prelude.{◌++◌, ◌≡◌, ℕ, ◌+◌, ◌<◌, ◌≤◌, true, false, List, [], ◌∷◌, length, map, slice_index_or, Option, None, Some}
 use Rattle.mdv_volumes.specs.Below.{Change, Geometry, Identity, IsFresh, Key, Map, Version, VolId, VolumeLog, is_firm, only}
 use Rattle.mdv_store_law.specs.Log as log
 use Rattle.mdv_store_law.specs.Machine.{all_of}
@@ -8,7 +8,7 @@ use Rattle.mdv_volumes.specs.Databases.{Database, current_of, log_of}
 pub use Rattle.mdv_databases.specs.Meeting.{MayBeFound}
 use Rattle.mdv_volumes.specs.Events.{VolumeEvent, Issues, Answers, Flushes, Begins, Woke, AreReadable}
 use Rattle.mdv_volumes.specs.Events as lives
-use Rattle.mdv_volumes.specs.History.{Deed, Created, Changed, Wrote, Saw, Event, Creation, OfDatabase, OfVolume, Reads, Acknowledges, Shows, Boots, Stops, Crashes, History, history_after}
+use Rattle.mdv_volumes.specs.History.{Deed, Created, Changed, Deleted, Deletes, Wrote, Saw, Event, Creation, OfDatabase, OfVolume, Reads, Acknowledges, Shows, Boots, Stops, Crashes, History, history_after}
 use Rattle.mdv_volumes.specs.Tables.{IsMapOf}
 
 -- a table that a boot may find has the volume, with this map
@@ -65,6 +65,10 @@ IsPlaced g h key volume (Begins from logs) = (v : Map) → IsNamed g h.databases
 IsPlaced g h key volume lives.Crashes = ⊥
 IsPlaced g h key volume (Woke count content) = Unit {0}
 
+-- the key's current database is over
+abbrev pub IsOver : List Database → Key → Type 0
+IsOver databases key = (log_of databases key).fate ≡ log.Over
+
 -- this deed is done and not told, at that place of the list
 abbrev pub IsUntoldAt : List Deed → ℕ → Deed → Type 0
 IsUntoldAt deeds place deed = (place < length deeds) × (slice_index_or deeds place deed ≡ deed)
@@ -73,7 +77,7 @@ IsUntoldAt deeds place deed = (place < length deeds) × (slice_index_or deeds pl
 abbrev pub HaveOnly : VolumeLog → ℕ → List (List ℕ) → Type 0
 HaveOnly log at blocks = (k : ℕ) → k < length blocks → log (at + k) ≡ only (slice_index_or blocks k [])
 
--- When each event may happen. A write is told while its values are all that its blocks may have, whatever crashes.
+-- When each event may happen. A write is told while its values are all that its blocks may have, whatever crashes; an end while no image has the key's database.
 abbrev pub MayHappen : Geometry → History → Event → Type 0
 MayHappen g h (Creation key identity) = MayBegin h.databases key identity
 MayHappen g h (OfDatabase key identity e) = IsOfCurrent g h.databases key identity e
@@ -81,6 +85,7 @@ MayHappen g h (OfVolume key volume e) = lives.MayHappen (h.volumes key volume) e
 MayHappen g h (Reads key volume at blocks) = HasRange g h.databases key volume at (length blocks) × AreReadable (h.volumes key volume) at blocks
 MayHappen g h (Acknowledges place key volume at blocks) = IsUntoldAt h.untold place (Wrote key volume at blocks) × HasRange g h.databases key volume at (length blocks) × HaveOnly (h.volumes key volume) at blocks
 MayHappen g h (Shows place key volume at blocks) = IsUntoldAt h.untold place (Saw key volume at blocks)
+MayHappen g h (Deletes place key) = IsUntoldAt h.untold place (Deleted key) × IsOver h.databases key
 MayHappen g h (Boots key up) = Unit {0}
 MayHappen g h Stops = Unit {0}
 MayHappen g h Crashes = (h.answered ≡ []) × (h.untold ≡ [])
@@ -102,12 +107,27 @@ tells (OfVolume key volume e) = []
 tells (Reads key volume at blocks) = []
 tells (Acknowledges place key volume at blocks) = Wrote key volume at blocks ∷ []
 tells (Shows place key volume at blocks) = Saw key volume at blocks ∷ []
+tells (Deletes place key) = Deleted key ∷ []
 tells (Boots key up) = []
 tells Stops = []
 tells Crashes = []
 
 abbrev pub told_by : List Event → List Deed
 told_by = all_of tells
+
+-- an end of the key's database begins where its last master is about to be blanked
+abbrev pub ends_of : Key → log.Event → List Deed
+ends_of key (log.Issued identity) = []
+ends_of key (log.Writing mark asked before table) = []
+ends_of key log.Written = []
+ends_of key (log.Told which before) = []
+ends_of key (log.Placing places) = []
+ends_of key log.Clearing = Deleted key ∷ []
+ends_of key log.Gone = []
+
+-- what an event of a key's database begins
+abbrev pub begun_at : Key → log.Event → List Deed
+begun_at key e = map (deed_of key) (log.begins e) ++ ends_of key e
 
 -- what an event of a volume begins
 abbrev pub begun_of : Key → VolId → VolumeEvent → List Deed
@@ -121,11 +141,12 @@ begun_of key volume (Woke count content) = []
 -- what an event begins
 abbrev pub begins : Event → List Deed
 begins (Creation key identity) = Created key ∷ []
-begins (OfDatabase key identity e) = map (deed_of key) (log.begins e)
+begins (OfDatabase key identity e) = begun_at key e
 begins (OfVolume key volume e) = begun_of key volume e
 begins (Reads key volume at blocks) = []
 begins (Acknowledges place key volume at blocks) = []
 begins (Shows place key volume at blocks) = []
+begins (Deletes place key) = []
 begins (Boots key up) = []
 begins Stops = []
 begins Crashes = []
@@ -133,18 +154,19 @@ begins Crashes = []
 abbrev pub issued_by : List Event → List Deed
 issued_by = all_of begins
 
--- no run ends by the event, and no drive begins anew; and a creation that it issues is such a one
-abbrev pub IsIssue : (Identity → Type 0) → Event → Type 0
-IsIssue Which (Creation key identity) = Which identity
-IsIssue Which (OfDatabase key identity e) = Unit {0}
+-- no run ends by the event, and no drive begins anew; and what it issues of a database is so
+abbrev pub IsIssue : (log.Issue → Type 0) → Event → Type 0
+IsIssue Which (Creation key identity) = Which (log.OfCreation identity)
+IsIssue Which (OfDatabase key identity e) = log.IsIssue Which e
 IsIssue Which (OfVolume key volume e) = Unit {0}
 IsIssue Which (Reads key volume at blocks) = Unit {0}
 IsIssue Which (Acknowledges place key volume at blocks) = Unit {0}
 IsIssue Which (Shows place key volume at blocks) = Unit {0}
+IsIssue Which (Deletes place key) = Unit {0}
 IsIssue Which (Boots key up) = Unit {0}
 IsIssue Which Stops = ⊥
 IsIssue Which Crashes = ⊥
 
--- The events of a run tell these deeds, and begin only deeds that are asked, in that order and each once; and each creation is such a one.
-abbrev pub Adds : (Identity → Type 0) → List Deed → List Deed → List Event → Type 0
+-- The events of a run tell these deeds, and begin only deeds that are asked, in that order and each once; and what they issue of databases is so.
+abbrev pub Adds : (log.Issue → Type 0) → List Deed → List Deed → List Event → Type 0
 Adds Which = machine.Adds tells begins (IsIssue Which)

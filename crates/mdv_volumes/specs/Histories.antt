@@ -1,6 +1,7 @@
 -- How the drives stand with a history, and how it goes on.
 use Rattle.std.specs.Prelude.{◌≡◌, List}
-use Rattle.mdv_volumes.specs.Below.{AreDisjoint, Follows, Geometry, Identity, Key, Map, Stand, Tale, Version, VolId}
+use Rattle.mdv_store_law.specs.Log.{Issue}
+use Rattle.mdv_volumes.specs.Below.{AreDisjoint, Follows, Geometry, Key, Map, Stand, Tale, Version, VolId}
 use Rattle.mdv_store_law.specs.Machine as machine
 use Rattle.mdv_volumes.specs.Databases.{log_of}
 use Rattle.mdv_volumes.specs.Happening.{Adds, IsCourse, IsNamed, MayBeFound, MayHappen, issued_by, told_by}
@@ -23,7 +24,7 @@ pub record Happens (g : Geometry) (h : History) (es : List Event) (begun told : 
   pub stands : Stands g (history_after_all h es) m
 
 -- A history that the drives stood with, and of which so much was known, goes on by some events, which tell these deeds and
--- begin only such creations and deeds that are asked, to one that they stand with, of which more is known.
-abbrev pub Goes : Geometry → (History → Type 0) → (Identity → Type 0) → List Deed → List Deed → (List Event → History → Type 0) → Tale → Tale → Type 0
+-- begin only deeds that are asked, and issue such things alone of databases, to one that they stand with, of which more is known.
+abbrev pub Goes : Geometry → (History → Type 0) → (Issue → Type 0) → List Deed → List Deed → (List Event → History → Type 0) → Tale → Tale → Type 0
 Goes g Known Which asks told After t m =
     (h : History) → Stands g h t → Known h → machine.Goes history_after (MayHappen g) (Adds Which asks told) (λ next. Stands g next m) After h

@@ -7,15 +7,16 @@ use Rattle.mdv_volumes.specs.Databases.{Database, is_volume, same_key, with_crea
 use Rattle.mdv_volumes.specs.Events.{VolumeEvent, Issues, Answers, Flushes, Begins, Woke, AreReadable, log_after}
 use Rattle.mdv_volumes.specs.Events as lives
 
--- what an `ok` acknowledges: a database, a change of its table, blocks of a volume written, or told to hold these values
+-- what an `ok` acknowledges: a database, a change of its table, its end, blocks of a volume written, or told to hold these values
 pub data Deed : Type 0 where
   Created : Key → Deed
   Changed : Key → Change → Deed
+  Deleted : Key → Deed
   Wrote : Key → VolId → ℕ → List (List ℕ) → Deed
   Saw : Key → VolId → ℕ → List (List ℕ) → Deed
 
--- The databases; the log of each volume's blocks; writes that were answered and aren't on the disk; what was done and isn't told, writes that
--- are on the disk and reads; which drives the last boot of a key brought up, and of how many first blocks of a volume one value was found since it began.
+-- The databases; the log of each volume's blocks; writes that were answered and aren't on the disk; what was done and isn't told, ends of databases,
+-- writes that are on the disk and reads; which drives the last boot of a key brought up, and of how many first blocks of a volume one value was found since it began.
 pub record History : Type 0 where
   pub databases : List Database
   pub volumes : Key → VolId → VolumeLog
@@ -37,6 +38,8 @@ pub data Event : Type 0 where
   Acknowledges : ℕ → Key → VolId → ℕ → List (List ℕ) → Event
   -- that of a read's `ok` was told, behind these values
   Shows : ℕ → Key → VolId → ℕ → List (List ℕ) → Event
+  -- that of a deletion's was told
+  Deletes : ℕ → Key → Event
   -- a boot of the key begins, which brings these drives up
   Boots : Key → Drives → Event
   -- a run ends; what it did and didn't tell, nobody will be told
@@ -52,6 +55,7 @@ databases_after ds (OfVolume key volume e) = ds
 databases_after ds (Reads key volume at blocks) = ds
 databases_after ds (Acknowledges place key volume at blocks) = ds
 databases_after ds (Shows place key volume at blocks) = ds
+databases_after ds (Deletes place key) = ds
 databases_after ds (Boots key up) = ds
 databases_after ds Stops = ds
 databases_after ds Crashes = ds
@@ -64,6 +68,7 @@ events_at key volume (OfVolume other beside e) = if is_volume key volume other b
 events_at key volume (Reads other beside at blocks) = []
 events_at key volume (Acknowledges place other beside at blocks) = []
 events_at key volume (Shows place other beside at blocks) = []
+events_at key volume (Deletes place other) = []
 events_at key volume (Boots other up) = []
 events_at key volume Stops = []
 events_at key volume Crashes = lives.Crashes ∷ []
@@ -78,6 +83,7 @@ volumes_after volumes e key volume = lives.log_after_all (volumes key volume) (e
 abbrev pub is_within : Key → VolId → ℕ → ℕ → Deed → Bool
 is_within key volume from count (Created other) = false
 is_within key volume from count (Changed other change) = false
+is_within key volume from count (Deleted other) = false
 is_within key volume from count (Wrote other beside at blocks) = is_volume key volume other beside && nat_le from at && nat_le (at + length blocks) (from + count)
 is_within key volume from count (Saw other beside at blocks) = false
 
@@ -97,6 +103,7 @@ answered_after deeds (OfVolume key volume e) = answered_by key volume e deeds
 answered_after deeds (Reads key volume at blocks) = deeds
 answered_after deeds (Acknowledges place key volume at blocks) = deeds
 answered_after deeds (Shows place key volume at blocks) = deeds
+answered_after deeds (Deletes place key) = deeds
 answered_after deeds (Boots key up) = deeds
 answered_after deeds Stops = []
 answered_after deeds Crashes = deeds
@@ -110,17 +117,28 @@ flushed_by key volume (Begins from logs) answered = []
 flushed_by key volume lives.Crashes answered = []
 flushed_by key volume (Woke count content) answered = []
 
+-- once no image has a database its end can be told
+abbrev pub gone_by : Key → log.Event → List Deed
+gone_by key (log.Issued identity) = []
+gone_by key (log.Writing mark asked before table) = []
+gone_by key log.Written = []
+gone_by key (log.Told which before) = []
+gone_by key (log.Placing places) = []
+gone_by key log.Clearing = []
+gone_by key log.Gone = Deleted key ∷ []
+
 -- all but the one at this place
 abbrev pub without : ℕ → List Deed → List Deed
 without place deeds = take place deeds ++ drop (place + 1) deeds
 
 abbrev pub untold_after : List Deed → List Deed → Event → List Deed
 untold_after answered untold (Creation key identity) = untold
-untold_after answered untold (OfDatabase key identity e) = untold
+untold_after answered untold (OfDatabase key identity e) = gone_by key e ++ untold
 untold_after answered untold (OfVolume key volume e) = flushed_by key volume e answered ++ untold
 untold_after answered untold (Reads key volume at blocks) = Saw key volume at blocks ∷ untold
 untold_after answered untold (Acknowledges place key volume at blocks) = without place untold
 untold_after answered untold (Shows place key volume at blocks) = without place untold
+untold_after answered untold (Deletes place key) = without place untold
 untold_after answered untold (Boots key up) = untold
 untold_after answered untold Stops = []
 untold_after answered untold Crashes = untold
@@ -140,6 +158,7 @@ woken_after woken (OfVolume key volume e) other beside = if is_volume key volume
 woken_after woken (Reads key volume at blocks) other beside = woken other beside
 woken_after woken (Acknowledges place key volume at blocks) other beside = woken other beside
 woken_after woken (Shows place key volume at blocks) other beside = woken other beside
+woken_after woken (Deletes place key) other beside = woken other beside
 woken_after woken (Boots key up) other beside = if same_key key other then 0 else woken other beside
 woken_after woken Stops other beside = 0
 woken_after woken Crashes other beside = 0
@@ -151,6 +170,7 @@ up_after up (OfVolume key volume e) other = up other
 up_after up (Reads key volume at blocks) other = up other
 up_after up (Acknowledges place key volume at blocks) other = up other
 up_after up (Shows place key volume at blocks) other = up other
+up_after up (Deletes place key) other = up other
 up_after up (Boots key drives) other = if same_key key other then drives else up other
 up_after up Stops other = up other
 up_after up Crashes other = up other

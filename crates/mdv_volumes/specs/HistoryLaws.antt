@@ -1,15 +1,17 @@
 -- Laws of histories: of each volume, of databases and of deeds, over crashes, boots, writes and reads.
 use Rattle.std.specs.Prelude.{◌≡◌, ◌⊎◌, ◌+◌, ◌<◌, ◌≤◌, ℕ, true, List, [], ◌∷◌, ◌++◌, length, slice_index_or, Bool, if◌then◌else◌, map, Option, Some, None, All, Contains}
-use Rattle.mdv_volumes.specs.Below.{AllOnDisk, AllRead, Among, AreApart, AreDisjoint, Area, Change, Follows, Geometry, HasDriveBlock, HasNoReplica, Identity, Image, IsBeside, IsCurrentOf, IsOfGeometry, Key, KeptOutside, Map, MayLeave, One, Place, Rewriting, Spells, Stand, Table, Tale, Version, VolId, area_of_map, is_firm, last, only, opening, restarted, site_area, site_of, with_events}
+use Rattle.mdv_volumes.specs.Below.{AllOnDisk, AllRead, Among, AreApart, AreDisjoint, Area, Change, Follows, Geometry, HasDriveBlock, HasNoReplica, Identity, Image, IsBeside, IsCurrentOf, IsOfGeometry, Key, KeptOutside, Lists, Map, MayLeave, One, Place, Rewriting, Spells, Stand, Table, Tale, Two, Version, VolId, area_of_map, is_firm, last, only, opening, restarted, site_area, site_of, with_events}
+use Rattle.mdv_store_law.specs.Changes.{KeepsPlaces, list_after}
 use Rattle.mdv_store_law.specs.Log as log
 use Rattle.mdv_store_law.specs.Machine.{AreAll, all_of}
+use Rattle.mdv_store_law.specs.Part.{IsPart}
 use Rattle.mdv_volumes.specs.Databases.{Database, current_of, log_of, same_key, with_creation}
 use Rattle.mdv_volumes.specs.Events.{Answers, Begins, Flushes, Issues, Woke}
 use Rattle.mdv_volumes.specs.Events as lives
-use Rattle.mdv_volumes.specs.Happening.{HasRange, HaveOnly, IsCourse, IsLater, IsNamed, IsThere, MayBeFound, MayBegin, deed_of, issued_by, told_by}
+use Rattle.mdv_volumes.specs.Happening.{HasRange, HaveOnly, IsCourse, IsLater, IsNamed, IsOver, IsThere, MayBeFound, MayBegin, begun_at, deed_of, issued_by, told_by}
 use Rattle.mdv_volumes.specs.Histories.{Happens, Stands}
 use Rattle.mdv_volumes.specs.LogLaws.{MayBe}
-use Rattle.mdv_volumes.specs.History.{Deed, Created, Changed, Wrote, Saw, Event, Creation, OfDatabase, OfVolume, Reads, Acknowledges, Shows, Boots, Stops, Crashes, History, events_of, history_after, history_after_all}
+use Rattle.mdv_volumes.specs.History.{Deed, Created, Changed, Deleted, Deletes, Wrote, Saw, Event, Creation, OfDatabase, OfVolume, Reads, Acknowledges, Shows, Boots, Stops, Crashes, History, events_of, history_after, history_after_all}
 use Rattle.mdv_volumes.specs.Standing.{HaveCopies, HaveOneValue, LeavesNoMore}
 use Rattle.mdv_volumes.specs.Tables.{AreLaid, IsMapOf}
 
@@ -57,6 +59,7 @@ log_events_at key (OfVolume other volume e) = []
 log_events_at key (Reads other volume at blocks) = []
 log_events_at key (Acknowledges place other volume at blocks) = []
 log_events_at key (Shows place other volume at blocks) = []
+log_events_at key (Deletes place other) = []
 log_events_at key (Boots other up) = []
 log_events_at key Stops = []
 log_events_at key Crashes = []
@@ -69,6 +72,7 @@ abbrev pub database_deeds : Key → List Deed → List (Option Change)
 database_deeds key [] = []
 database_deeds key (Created other ∷ deeds) = if same_key key other then None ∷ database_deeds key deeds else database_deeds key deeds
 database_deeds key (Changed other change ∷ deeds) = if same_key key other then Some change ∷ database_deeds key deeds else database_deeds key deeds
+database_deeds key (Deleted other ∷ deeds) = database_deeds key deeds
 database_deeds key (Wrote other volume at blocks ∷ deeds) = database_deeds key deeds
 database_deeds key (Saw other volume at blocks ∷ deeds) = database_deeds key deeds
 
@@ -79,13 +83,45 @@ pub record DatabasesLive : Type 0 where
   pub tells : (key : Key) (es : List Event) → log.told_by (log_events_of key es) ≡ database_deeds key (told_by es)
   pub begins : (key : Key) (es : List Event) → log.begun_by (log_events_of key es) ≡ database_deeds key (issued_by es)
 
--- a write of a table of the key was answered, and each table that a boot may find lists these places
-abbrev pub HasLists : Key → List Place → History → Type 0
-HasLists key places h = (is_firm (log_of h.databases key) ≡ true) × ((v : Version) → MayBeFound (log_of h.databases key).family v → v.table.plan.lists ≡ One places)
+-- of each key the family of tables is one, and what was told is firm
+abbrev pub HasLogs : Geometry → History → Type 0
+HasLogs g h = (key : Key) → log.IsLog g (log_of h.databases key)
 
--- so it stays, whatever happens: no creation of the key begins any more, and no change moves a place
-abbrev pub ListsStay : Type 0
-ListsStay = (g : Geometry) (key : Key) (places : List Place) (h : History) (es : List Event) → IsCourse g h es → HasLists key places h → HasLists key places (history_after_all h es)
+-- each list of places is one of these
+abbrev pub AllLists : List (List Place) → Lists → Type 0
+AllLists may (One places) = Contains may places
+AllLists may (Two old new) = Contains may old × Contains may new
+
+-- a write of a table of the key was answered, and the lists of each table that a boot may find are some of these
+abbrev pub HasLists : Key → List (List Place) → History → Type 0
+HasLists key may h = (is_firm (log_of h.databases key) ≡ true) × ((v : Version) → MayBeFound (log_of h.databases key).family v → AllLists may v.table.plan.lists)
+
+-- and each of these tables lists these places, in one list
+abbrev pub ListsAlone : Key → List Place → History → Type 0
+ListsAlone key places h = (is_firm (log_of h.databases key) ≡ true) × ((v : Version) → MayBeFound (log_of h.databases key).family v → v.table.plan.lists ≡ One places)
+
+-- those lists, and the ones that these changes may make of them, each of the changes or none
+abbrev pub lists_by : List (Option Change) → List (List Place) → List (List Place)
+lists_by [] may = may
+lists_by (None ∷ asks) may = lists_by asks may
+lists_by (Some change ∷ asks) may = lists_by asks (may ++ map (list_after change) may)
+
+-- none of the changes of the key's table that these events begin moves a place
+abbrev pub KeepPlaces : Key → List Event → Type 0
+KeepPlaces key es = (change : Change) → Contains (issued_by es) (Changed key change) → KeepsPlaces change
+
+-- Which places the tables list that a boot may find. No creation of the key begins any more.
+pub record ListsStay : Type 0 where
+  -- they stay, whatever happens, if no change moves a place
+  pub still : (g : Geometry) (key : Key) (may : List (List Place)) (h : History) (es : List Event) → IsCourse g h es → KeepPlaces key es → HasLists key may h → HasLists key may (history_after_all h es)
+  pub alone : (g : Geometry) (key : Key) (places : List Place) (h : History) (es : List Event) → IsCourse g h es → KeepPlaces key es → ListsAlone key places h → ListsAlone key places (history_after_all h es)
+  -- or they are made of them by the changes that are asked, of which none, some or all begin
+  pub by : (g : Geometry) (key : Key) (may : List (List Place)) (h : History) (es : List Event) (asks : List (Option Change)) → IsCourse g h es → IsPart (database_deeds key (issued_by es)) asks
+      → HasLists key may h → HasLists key (lists_by asks may) (history_after_all h es)
+  -- where the newest table was written, and has one list, a boot finds that one alone
+  pub one : (g : Geometry) (key : Key) (h : History) (newest : Version) (older : List Version) (places : List Place) → HasLogs g h → (log_of h.databases key).family ≡ newest ∷ older → newest.is_written ≡ true → newest.table.plan.lists ≡ One places
+      → ListsAlone key places h
+  pub are : (key : Key) (places : List Place) (h : History) → ListsAlone key places h → HasLists key (places ∷ []) h
 
 -- blocks of a volume are written
 pub record WritesGo : Type 0 where
@@ -148,7 +184,7 @@ pub record IsReady (g : Geometry) (h : History) (key : Key) (t : Tale) (table : 
 
 -- the events of a key's log happened to the history; what was told of other keys and of volumes stays, and what a boot has found of them
 pub record IsLifted (g : Geometry) (h : History) (key : Key) (es : List log.Event) (m : Tale) : Type 0 where
-  pub happens : Happens g h (lifted key (identity_in (current_of h.databases key)) es) (map (deed_of key) (log.begun_by es)) (map (deed_of key) (log.told_by es)) m
+  pub happens : Happens g h (lifted key (identity_in (current_of h.databases key)) es) (all_of (begun_at key) es) (map (deed_of key) (log.told_by es)) m
   pub own : log_of (history_after_all h (lifted key (identity_in (current_of h.databases key)) es)).databases key ≡ log.log_after_all (log_of h.databases key) es
   pub others : (other : Key) → (key ≡ other → ⊥) → log_of (history_after_all h (lifted key (identity_in (current_of h.databases key)) es)).databases other ≡ log_of h.databases other
   pub volumes : (history_after_all h (lifted key (identity_in (current_of h.databases key)) es)).volumes ≡ h.volumes
@@ -179,10 +215,11 @@ CreationsGo = (g : Geometry) (h : History) (key : Key) (identity : Identity) (t 
 pub record IsTellable (g : Geometry) (h : History) (key : Key) (asked : Option Change) : Type 0 where
   pub may : log.IsNewestTellable (log_of h.databases key) asked
 
--- What an `ok` may tell of a history: a write or a read only where it is done.
+-- What an `ok` may tell of a history: an end, a write or a read only where it is done.
 abbrev pub CanTell : Geometry → Deed → History → Type 0
 CanTell g (Created key) h = IsTellable g h key None
 CanTell g (Changed key change) h = IsTellable g h key (Some change)
+CanTell g (Deleted key) h = Contains h.untold (Deleted key) × IsOver h.databases key
 CanTell g (Wrote key volume at blocks) h = CanAcknowledge g h key volume at blocks
 CanTell g (Saw key volume at blocks) h = Contains h.untold (Saw key volume at blocks)
 
@@ -256,10 +293,6 @@ BeginningsGo = (g : Geometry) (h : History) (key : Key) (volume : VolId) (from :
 pub record Lasts (h : History) (es later : List Event) (place : ℕ) (key : Key) (volume : VolId) (at : ℕ) (blocks : List (List ℕ)) : Type 0 where
   pub lasts : (k : ℕ) (x : List ℕ) → k < length blocks → MayBe ((history_after_all h (es ++ Acknowledges place key volume at blocks ∷ later)).volumes key volume) (at + k) x
       → (x ≡ slice_index_or blocks k []) ⊎ Among (lives.issued_to (at + k) (events_of key volume later)) x
-
--- of each key the family of tables is one, and what was told is firm
-abbrev pub HasLogs : Geometry → History → Type 0
-HasLogs g h = (key : Key) → log.IsLog g (log_of h.databases key)
 
 -- so it is of every write that is told
 abbrev pub ToldWritesLast : Type 0

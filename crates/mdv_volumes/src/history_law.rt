@@ -55,7 +55,7 @@ pub fn databases_live()
     ensures { DatabasesLive }
 {}
 
-/// Once a write of a key's table was answered, each table that a boot may find has the places that it had, whatever happens.
+/// Once a write of a key's table was answered, each table that a boot may find lists places that were listed, or that the changes which began make of those.
 pub fn lists_stay()
     ensures { ListsStay }
 {}

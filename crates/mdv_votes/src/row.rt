@@ -1,4 +1,6 @@
 ghost use Rattle.std.specs.Prelude.{◌≡◌, ◌++◌, [], ◌∷◌, OnOk, OnErr, IfOk, ◌<◌, length, slice_set};
+ghost use Rattle.std.specs.Fn.{CalledAt};
+ghost use Rattle.std.specs.List.Retain.{IsFiltered};
 
 use std::alloc::{AllocError, Global};
 use std::marker::Model;
@@ -40,6 +42,16 @@ impl<T: Drop> Row<T> {
     {
         self.items.push(item)?;
         Ok(())
+    }
+}
+
+impl<T: Drop> Row<T> {
+    /// Keeps the items that pass the test, in their order. It takes no memory.
+    pub fn retain<F: FnMut(&T) -> bool>(&mut self, keep: F)
+        requires { F.IsAlwaysCallable keep }
+        ensures { IsFiltered (CalledAt F.FnMut) keep self.old self.new }
+    {
+        self.items.retain(keep);
     }
 }
 

@@ -30,5 +30,5 @@ returns c =
       next_few = omega (arith, ap length next, length-map c.again_of-again.result.now (seat_for rs identity c.blocks_for-text.result), c.again_of-again.ensures.few);
       seats_are = seats ∙ ap (λ (n : ℕ). seats_of rs identity n c.as_slice.result.now) text ∙ ap (λ (ps : List Place). seats_of rs identity (blocks_for (length (record_text c.args.newest.now.table))) ps) (c.as_slice.ensures.value ∙ c.each-places.ensures.value);
       few = omega (arith, ap length seats, length-map c.as_slice.result.now (seat_for rs identity c.blocks_for-text.result), c.as_slice.ensures.few);
-      room_is = omega (arith, c.in_ok-room_for.field-0.ok.0, c.in_ok-room_for.ensures, c.max-most.ensures, max_is c.max.result c.blocks_for-text.result, c.max.ensures, max_is c.least_room.result c.first_room.result, text, c.least_room.ensures.value, c.first_room.ensures ∙ ap first_room c.again_of-again.ensures.value);
+      room_is = omega (arith, c.in_ok-room_for.field-0.ok.0, c.in_ok-room_for.ensures, c.max-most.ensures, max_is c.max.result c.blocks_for-text.result, c.max.ensures, max_is c.least_room.result c.first_room.result, text, c.least_room.ensures.value, c.first_room.ensures ∙ ap first_room c.last.ensures.value);
     }

@@ -16,6 +16,7 @@ use Rattle.mdv_store.specs.Text.{blocks_for}
 use Rattle.mdv_store.specs.Writing.{WereWritten, WritingEnds, WritingMoment, text_size}
 use Rattle.mdv_store.specs.declared.creating.CreateFault.{CreateFault}
 use Rattle.mdv_store.specs.declared.seats.Seat.{Seat}
+use Rattle.mdv_store.specs.Listing.{list_room}
 use Rattle.mdv_acts.proofs.Acting.{gone_then, stopped_front, stopped_then}
 use Rattle.mdv_store.proofs.Given.{IsOwner}
 use Rattle.mdv_store.proofs.Making.{all_kept, lost_counted, lost_created, lost_end, made_counted, made_created, made_end, made_open, memory_created, memory_moments, stopped_counted, stopped_created, stopped_end, stopped_moments, written_moments}
@@ -24,6 +25,7 @@ use Rattle.mdv_store.proofs.Seated.{room_asked, room_for_text, seats_laid, text_
 use Rattle.mdv_store.proofs.Spotting.{asked_length}
 use Rattle.mdv_store.proofs.creating.create.Goals as goal
 use Rattle.mdv_store.proofs.creating.create.Goals.{After-check_owner, After-clear_all, After-format_all, After-deref_mut}
+use Rattle.mdv_store.proofs.Rooms.{first_most}
 
 owner : (g : _) (c : After-check_owner g) → IsOwner c.args.key.now c.args.identity
 owner g c = record { fresh = c.check_owner.ensures.fresh; number = c.check_owner.ensures.number; name = c.check_owner.ensures.name }
@@ -112,10 +114,10 @@ as_asked g c P is = subst (λ (u : Table). P (seats g c) u) (table_is g c) (subs
 as_made : (g : _) (c : After-deref_mut g) (P : List Seat → Table → Type 0) → P (seats g c) (table_of (seats g c)) → P c.in_ok-seats.seats c.table_asked-table.result
 as_made g c P is = subst (λ (l : List Seat). P l c.table_asked-table.result) (sym c.in_ok-seats.ensures) (subst (λ (u : Table). P (seats g c) u) (sym (table_is g c)) is)
 
-room_is : (g : _) (c : After-deref_mut g) → length c.in_ok-room.room.items ≡ least_room (map (λ (s : Seat). s.place) (seats g c))
-room_is g c = c.in_ok-room.ensures ∙ c.least_room.ensures.value ∙ ap least_room (ap (λ (u : Table). places_of u.plan.lists) (table_is g c))
+room_is : (g : _) (c : After-deref_mut g) → length c.in_ok-room.room.items ≡ list_room (table_of (seats g c)).plan.lists
+room_is g c = c.in_ok-room.ensures ∙ ap (λ (u : Table). list_room u.plan.lists) (table_is g c)
 
-room_now : (g : _) (c : After-deref_mut g) → length c.deref_mut.result.now ≡ least_room (map (λ (s : Seat). s.place) (seats g c))
+room_now : (g : _) (c : After-deref_mut g) → length c.deref_mut.result.now ≡ list_room (table_of (seats g c)).plan.lists
 room_now g c = ap length c.deref_mut.ensures.value ∙ room_is g c
 
 abbrev sizes : (g : _) → After-deref_mut g → List ℕ
@@ -148,7 +150,7 @@ pub write_all-requires-clause-some : goal.write_all-requires-clause-some
 write_all-requires-clause-some g c = (let room = room_now g c in let six = least g c in omega (arith, room, six))
 
 pub write_all-requires-clause-short : goal.write_all-requires-clause-short
-write_all-requires-clause-short g c = (let room = room_now g c in let most = room_most (map (λ (s : Seat). s.place) (seats g c)) in omega (arith, room, most))
+write_all-requires-clause-short g c = (let room = room_now g c in let most = room_most (map (λ (s : Seat). s.place) (seats g c)) in let first_long = first_most (map (λ (s : Seat). s.place) (seats g c)) in omega (arith, room, most, first_long))
 
 -- Behind the writing.
 pub returns-in-Some-clause-answer : goal.returns-in-Some-clause-answer

@@ -36,7 +36,7 @@ pub opened-requires : goal.opened-requires
 opened-requires g c =
     let was = taken_over c.args.draft c.args.next c.requires.draft _ _ c.as_slice.ensures c.take_over.ensures in
     let left = subst (λ (l : List Seat). AreLeft (DriveFailures g.S.Shelf c.args.shelf.now c.write_all.new.shelf) (TakesSlot (next_mark c.args.draft.mark) (text_size c.settle-table.result)) l c.write_all.new.seats) was c.write_all.ensures.left in
-    let so = over_open c.args.draft c.args.next c.requires.draft (DriveFailures g.S.Shelf c.args.shelf.now c.write_all.new.shelf) (text_size c.settle-table.result) c.write_all.new.seats left c.args.draft.room.len c.requires.draft.whole c.requires.draft.short in
+    let so = over_open c.args.draft c.args.next c.requires.draft (DriveFailures g.S.Shelf c.args.shelf.now c.write_all.new.shelf) (text_size c.settle-table.result) c.write_all.new.seats left c.args.draft.room.len c.requires.draft.whole c.requires.draft.first c.requires.draft.short in
     record { «open» = subst (λ (t : Table). IsOpen (record (settled_by c.args.draft c.write_all.new.seats) { table = t }) c.args.draft.room.len) (sym c.settle-table.ensures.value) so }
 
 pub returns : goal.returns

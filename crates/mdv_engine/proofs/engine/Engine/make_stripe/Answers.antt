@@ -5,7 +5,7 @@ use Rattle.mdv_shelf.specs.Shelves.{DriveFailures}
 use Rattle.mdv_engine.proofs.Judged.{change_cause, change_no_fault}
 use Rattle.mdv_engine_law.specs.Line.{ToDo}
 use Rattle.mdv_engine.proofs.Blocks.{refused_carried}
-use Rattle.mdv_engine.specs.Below.{Changed, key_of}
+use Rattle.mdv_engine.specs.Below.{Changed, OfPlan, key_of}
 use Rattle.mdv_engine.proofs.Committing.{next_fits, refused_line, refused_plain}
 use Rattle.mdv_engine_law.specs.declared.answer.Outcome.TheVariants as outcome
 use Rattle.mdv_engine.proofs.Counting.{refused_counted}
@@ -20,7 +20,7 @@ pub returns-in-Err-clause-end : goal.returns-in-Err-clause-end
 returns-in-Err-clause-end g c =
     command_ends _ c.args.self.now (command.MakeStripe c.args.volume c.args.slice) (outcome.Refused c.in-Err.refusal) c.args.self.now _ _
     (λ t start. (t, start, λ known. refused_line c.args.self.now.host c.args.self.now.state c.args.volume c.args.slice (DriveFailures g.S.Shelf c.args.shelf.now c.args.shelf.now) (λ drive. refl) t c.in-Err.refusal c.in-Err.ensures.err))
-    (refused_carried c.args.self.now.host (ToDo (Changed (key_of c.args.self.now.host) (MakeStripe c.args.volume c.args.slice))) c.args.self.now.state _ _ refl c.in-Err.refusal)
+    (refused_carried c.args.self.now.host (ToDo (Changed (key_of c.args.self.now.host) (OfPlan (MakeStripe c.args.volume c.args.slice)))) c.args.self.now.state _ _ refl c.in-Err.refusal)
     (λ on u. tt)
 
 pub returns-in-Ok-clause-answer : goal.returns-in-Ok-clause-answer

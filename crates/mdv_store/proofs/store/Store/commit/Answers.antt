@@ -122,12 +122,12 @@ pub invariant_of-self : goal.invariant_of-self
 invariant_of-self g c =
     let w = (goal.at.invariant_of-self g c).After-write_all in
     let few = ap (λ (l : List Seat). short_of Half l c.self.inside.table.plan.lists) (sym c.as_slice.ensures) ∙ sym c.in-Some-short.ensures in
-    lost_open (opened g w) c.args.next c.self.invariant.seats c.self.invariant.boot (small g w) (half g w) (c.self.invariant.marks (half g w)) (lists g w) (fits g w) (failed g w) c.write_all.new.seats c.write_all.ensures.left (vec_len c.self.inside.room) c.self.invariant.whole c.self.invariant.short c.in-Some-short.share few
+    lost_open (opened g w) c.args.next c.self.invariant.seats c.self.invariant.boot (small g w) (half g w) (c.self.invariant.marks (half g w)) (lists g w) (fits g w) (failed g w) c.write_all.new.seats c.write_all.ensures.left (vec_len c.self.inside.room) c.self.invariant.whole c.self.invariant.first c.self.invariant.short c.in-Some-short.share few
 
 pub invariant_of-self-2 : goal.invariant_of-self-2
 invariant_of-self-2 g c =
     let w = (goal.at.invariant_of-self-2 g c).After-write_all in
-    new_open (opened g w) c.args.next c.self.invariant.seats c.self.invariant.boot (small g w) (half g w) (c.self.invariant.marks (half g w)) (lists g w) (fits g w) (failed g w) c.write_all.new.seats c.write_all.ensures.left (vec_len c.self.inside.room) c.self.invariant.whole c.self.invariant.short
+    new_open (opened g w) c.args.next c.self.invariant.seats c.self.invariant.boot (small g w) (half g w) (c.self.invariant.marks (half g w)) (lists g w) (fits g w) (failed g w) c.write_all.new.seats c.write_all.ensures.left (vec_len c.self.inside.room) c.self.invariant.whole c.self.invariant.first c.self.invariant.short
 
 pub returns-clause-end : goal.returns-clause-end
 returns-clause-end g c =

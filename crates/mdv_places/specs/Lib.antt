@@ -1,0 +1,9 @@
+pub mod Below
+pub mod Asked
+pub mod Changing
+pub mod Losing
+pub mod Counts
+pub mod Going
+pub mod Moments
+pub mod Ending
+pub mod Named

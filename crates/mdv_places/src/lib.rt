@@ -1,0 +1,12 @@
+//! The places of an open database change: places are added, or dropped, or the first one alone is left; and a database with one place ends.
+#![tactic(auto)]
+
+mod asked;
+mod changing;
+mod ending;
+mod forming;
+mod listing;
+
+pub use asked::Move;
+pub use changing::{PlacesFault, change_places};
+pub use ending::end;

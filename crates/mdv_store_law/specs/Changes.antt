@@ -1,0 +1,63 @@
+-- What a line may ask of a database's table: of its volumes, or of the places of its replicas; and the table that comes of it.
+use Rattle.std.specs.Prelude.{◌≡◌, ◌+◌, ◌*◌, ℕ, zero, suc, Bool, not, List, [], ◌∷◌, ◌++◌, filter, flat_map, take}
+use Rattle.std.specs.List.{list_any}
+use Rattle.mdv_store_law.specs.Below.{Geometry, IsAfter, Lists, Place, PlanChange, SliceName, Table, Two, last_of, plan_changed, same_slice}
+
+pub data Change : Type 0 where
+  OfPlan : PlanChange → Change
+  -- so many places more on each of these slices, each of so many blocks, one behind another from block 16 on
+  AddPlaces : List SliceName → ℕ → ℕ → Change
+  -- none any more on these slices
+  DropPlaces : List SliceName → Change
+  -- the first place alone
+  FirstPlace : Change
+
+-- the place lies on one of the slices
+abbrev pub is_on : List SliceName → Place → Bool
+is_on slices p = list_any (λ s. same_slice p.slice s) slices
+
+abbrev pub list_less : List SliceName → List Place → List Place
+list_less slices places = filter (λ p. not (is_on slices p)) places
+
+-- the places of a slice that gets so many, from this number on
+abbrev pub places_from : SliceName → ℕ → ℕ → ℕ → List Place
+places_from slice blocks k zero = []
+places_from slice blocks k (suc n) = (record { slice = slice; start = 16 + k * blocks; blocks = blocks }) ∷ places_from slice blocks (k + 1) n
+
+abbrev pub places_on : ℕ → ℕ → SliceName → List Place
+places_on count blocks slice = places_from slice blocks 0 count
+
+-- the list that comes: it has more places behind the others, or lacks those of some slices, or is the first place alone
+abbrev pub list_after : Change → List Place → List Place
+list_after (OfPlan change) places = places
+list_after (AddPlaces slices count blocks) places = places ++ flat_map (places_on count blocks) slices
+list_after (DropPlaces slices) places = list_less slices places
+list_after FirstPlace places = take 1 places
+
+-- the list that was beside the one that comes
+abbrev pub lists_after : Change → Lists → Lists
+lists_after change lists = Two (last_of lists) (list_after change (last_of lists))
+
+-- until a change of places is over, both lists are there
+abbrev pub moved : Change → Table → Table
+moved change t = record t { plan = record t.plan { lists = lists_after change t.plan.lists } }
+
+abbrev pub table_after : Geometry → Change → Table → Table
+table_after g (OfPlan change) t = plan_changed g change t
+table_after g (AddPlaces slices count blocks) t = moved (AddPlaces slices count blocks) t
+table_after g (DropPlaces slices) t = moved (DropPlaces slices) t
+table_after g FirstPlace t = moved FirstPlace t
+
+-- The change makes the one table of the other. One of volumes only where nothing refuses it; what a list of places must be is said of tables of a geometry.
+abbrev pub IsMadeBy : Geometry → Change → Table → Table → Type 0
+IsMadeBy g (OfPlan change) old new = IsAfter g change old.plan new.plan × (new.status ≡ old.status)
+IsMadeBy g (AddPlaces slices count blocks) old new = new ≡ moved (AddPlaces slices count blocks) old
+IsMadeBy g (DropPlaces slices) old new = new ≡ moved (DropPlaces slices) old
+IsMadeBy g FirstPlace old new = new ≡ moved FirstPlace old
+
+-- it moves no place
+abbrev pub KeepsPlaces : Change → Type 0
+KeepsPlaces (OfPlan change) = Unit {0}
+KeepsPlaces (AddPlaces slices count blocks) = ⊥
+KeepsPlaces (DropPlaces slices) = ⊥
+KeepsPlaces FirstPlace = ⊥
