@@ -5,30 +5,33 @@ use Rattle.std.proofs.lemmas.List.Elements.{All-nil}
 use Rattle.mdv_shelf.specs.Tale.{last}
 use Rattle.mdv_shelf.proofs.Everywhere.{last_image}
 use Rattle.mdv_store_law.specs.Anew.{IsAnew}
-use Rattle.mdv_store_law.proofs.Anew.{issued_anew}
+use Rattle.mdv_store_law.proofs.Anew.{anew_after_all, issued_anew}
+use Rattle.mdv_store_law.proofs.Issues.{asked_issued}
 use Rattle.mdv_standing.specs.Blanking.{MayClear}
 use Rattle.mdv_standing.specs.Creating.{issued_log}
 use Rattle.mdv_standing.specs.Databases.{is_current, log_in, same_key, with_over}
 use Rattle.mdv_standing.specs.Holding.{AreOnce}
-use Rattle.mdv_standing.specs.Laws.{ShowsNoTable}
 use Rattle.mdv_standing.specs.Tracing.{GoesTraced, IsStart}
 use Rattle.mdv_standing.proofs.Holding.{begins_holding, none_found, rest_of}
 use Rattle.mdv_standing.proofs.Stretches.{none_started}
-use Rattle.mdv_store_law.specs.Log.{IsLog, Issued, empty_log}
+use Rattle.mdv_store_law.specs.Log.{ChangesAlone, IsCourse, IsLog, Issued, PlacesStay, empty_log}
 use Rattle.mdv_store_law.proofs.Logs.{empty_is_log, is_log_after}
 use Rattle.mdv_store.specs.Commit.{AnyLog, AnyWorld}
 use Rattle.mdv_store.specs.Create.{AreOfCreation, CreateGoes, CreateMoment, IsCreatedTo, IsEnded, MayCreate, MayForm, seats_asked}
 use Rattle.mdv_store.specs.declared.creating.CreateFault.TheVariants as unmade
 use Rattle.mdv_store.proofs.Sitting.{first_or_behind}
 use Rattle.mdv_databases.specs.Below.{Core, CoversWith, Database, Geometry, Identity, IsBlank, IsReadyWith, Key, Log, Opened, Seat, SliceLine, Spells, Tale, current_of, log_of, site_of, spots_of, with_creation}
-use Rattle.mdv_databases.specs.Creating.{IsCreation, IsMadeIn, IsUnmadeIn}
-use Rattle.mdv_databases.specs.Going.{GoOn, IsCurrentOf}
-use Rattle.mdv_databases.specs.Standing.{AreCurrent, Stand}
+use Rattle.mdv_databases.specs.Creating.{IsCreation, IsMadeIn, IsUnmadeIn, MayBeTakenAt}
+use Rattle.mdv_databases.specs.Going.{GoOn, IsCurrentOf, with_events}
+use Rattle.mdv_databases.specs.Lasting.{AreFreed}
+use Rattle.mdv_databases.specs.Standing.{AreAnew, AreCurrent, EndsSole, IsFree, Stand}
+use Rattle.mdv_databases.proofs.Ended.{issued_sole, lives_after_all}
 use Rattle.mdv_databases.proofs.Going.{Gone, go_on, opens}
-use Rattle.mdv_databases.proofs.Lists.{changed_cases, changed_elsewhere, current_in, current_key, key_differs, key_is, key_itself, key_other, one_current, with_current}
+use Rattle.mdv_databases.proofs.Loose.{over_loose}
+use Rattle.mdv_databases.proofs.Lists.{events_here, gone, changed_cases, changed_elsewhere, current_in, current_key, key_differs, key_is, key_itself, key_other, one_current, with_current}
 
 -- two keys, or two identities, are one or differ
-keys : (a b : Key) → (a ≡ b) ⊎ (a ≡ b → ⊥)
+pub keys : (a b : Key) → (a ≡ b) ⊎ (a ≡ b → ⊥)
 keys a b = elim (cases_Bool (same_key a b)) [ inl same ↦ inl (key_is a b same) | inr never ↦ inr (key_differs a b never) ]
 
 identities : (a b : Identity) → (a ≡ b) ⊎ (a ≡ b → ⊥)
@@ -137,32 +140,41 @@ module _ (g : Geometry) (all : List Database) (key : Key) (identity : Identity) 
         | inr differ ↦ creation_elsewhere key identity all d.key (λ same. differ (sym same)) ∙ found
       ])
 
-  overs : (x : Database) → Contains now x → x.over ≡ true → IsBlank g x.key x.identity t
-  overs = cases (λ d. d.over ≡ true → IsBlank g d.key d.identity t) (λ over. absurd (true≢false (sym over)))
-      (λ d found over. subst (λ (k : Key). IsBlank g k d.identity t) (sym (current_key key all d found)) (c.none d.identity)) (λ d left over. c.stand.over d left.one_of over)
+  overs : (x : Database) → Contains now x → x.over ≡ true → IsFree g x t
+  overs = cases (λ d. d.over ≡ true → IsFree g d t) (λ over. absurd (true≢false (sym over)))
+      (λ d found over. c.free d (current_in key all d found) (current_key key all d found)) (λ d left over. c.stand.over d left.one_of over)
 
   pub begun_stand : Stand g now t
   begun_stand = record {
     worlds = λ image is. begins_holding (Spells g) g all image key identity (c.stand.worlds image is) c.fresh;
     logs = cases (λ d. IsLog g d.log) (issued_is_log g identity) (λ d found. c.stand.logs d (current_in key all d found)) (λ d left. c.stand.logs d left.one_of);
-    anew = cases (λ d. IsAnew d.log) (issued_anew identity) (λ d found. c.stand.anew d (current_in key all d found)) (λ d left. c.stand.anew d left.one_of);
+    ended = cases (λ d. EndsSole d.log) (issued_sole (issued_log identity) refl) (λ d found. c.stand.ended d (current_in key all d found)) (λ d left. c.stand.ended d left.one_of);
     current = currents;
     over = overs;
   }
 
-  -- a boot of another key's database doesn't look on its slices, or that one shows no table
-  apart : (line : SliceLine) → Contains lines line → (x : Database) → Contains now x → (x.key ≡ key → ⊥) → (Contains (site_of g x.key).lines line → ⊥) ⊎ IsBlank g x.key x.identity t
+  -- no places come and go still
+  pub begun_anew : AreAnew all → AreAnew now
+  begun_anew anew = cases (λ d. IsAnew d.log) (issued_anew identity) (λ d found. anew d (current_in key all d found)) (λ d left. anew d left.one_of)
+
+  -- what lies on its slices of an earlier database of its key may be taken
+  of_earlier : (d : Database) (line : SliceLine) → Contains all d → d.key ≡ key → Contains lines line → MayBeTakenAt g d line t
+  of_earlier d line one_of keyed has = elim (c.free d one_of keyed) [ inl free ↦ inl free | inr over ↦ inr (over_loose g all t c.stand d line one_of over) ]
+
+  -- a boot of another database doesn't look there, or what lies there may be taken from it
+  apart : (line : SliceLine) → Contains lines line → (x : Database) → Contains now x → (x.identity ≡ identity → ⊥) → (Contains (site_of g x.key).lines line → ⊥) ⊎ MayBeTakenAt g x line t
   apart line has =
-      cases (λ d. (d.key ≡ key → ⊥) → (Contains (site_of g d.key).lines line → ⊥) ⊎ IsBlank g d.key d.identity t) (λ differ. absurd (differ refl)) (λ d found differ. absurd (differ (current_key key all d found)))
-      (λ d left differ. c.others d line left.one_of differ has)
+      cases (λ d. (d.identity ≡ identity → ⊥) → (Contains (site_of g d.key).lines line → ⊥) ⊎ MayBeTakenAt g d line t) (λ differ. absurd (differ refl))
+      (λ d found differ. inr (of_earlier d line (current_in key all d found) (current_key key all d found) has))
+      (λ d left differ. elim (keys d.key key) [ inl same ↦ inr (of_earlier d line left.one_of same has) | inr other ↦ c.others d line left.one_of other has ])
 
   cleared : MayClear (Spells g) g now key identity lines t
   cleared = record {
     none = λ image is. none_found (Spells g) g all image key identity (c.stand.worlds image is) c.fresh;
     rest = rest_of (Spells g) g now t identity begun_stand.worlds;
-    taken = λ line has image is d rest. elim (keys d.key key) [
-      | inl same ↦ inr (inl ((begun_stand.anew d rest.0).lives, subst (λ (k : Key). ShowsNoTable (Spells g) (site_of g k) d.identity image) (sym same) (c.none d.identity image is)))
-      | inr differ ↦ elim (apart line has d rest.0 differ) [ inl out ↦ inl out | inr blank ↦ inr (inl ((begun_stand.anew d rest.0).lives, blank image is)) ]
+    taken = λ line has image is d rest. elim (apart line has d rest.0 rest.1) [
+      | inl out ↦ inl out
+      | inr may ↦ inr (elim may [ inl free ↦ inl (free.0, free.1 image is) | inr loose ↦ inr (loose image is) ])
     ];
   }
 
@@ -190,25 +202,43 @@ module _ (g : Geometry) (all : List Database) (key : Key) (identity : Identity) 
 
       gone_on : Gone g now key identity [] went.es Then After m
       gone_on =
-          go_on g now key identity [] (IsStart (site_of g key)) (AreOfCreation g key seats) Then After t m begun_stand (creation_its key identity all)
+          go_on ChangesAlone g now key identity [] (IsStart (site_of g key)) (AreOfCreation g key seats) Then After t m begun_stand (creation_its key identity all)
           (subst Starts (sym (creation_log key identity all)) (none_started (Spells g) (site_of g key) identity (issued_log identity) t cleared.none refl refl))
-          (moment.rest g now may_create) (moment.blank g forms) tt went
+          (moment.rest g now may_create) (moment.blank g forms) went
 
     pub created_goes : GoOn g now key identity [] AnyLog m
     created_goes = (gone_on AnyWorld AnyLog (moment.goes g now may_create)).goes
 
     -- where it failed
-    pub created_fails : IsEnded g key identity seats (Err unmade.Failed) t m → IsUnmadeIn g now key identity m
-    created_fails ended = record {
-      goes = (gone_on AnyWorld (λ log. log.family ≡ []) ended.0).goes;
-      none = λ other. elim (identities other identity) [
-        | inl same ↦ subst (λ (x : Identity). IsBlank g key x m) (sym same) ended.1
-        | inr differ ↦ moment.blank g forms key other differ (c.none other)
-      ];
-    }
+    module _ (ended : IsEnded g key identity seats (Err unmade.Failed) t m) where
+      abbrev went_on : GoOn g now key identity [] (λ log. log.family ≡ []) m
+      went_on = (gone_on AnyWorld (λ log. log.family ≡ []) ended.0).goes
+
+      -- the new one shows no table, and wasn't about to be deleted
+      new_free : IsFree g (gone went_on.es its_new) m
+      new_free = inl ((anew_after_all g (issued_log identity) went_on.es (issued_anew identity) (subst (λ (l : Log). IsCourse g l went_on.es) (creation_log key identity all) went_on.course) (asked_issued PlacesStay [] [] went_on.es went_on.come tt)).lives, ended.1)
+
+      all_free : AreFreed g (with_events key went_on.es now) key m
+      all_free x has keyed = elim (cases_Bool x.over) [
+        | inl over ↦ went_on.stand.over x has over
+        | inr going ↦
+            let found = subst (λ (k : Key). current_of (with_events key went_on.es now) k ≡ Some x) keyed (went_on.stand.current x has going) in
+            let here = events_here key went_on.es now its_new (creation_here key identity all) in
+            subst (λ (d : Database). IsFree g d m) (one_current key (with_events key went_on.es now) (gone went_on.es its_new) x here found) new_free
+      ]
+
+      pub created_fails : IsUnmadeIn g now key identity t m
+      created_fails = record {
+        goes = went_on;
+        free = all_free;
+        none = λ none other. elim (identities other identity) [
+          | inl same ↦ subst (λ (x : Identity). IsBlank g key x m) (sym same) ended.1
+          | inr differ ↦ moment.blank g forms key other differ (none other)
+        ];
+      }
 
     -- once it is made
     pub created_made : (o : Opened) → IsEnded g key identity seats (Ok o) t m → o.key ≡ key → o.identity ≡ identity → IsMadeIn g now key identity o m
     created_made o ended of_key of_identity =
         let is = gone_on (IsReadyWith (spots_of o.seats)) (IsCreatedTo o) ended.1 in
-        record { goes = is.goes; is_open = opens g now key identity [] _ (IsCreatedTo o) o m is of_key of_identity (λ log after. after.newest) ended.0 }
+        record { goes = is.goes; is_open = opens ChangesAlone g now key identity [] _ (IsCreatedTo o) o m is of_key of_identity (λ log after. after.newest) (lives_after_all ChangesAlone (log_of now key) is.goes.es (λ never. never) (ap (λ (l : Log). l.fate) (creation_log key identity all)) is.goes.come.issues) ended.0 }

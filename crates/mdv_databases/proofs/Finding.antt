@@ -42,7 +42,8 @@ use Rattle.mdv_store.proofs.Seating.{seats_places}
 use Rattle.mdv_store.proofs.Shares.{in_first, in_last, list_none, list_suffices, lists_none, short_list}
 use Rattle.mdv_store.proofs.Sitting.{contains_behind, contains_first, first_or_behind}
 use Rattle.mdv_standing.proofs.Named.{line_found}
-use Rattle.mdv_store_law.specs.Log.{Version, is_firm}
+use Rattle.mdv_store_law.specs.Log.{Lives, Version, is_firm}
+use Rattle.mdv_store.specs.Booting.{HasShown}
 use Rattle.mdv_store.specs.Boot.{IsShort, is_seated, seat_for, seats_of}
 use Rattle.mdv_store.specs.Opened.{least_room}
 use Rattle.mdv_store.specs.Seats.{replicas_of}
@@ -66,12 +67,12 @@ use Rattle.mdv_table.specs.declared.plan.Lists.{Lists}
 use Rattle.mdv_base.specs.DriveSet.{Drives}
 use Rattle.mdv_store.specs.declared.seats.Need.TheVariants.{More}
 use Rattle.mdv_store.specs.declared.seats.Share.{Share}
-use Rattle.mdv_databases.specs.Below.{Core, Database, Geometry, Identity, Image, Key, Log, One, Two, Place, Replica, Seat, SliceLine, Spells, Table, Tale, log_of, site_of, slice_at}
+use Rattle.mdv_databases.specs.Below.{Core, Database, Geometry, Identity, Image, Key, Log, One, Two, Place, Replica, Seat, SliceLine, Spells, Table, Tale, current_of, log_of, site_of, slice_at}
 use Rattle.mdv_databases.specs.Booting.{AllAnswer, IsShortOf}
 use Rattle.mdv_databases.specs.Meeting.{MayBeFound, MostOn, answers_on, is_on}
-use Rattle.mdv_databases.specs.Standing.{Stand}
+use Rattle.mdv_databases.specs.Standing.{AreAnew, Stand}
 use Rattle.mdv_databases.specs.Going.{IsCurrentOf}
-use Rattle.mdv_databases.proofs.Booting.{shown_current}
+use Rattle.mdv_databases.proofs.Booting.{anew_current}
 use Rattle.mdv_databases.proofs.Lists.{current_in, current_key}
 use Rattle.mdv_databases.proofs.Meeting.{Meets, firm_found, firm_some, meets, opens}
 
@@ -114,32 +115,6 @@ find_has p (y ∷ ys) x has is = by (p y) refl (λ behind. find_has p ys x behin
 -- this replica may take the place
 abbrev Takes : List Replica → Identity → ℕ → Place → Type 0
 Takes rs identity text p = (r : Replica) × Contains rs r × (is_seated identity p text r ≡ true)
-
--- of the replicas at the active places at least as many pass a test as places have one, where each of these does
-passing_least : (rs : List Replica) (identity : Identity) (text : ℕ) (on : Place → Bool) (test : Replica → Bool) (places : List Place) → ((p : Place) → Contains places p → on p ≡ true → Takes rs identity text p)
-    → ((p : Place) (r : Replica) → Contains rs r → on p ≡ true → is_seated identity p text r ≡ true → test r ≡ true) → count_by on places ≤ count_by test (replicas_of (seats_of rs identity text places))
-passing_least rs identity text on test [] each passes = omega arith
-passing_least rs identity text on test (p ∷ places) each passes =
-    let rest = passing_least rs identity text on test places (λ q has. each q (contains_behind p q places has)) passes in
-    subst (λ (n : ℕ). n ≤ count_by test (replicas_of (seats_of rs identity text (p ∷ places)))) (sym (count_cons on p places)) (by (on p) refl (find (is_seated identity p text) rs) refl rest)
-  where
-    never : on p ≡ true → find (is_seated identity p text) rs ≡ None → ⊥
-    never is none =
-        let one = each p (contains_first p places) is in
-        let found = find_has (is_seated identity p text) rs one.0 one.1 one.2 in
-        cc (sym none ∙ found.1)
-
-    passed : (r : Replica) → on p ≡ true → find (is_seated identity p text) rs ≡ Some r → test r ≡ true
-    passed r is some = (let one = find_some (is_seated identity p text) rs r some in passes p r one.0 is one.1)
-
-    by : (b : Bool) → on p ≡ b → (o : Option Replica) → find (is_seated identity p text) rs ≡ o → count_by on places ≤ count_by test (replicas_of (seats_of rs identity text places))
-        → cond {A = ℕ} b 1 0 + count_by on places ≤ count_by test (cons_option o (replicas_of (seats_of rs identity text places)))
-    by true is None none rest = absurd (never is none)
-    by true is (Some r) some rest =
-        let more : cond {A = ℕ} (test r) 1 0 ≡ 1 = ap (λ (b : Bool). cond {A = ℕ} b 1 0) (passed r is some) in
-        omega (arith, rest, more, count_cons test r (replicas_of (seats_of rs identity text places)))
-    by false isnt None none rest = omega (arith, rest)
-    by false isnt (Some r) some rest = omega (arith, rest, count_cons test r (replicas_of (seats_of rs identity text places)))
 
 -- where each that passes the one test passes the other
 pub count_weaker : {X : Type 0} (p q : X → Bool) (xs : List X) → ((x : X) → Contains xs x → p x ≡ true → q x ≡ true) → count_by p xs ≤ count_by q xs
@@ -198,295 +173,344 @@ module _ (g : Geometry) (all : List Database) (key : Key) (up : Drives) (survey 
         (record { bytes = table.shows.bytes; gate = table.shows.gate; text = table.shows.text }) in
         there
 
-    -- so it is of the key's current database
-    current : IsCurrentOf all key identity
-    current = shown_current g all key identity t stand (record { replica = replica; found = own.found; its = same_identity_self identity; shown = opens replica.head newest.slot newest.mark shows.bytes shows.gate })
+    is_shown : HasShown g site identity t
+    is_shown = record { replica = replica; found = own.found; its = same_identity_self identity; shown = opens replica.head newest.slot newest.mark shows.bytes shows.gate }
 
-    abbrev log : Log
-    log = current.database.log
+    -- it is of the key's current database, which isn't about to be deleted
+    module _ (current : IsCurrentOf all key identity) (lives : current.database.log.fate ≡ Lives) where
+      abbrev log : Log
+      log = current.database.log
 
-    world : (w : Core) × IsWorld (Spells g) site identity log w here
-    world =
-        let d = current.database in
-        let has = (stand.worlds here (last_image t)).worlds d (current_in key all d current.current) in
-        (has.0, subst (λ (i : Identity). IsWorld (Spells g) site i log has.0 here) current.as_begun (subst (λ (k : Key). IsWorld (Spells g) (site_of g k) d.identity log has.0 here) (current_key key all d current.current) has.1))
+      world : (w : Core) × IsWorld (Spells g) site identity log w here
+      world =
+          let d = current.database in
+          let has = (stand.worlds here (last_image t)).worlds d (current_in key all d current.current) in
+          (has.0, subst (λ (i : Identity). IsWorld (Spells g) site i log has.0 here) current.as_begun (subst (λ (k : Key). IsWorld (Spells g) (site_of g k) d.identity log has.0 here) (current_key key all d current.current) has.1))
 
-    -- a boot that reads this replica alone finds the table's version
-    abbrev s : Seen
-    s = seen_of replica
+      -- a boot that reads this replica alone finds the table's version
+      abbrev s : Seen
+      s = seen_of replica
 
-    owns : AreOwn (Spells g) site identity here (s ∷ [])
-    owns x has = elim (first_or_behind s x [] has) [
-      | inl same ↦ subst (λ (y : Seen). IsOwn (Spells g) site identity y.line y.number here y.first y.head) same own
-      | inr none ↦ absurd (omega (arith, none.1))
-    ]
+      owns : AreOwn (Spells g) site identity here (s ∷ [])
+      owns x has = elim (first_or_behind s x [] has) [
+        | inl same ↦ subst (λ (y : Seen). IsOwn (Spells g) site identity y.line y.number here y.first y.head) same own
+        | inr none ↦ absurd (omega (arith, none.1))
+      ]
 
-    greatest : (o : Seen) (other : Slot) (m : Mark) (n : ℕ) → Contains (s ∷ []) o → gate_of o.head other ≡ Open m n → IsBelow newest.mark m → ⊥
-    greatest o other m n has is_open below = elim (first_or_behind s o [] has) [
-      | inl same ↦ marks.greatest replica among other m n (subst (λ (y : Seen). gate_of y.head other ≡ Open m n) (sym same) is_open) below
-      | inr none ↦ absurd (omega (arith, none.1))
-    ]
+      greatest : (o : Seen) (other : Slot) (m : Mark) (n : ℕ) → Contains (s ∷ []) o → gate_of o.head other ≡ Open m n → IsBelow newest.mark m → ⊥
+      greatest o other m n has is_open below = elim (first_or_behind s o [] has) [
+        | inl same ↦ marks.greatest replica among other m n (subst (λ (y : Seen). gate_of y.head other ≡ Open m n) (sym same) is_open) below
+        | inr none ↦ absurd (omega (arith, none.1))
+      ]
 
-    chosen_one : IsChosen (s ∷ []) s newest.slot newest.mark
-    chosen_one = record {
-      one_of = contains_first s [];
-      bytes = marks.bytes;
-      gate = subst (λ (r : Replica). gate_of r.head newest.slot ≡ Open newest.mark marks.bytes) (same_one marks.replica marks.one_of) marks.gate;
-      greatest = greatest;
-    }
+      chosen_one : IsChosen (s ∷ []) s newest.slot newest.mark
+      chosen_one = record {
+        one_of = contains_first s [];
+        bytes = marks.bytes;
+        gate = subst (λ (r : Replica). gate_of r.head newest.slot ≡ Open newest.mark marks.bytes) (same_one marks.replica marks.one_of) marks.gate;
+        greatest = greatest;
+      }
 
-    look : Turned (Spells g) site identity log world.0 here (IsLook (spots_seen (s ∷ []))) (λ v. HaveRead (Spells g) site identity (tables_of log.family) v here (s ∷ []))
-    look = looks (Spells g) site identity log world.0 here world.1 (s ∷ []) owns
+      look : Turned (Spells g) site identity log world.0 here (IsLook (spots_seen (s ∷ []))) (λ v. HaveRead (Spells g) site identity (tables_of log.family) v here (s ∷ []))
+      look = looks (Spells g) site identity log world.0 here world.1 (s ∷ []) owns
 
-    abbrev v : Core
-    v = after_all world.0 look.events
+      abbrev v : Core
+      v = after_all world.0 look.events
 
-    version : IsFoundVersion (Spells g) log here s newest.slot newest.mark
-    version = finds (Spells g) site identity log v here look.world (s ∷ []) look.known s newest.slot newest.mark chosen_one
+      version : IsFoundVersion (Spells g) log here s newest.slot newest.mark
+      version = finds (Spells g) site identity log v here look.world (s ∷ []) look.known s newest.slot newest.mark chosen_one
 
-    same_table : version.version.table ≡ newest.table
-    same_table = (shows_one (Spells g) (reads_one (read_of g)) (at_of replica) (here replica.line.at.drive.0) replica.head newest.slot newest.mark newest.mark version.version.table newest.table version.shows shows).1
+      same_table : version.version.table ≡ newest.table
+      same_table = (shows_one (Spells g) (reads_one (read_of g)) (at_of replica) (here replica.line.at.drive.0) replica.head newest.slot newest.mark newest.mark version.version.table newest.table version.shows shows).1
 
-    anew : IsAnew log
-    anew = stand.anew current.database (current_in key all current.database current.current)
+      -- so each place that the log's tables list has its replica, as that one shows a table
+      shut : IsShut v → ⊥
+      shut (inr gone) = live_or_gone v.deleted gone.0 gone.1 (look.world.matches.there lives)
+      shut (inl none) =
+          let voted = chosen_voted (Spells g) site identity (tables_of log.family) v here (s ∷ []) look.known s newest.slot newest.mark chosen_one in
+          none.none (spot_seen s) voted.number (record { holds = (look.world.shows.each replica.line replica.number replica.first replica.head own).holds; newest = voted.newest })
 
-    -- so each place that the log's tables list has its replica, as that one shows a table
-    shut : IsShut v → ⊥
-    shut (inr gone) = live_or_gone v.deleted gone.0 gone.1 (look.world.matches.there anew.lives)
-    shut (inl none) =
-        let voted = chosen_voted (Spells g) site identity (tables_of log.family) v here (s ∷ []) look.known s newest.slot newest.mark chosen_one in
-        none.none (spot_seen s) voted.number (record { holds = (look.world.shows.each replica.line replica.number replica.first replica.head own).holds; newest = voted.newest })
+      listed : HavePlaces (Spells g) site identity log here
+      listed = ⊎_elim (λ have. have) (λ none. absurd (shut none)) look.world.listed
 
-    listed : HavePlaces (Spells g) site identity log here
-    listed = ⊎_elim (λ have. have) (λ none. absurd (shut none)) look.world.listed
+      -- the version is one that a boot may find, where it reads more than half of the places of each of these
+      module _ (firm : is_firm log ≡ true) (list : List Place) (lists : (x : Version) → MayBeFound log.family x → x.table.plan.lists ≡ One list) (most : MostOn g key answers list) where
+        f : (f : ℕ) × (world.0.firm ≡ Some f)
+        f = firm_some g site identity log world.0 here world.1 firm
 
-    its_place : (p : Place) → Contains (places_of newest.table.plan.lists) p → HasPlace (Spells g) site identity here p
-    its_place p has =
-        all_places (Spells g) site identity log here anew (stand.logs current.database (current_in key all current.database current.current)).rising listed version.version p version.is.one_of (subst (λ (u : Table). Contains (places_of u.plan.lists) p) (sym same_table) has)
+        met : Meets g site identity log world.0 here world.1 f.0 f.1 answers
+        met = meets g site identity log world.0 here world.1 f.0 f.1 list (lists (version_at log.family f.0) (firm_found g site identity log world.0 here world.1 f.0 f.1)) answers most lives
 
-    drive_of : (p : Place) (h : HasPlace (Spells g) site identity here p) → on p ≡ answers_in up survey.failed h.line.at.drive
-    drive_of p h = ap (λ (q : Place). on q) h.is ∙ ap (is_on answers) (line_found g sound key h.line h.own.found.one_of)
+        -- it shows no greater mark
+        not_above : (m : Mark) → m ≡ (table_at world.0.family met.number).mark → IsBelow newest.mark m → ⊥
+        not_above m is below = marks.greatest met.replica (of.all met.replica met.found met.on) met.slot (table_at world.0.family met.number).mark met.bytes met.gate (subst (λ (k : Mark). IsBelow newest.mark k) is below)
 
-    -- and a boot finds it there, where the drive answers
-    record IsThere (p : Place) : Type 0 where
-      replica_there : Replica
-      found : Contains rs replica_there
-      its : is_of identity replica_there ≡ true
-      lies : place_of replica_there ≡ p
-      long : replica_there.first.blocks ≡ p.blocks
+        not_older : (x : Version) → Contains log.family x → x.is_written ≡ true → IsBelow version.version.mark x.mark → ⊥
+        not_older x has written below =
+            let k = numbered site log world.0 world.1.reached world.1.matches x has in
+            let other = world.1.matches.answered k.0 k.1 (ap (λ (y : Version). y.is_written) k.2 ∙ written) in
+            let firms : other.0 ≡ f.0 = some_is world.0.firm other.0 f.0 other.1 f.1 in
+            let over : IsBelow newest.mark (table_at world.0.family k.0).mark = subst (λ (m : Mark). IsBelow newest.mark m) (sym k.3) (subst (λ (m : Mark). IsBelow m x.mark) version.is.marked below) in
+            let up_to = met.above in
+            let at_most = other.2 in
+            elim (cases_lt k.0 met.number) [
+              | inl less ↦
+                  not_above (table_at world.0.family met.number).mark refl
+                  (below_more newest.mark (table_at world.0.family k.0).mark (table_at world.0.family met.number).mark over ((standing site world.0 world.1.reached).family.marks k.0 met.number less met.known))
+              | inr more ↦ (let same : k.0 ≡ met.number = omega (arith, more, up_to, at_most, firms) in not_above (table_at world.0.family k.0).mark (ap (λ (n : ℕ). (table_at world.0.family n).mark) same) over)
+            ]
 
-    there : (p : Place) → Contains (places_of newest.table.plan.lists) p → on p ≡ true → IsThere p
-    there p has up_there =
-        let h = its_place p has in
-        let r : Replica = record { line = h.line; number = h.number; first = h.first; head = h.head } in
-        let in_rs = of.all r h.own.found (sym (drive_of p h) ∙ up_there) in
-        record {
-          replica_there = r;
-          found = in_rs;
-          its = subst (λ (i : Identity). same_identity i identity ≡ true) (sym h.own.of_identity) (same_identity_self identity);
-          lies = lies_at site r (is.each r in_rs).seated ∙ sym h.is;
-          long = ap (λ (q : Place). q.blocks) (sym h.is);
+        its_lists : newest.table.plan.lists ≡ One list
+        its_lists = ap (λ (u : Table). u.plan.lists) (sym same_table) ∙ lists version.version (version.is.one_of, all_that (λ x. x.is_written ≡ true → IsBelow version.version.mark x.mark → ⊥) log.family not_older)
+
+        -- so each place that it lists has its replica
+        place_found : (p : Place) → Contains (places_of newest.table.plan.lists) p → HasPlace (Spells g) site identity here p
+        place_found p has = listed version.version p version.is.one_of (all_that (λ x. x.is_written ≡ true → IsBelow version.version.mark x.mark → ⊥) log.family not_older) (subst (λ (u : Table). Contains (places_of u.plan.lists) p) (sym same_table) has)
+
+      -- each place that it lists has its replica
+      module _ (its_place : (p : Place) → Contains (places_of newest.table.plan.lists) p → HasPlace (Spells g) site identity here p) where
+        drive_of : (p : Place) (h : HasPlace (Spells g) site identity here p) → on p ≡ answers_in up survey.failed h.line.at.drive
+        drive_of p h = ap (λ (q : Place). on q) h.is ∙ ap (is_on answers) (line_found g sound key h.line h.own.found.one_of)
+
+        -- and a boot finds it there, where the drive answers
+        record IsThere (p : Place) : Type 0 where
+          replica_there : Replica
+          found : Contains rs replica_there
+          its : is_of identity replica_there ≡ true
+          lies : place_of replica_there ≡ p
+          long : replica_there.first.blocks ≡ p.blocks
+
+        there : (p : Place) → Contains (places_of newest.table.plan.lists) p → on p ≡ true → IsThere p
+        there p has up_there =
+            let h = its_place p has in
+            let r : Replica = record { line = h.line; number = h.number; first = h.first; head = h.head } in
+            let in_rs = of.all r h.own.found (sym (drive_of p h) ∙ up_there) in
+            record {
+              replica_there = r;
+              found = in_rs;
+              its = subst (λ (i : Identity). same_identity i identity ≡ true) (sym h.own.of_identity) (same_identity_self identity);
+              lies = lies_at site r (is.each r in_rs).seated ∙ sym h.is;
+              long = ap (λ (q : Place). q.blocks) (sym h.is);
+            }
+
+        its_record : IsRecordOf g (text_of (at_of replica) newest.slot shows.bytes (here replica.line.at.drive.0)) newest.table
+        its_record = spelled_of g (text_of (at_of replica) newest.slot shows.bytes (here replica.line.at.drive.0)) newest.table sound shows.text
+
+        abbrev places : List Place
+        places = places_of newest.table.plan.lists
+
+        found_at : (p : Place) → Contains places p → on p ≡ true → is_found_at rs identity p ≡ true
+        found_at p has up_there =
+            let x = there p has up_there in
+            list_any_at (is_there identity p) rs x.found.0 x.replica_there x.found.1
+            (ap (is_there identity p) x.found.2 ∙ and_from (is_of identity x.replica_there) (same_place (place_of x.replica_there) p) x.its ((same_place-true (place_of x.replica_there) p).1 x.lies))
+
+        -- each place has room for the text
+        abbrev text : ℕ
+        text = blocks_for (length (record_text newest.table))
+
+        abbrev seats : List Seat
+        seats = seats_of rs identity text places
+
+        fits : (p : Place) → Contains places p → text ≤ slot_blocks p.blocks
+        fits p has =
+            let least = room_least seats (seat_for rs identity text p) (mapped (seat_for rs identity text) places p has) in
+            let room = ap least_room (seats_places rs identity text places) in
+            let in_room = its_record.in_room in
+            let bytes = length-record_text newest.table in
+            omega (arith, least, room, in_room, bytes)
+
+        seated : (p : Place) → Contains places p → on p ≡ true → Takes rs identity text p
+        seated p has up_there =
+            let x = there p has up_there in (
+              x.replica_there,
+              x.found,
+              and_from (is_of identity x.replica_there) (same_place (place_of x.replica_there) p && nat_le text (slot_blocks x.replica_there.first.blocks)) x.its
+                  (and_from (same_place (place_of x.replica_there) p) (nat_le text (slot_blocks x.replica_there.first.blocks)) ((same_place-true (place_of x.replica_there) p).1 x.lies)
+                  (subst (λ (n : ℕ). nat_le text (slot_blocks n) ≡ true) (sym x.long) (le-leb text (slot_blocks p.blocks) (fits p has)))),
+            )
+
+        -- so more than half of the places of each list are enough
+        read_so : (list : List Place) → ((p : Place) → Contains list p → Contains places p) → MostOn g key answers list → is_read rs identity list ≡ true
+        read_so list within most =
+            let least = count_weaker on (is_found_at rs identity) list (λ p has. found_at p (within p has)) in
+            lt-ltb (length list) (2 * readable_of rs identity list) (omega (arith, least, most))
+
+        none_fails : (lists : Lists) → ((p : Place) → Contains (places_of lists) p → Contains places p) → MostOnEach g key answers lists → failing rs identity lists ≡ None
+        none_fails (One list) within most = cond-true (is_read rs identity list) None (Some list) (read_so list within most)
+        none_fails (Two old new) within most =
+            cond-true (is_read rs identity old) (cond (is_read rs identity new) None (Some new)) (Some old) (read_so old (λ p has. within p (in_first (Two old new) p has)) most.0)
+            ∙ cond-true (is_read rs identity new) None (Some new) (read_so new (λ p has. within p (in_last (Two old new) p has)) most.1)
+
+        fails_nowhere : MostOnEach g key answers newest.table.plan.lists → (list : List Place) → failing rs identity newest.table.plan.lists ≡ Some list → ⊥
+        fails_nowhere most list fails = (let none = none_fails newest.table.plan.lists (λ p has. has) most in cc (fails, none))
+
+        -- and of none too few are active
+        active_there : (p : Place) → Contains places p → on p ≡ true → has_active seats p ≡ true
+        active_there p has up_there =
+            let one = seated p has up_there in
+            let found = find_has (is_seated identity p text) rs one.0 one.1 one.2 in
+            let seat = mapped (seat_for rs identity text) places p has in
+            let active = and_from (same_place p p) (is_some (find (is_seated identity p text) rs)) ((same_place-true p p).1 refl) (ap is_some found.1) in
+            list_any_at (is_active_at p) seats seat.0 (seat_for rs identity text p) seat.1 (ap (is_active_at p) seat.2 ∙ active)
+
+        list_has_room : (list : List Place) → ((p : Place) → Contains list p → Contains places p) → MostOn g key answers list → short_in More seats list ≡ None
+        list_has_room list within most =
+            let least = count_weaker on (has_active seats) list (λ p has. active_there p (within p has)) in
+            list_none More seats list (lt-ltb (length list) (2 * count_by (has_active seats) list) (omega (arith, least, most)))
+
+        has_room : MostOnEach g key answers newest.table.plan.lists → (share : Share) → short_of More seats newest.table.plan.lists ≡ Some share → ⊥
+        has_room most share short = by newest.table.plan.lists (λ p has. has) most short where
+          by : (lists : Lists) → ((p : Place) → Contains (places_of lists) p → Contains places p) → MostOnEach g key answers lists → short_of More seats lists ≡ Some share → ⊥
+          by (One list) within most short = (let none = list_has_room list within most in cc (none, short))
+          by (Two old new) within most short =
+              let first = list_has_room old (λ p has. within p (in_first (Two old new) p has)) most.0 in
+              let last = list_has_room new (λ p has. within p (in_last (Two old new) p has)) most.1 in
+              let none = lists_none More seats (Two old new) first last in
+              cc (none, short)
+
+        list_most : AllAnswer g key up survey → (list : List Place) → ((p : Place) → Contains list p → Contains places p) → 1 ≤ length list → MostOn g key answers list
+        list_most all_answer list within some =
+            let each = count_all on list (λ p has. (let h = its_place p (within p has) in drive_of p h ∙ all_answer h.line h.own.found.one_of)) in
+            omega (arith, each, some)
+
+        in_list : (list : List Place) → IsOneOf newest.table.plan.lists list → (p : Place) → Contains list p → Contains places p
+        in_list list (inl is) p has = in_first newest.table.plan.lists p (subst (λ (l : List Place). Contains l p) is has)
+        in_list list (inr is) p has = in_last newest.table.plan.lists p (subst (λ (l : List Place). Contains l p) is has)
+
+        some_listed : (list : List Place) → IsOneOf newest.table.plan.lists list → 1 ≤ length list
+        some_listed list one_of = by newest.table.plan.lists its_record.of_geometry.lists one_of where
+          by : (lists : Lists) → IsListsOf g lists → IsOneOf lists list → 1 ≤ length list
+          by (One l) are (inl is) = omega (arith, are.some, ap length is)
+          by (One l) are (inr is) = omega (arith, are.some, ap length is)
+          by (Two old new) are (inl is) = omega (arith, are.0.some, ap length is)
+          by (Two old new) are (inr is) = omega (arith, are.1.some, ap length is)
+
+        is_short_of : (needed : ℕ) (list : List Place) → IsOneOf newest.table.plan.lists list → (MostOn g key answers list → ⊥) → needed ≡ needed_of list → IsShortOf g all key up survey needed
+        is_short_of needed list list_is few needed_is = record {
+          newest = newest;
+          newest_is = newest_is;
+          version = version.version;
+          one_of = subst (λ (l : Log). Contains l.family version.version) (sym (ap log_in current.current)) version.is.one_of;
+          same = same_table;
+          list = list;
+          list_is = list_is;
+          few = few;
+          needed_is = needed_is;
+          away = λ all_answer. few (list_most all_answer list (in_list list list_is) (some_listed list list_is));
         }
 
-    its_record : IsRecordOf g (text_of (at_of replica) newest.slot shows.bytes (here replica.line.at.drive.0)) newest.table
-    its_record = spelled_of g (text_of (at_of replica) newest.slot shows.bytes (here replica.line.at.drive.0)) newest.table sound shows.text
+        failing_short : (readable needed : ℕ) → IsNotEnough rs newest readable needed → IsShortOf g all key up survey needed
+        failing_short readable needed is =
+            let its : identity ≡ is.replica.head.master.identity = ap (λ (r : Replica). r.head.master.identity) (some_is (slice_get rs newest.replica) replica is.replica the.one_of is.the.one_of) in
+            let one = failing_list rs identity newest.table.plan.lists is.list (subst (λ (i : Identity). failing rs i newest.table.plan.lists ≡ Some is.list) (sym its) is.fails) in
+            is_short_of needed is.list one.0 (λ most. false≢true (sym one.1 ∙ read_so is.list (in_list is.list one.0) most)) is.needed_is
 
-    abbrev places : List Place
-    places = places_of newest.table.plan.lists
+        room_short : (needed : ℕ) (share : Share) → short_of More seats newest.table.plan.lists ≡ Some share → needed ≡ share.listed / 2 + 1 → IsShortOf g all key up survey needed
+        room_short needed share short needed_is =
+            let one = short_list More seats newest.table.plan.lists share short in
+            let enough : MostOn g key answers one.0 → suffices More (share_in seats one.0) ≡ true = λ most. list_suffices More seats one.0 (list_has_room one.0 (in_list one.0 one.1) most) in
+            is_short_of needed one.0 one.1 (λ most. false≢true (sym one.3 ∙ ap (suffices More) one.2 ∙ enough most)) (needed_is ∙ ap (λ (s : Share). s.listed / 2 + 1) one.2)
 
-    found_at : (p : Place) → Contains places p → on p ≡ true → is_found_at rs identity p ≡ true
-    found_at p has up_there =
-        let x = there p has up_there in
-        list_any_at (is_there identity p) rs x.found.0 x.replica_there x.found.1
-        (ap (is_there identity p) x.found.2 ∙ and_from (is_of identity x.replica_there) (same_place (place_of x.replica_there) p) x.its ((same_place-true (place_of x.replica_there) p).1 x.lies))
+  -- As long as no places come and go the newest table is one of the key's current database, and each place that it lists has its replica.
+  module _ (anew : AreAnew all) where
+    module _ (newest : Newest) (newest_is : survey.newest ≡ Some newest) (replica : Replica) (the : IsTheOne rs newest replica) where
+      its_current : IsCurrentOf all key (identity newest newest_is replica the)
+      its_current = anew_current g all key (identity newest newest_is replica the) t stand anew (is_shown newest newest_is replica the)
 
-    -- each place has room for the text
-    abbrev text : ℕ
-    text = blocks_for (length (record_text newest.table))
+      abbrev its_log : Log
+      its_log = its_current.database.log
 
-    abbrev seats : List Seat
-    seats = seats_of rs identity text places
+      log_anew : IsAnew its_log
+      log_anew = anew its_current.database (current_in key all its_current.database its_current.current)
 
-    fits : (p : Place) → Contains places p → text ≤ slot_blocks p.blocks
-    fits p has =
-        let least = room_least seats (seat_for rs identity text p) (mapped (seat_for rs identity text) places p has) in
-        let room = ap least_room (seats_places rs identity text places) in
-        let in_room = its_record.in_room in
-        let bytes = length-record_text newest.table in
-        omega (arith, least, room, in_room, bytes)
+      every_place : (p : Place) → Contains (places_of newest.table.plan.lists) p → HasPlace (Spells g) site (identity newest newest_is replica the) (last t) p
+      every_place p has =
+          let found = version newest newest_is replica the its_current log_anew.lives in
+          all_places (Spells g) site (identity newest newest_is replica the) its_log (last t) log_anew (stand.logs its_current.database (current_in key all its_current.database its_current.current)).rising
+          (listed newest newest_is replica the its_current log_anew.lives) found.version p found.is.one_of (subst (λ (u : Table). Contains (places_of u.plan.lists) p) (sym (same_table newest newest_is replica the its_current log_anew.lives)) has)
 
-    seated : (p : Place) → Contains places p → on p ≡ true → Takes rs identity text p
-    seated p has up_there =
-        let x = there p has up_there in (
-          x.replica_there,
-          x.found,
-          and_from (is_of identity x.replica_there) (same_place (place_of x.replica_there) p && nat_le text (slot_blocks x.replica_there.first.blocks)) x.its
-              (and_from (same_place (place_of x.replica_there) p) (nat_le text (slot_blocks x.replica_there.first.blocks)) ((same_place-true (place_of x.replica_there) p).1 x.lies)
-              (subst (λ (n : ℕ). nat_le text (slot_blocks n) ≡ true) (sym x.long) (le-leb text (slot_blocks p.blocks) (fits p has)))),
-        )
+      not_enough : (readable needed : ℕ) → IsNotEnough rs newest readable needed → IsShortOf g all key up survey needed
+      not_enough = failing_short newest newest_is replica the its_current log_anew.lives every_place
 
-    -- so more than half of the places of each list are enough
-    read_so : (list : List Place) → ((p : Place) → Contains list p → Contains places p) → MostOn g key answers list → is_read rs identity list ≡ true
-    read_so list within most =
-        let least = count_weaker on (is_found_at rs identity) list (λ p has. found_at p (within p has)) in
-        lt-ltb (length list) (2 * readable_of rs identity list) (omega (arith, least, most))
+      no_room : (needed : ℕ) (share : Share) → short_of More (seats newest newest_is replica the its_current log_anew.lives every_place) newest.table.plan.lists ≡ Some share → needed ≡ share.listed / 2 + 1 → IsShortOf g all key up survey needed
+      no_room = room_short newest newest_is replica the its_current log_anew.lives every_place
 
-    none_fails : (lists : Lists) → ((p : Place) → Contains (places_of lists) p → Contains places p) → MostOnEach g key answers lists → failing rs identity lists ≡ None
-    none_fails (One list) within most = cond-true (is_read rs identity list) None (Some list) (read_so list within most)
-    none_fails (Two old new) within most =
-        cond-true (is_read rs identity old) (cond (is_read rs identity new) None (Some new)) (Some old) (read_so old (λ p has. within p (in_first (Two old new) p has)) most.0)
-        ∙ cond-true (is_read rs identity new) None (Some new) (read_so new (λ p has. within p (in_last (Two old new) p has)) most.1)
+    not_few : (o : Option Newest) → survey.newest ≡ o → (readable needed : ℕ) → MatchOption o (chosen.NoQuorum readable needed ≡ chosen.Empty) (λ (n : Newest). IsChoiceAmong rs n (chosen.NoQuorum readable needed)) → IsShortOf g all key up survey needed
+    not_few None is_newest readable needed never = absurd (cc (never))
+    not_few (Some newest) is_newest readable needed few = not_enough newest is_newest few.replica few.the readable needed few
 
-    fails_nowhere : MostOnEach g key answers newest.table.plan.lists → (list : List Place) → failing rs identity newest.table.plan.lists ≡ Some list → ⊥
-    fails_nowhere most list fails = (let none = none_fails newest.table.plan.lists (λ p has. has) most in cc (fails, none))
+    -- so a boot is short of a list of it
+    pub short_by : (readable needed : ℕ) → IsShort survey readable needed → IsShortOf g all key up survey needed
+    short_by readable needed (inl choice) = not_few survey.newest refl readable needed choice
+    short_by readable needed (inr (was, newest, replica, listed_seats, hand, share, short, readable_is, needed_is)) =
+        no_room newest hand.newest_is replica hand.the needed share (subst (λ (l : List Seat). short_of More l newest.table.plan.lists ≡ Some share) hand.seats_are short) needed_is
 
-    -- and of none too few are active
-    active_there : (p : Place) → Contains places p → on p ≡ true → has_active seats p ≡ true
-    active_there p has up_there =
-        let one = seated p has up_there in
-        let found = find_has (is_seated identity p text) rs one.0 one.1 one.2 in
-        let seat = mapped (seat_for rs identity text) places p has in
-        let active = and_from (same_place p p) (is_some (find (is_seated identity p text) rs)) ((same_place-true p p).1 refl) (ap is_some found.1) in
-        list_any_at (is_active_at p) seats seat.0 (seat_for rs identity text p) seat.1 (ap (is_active_at p) seat.2 ∙ active)
+  -- Nor is it short where more than half of the places answer that each table of the current one lists which a boot may find, as long as it isn't about to be deleted.
+  module _ (lives : (log_of all key).fate ≡ Lives) (firm : is_firm (log_of all key) ≡ true) (list : List Place) (lists : (x : Version) → MayBeFound (log_of all key).family x → x.table.plan.lists ≡ One list) (most : MostOn g key answers list) where
+    current_one : (d : Database) × (current_of all key ≡ Some d)
+    current_one = by (current_of all key) refl firm
+      where
+        by : (o : Option Database) → current_of all key ≡ o → is_firm (log_in o) ≡ true → (d : Database) × (current_of all key ≡ Some d)
+        by None none firm_in = absurd (false≢true firm_in)
+        by (Some d) is firm_in = (d, is)
 
-    list_has_room : (list : List Place) → ((p : Place) → Contains list p → Contains places p) → MostOn g key answers list → short_in More seats list ≡ None
-    list_has_room list within most =
-        let least = count_weaker on (has_active seats) list (λ p has. active_there p (within p has)) in
-        list_none More seats list (lt-ltb (length list) (2 * count_by (has_active seats) list) (omega (arith, least, most)))
+    abbrev d : Database
+    d = current_one.0
 
-    has_room : MostOnEach g key answers newest.table.plan.lists → (share : Share) → short_of More seats newest.table.plan.lists ≡ Some share → ⊥
-    has_room most share short = by newest.table.plan.lists (λ p has. has) most short where
-      by : (lists : Lists) → ((p : Place) → Contains (places_of lists) p → Contains places p) → MostOnEach g key answers lists → short_of More seats lists ≡ Some share → ⊥
-      by (One list) within most short = (let none = list_has_room list within most in cc (none, short))
-      by (Two old new) within most short =
-          let first = list_has_room old (λ p has. within p (in_first (Two old new) p has)) most.0 in
-          let last = list_has_room new (λ p has. within p (in_last (Two old new) p has)) most.1 in
-          let none = lists_none More seats (Two old new) first last in
-          cc (none, short)
+    same_log : log_of all key ≡ d.log
+    same_log = ap log_in current_one.1
 
-    list_most : AllAnswer g key up survey → (list : List Place) → ((p : Place) → Contains list p → Contains places p) → 1 ≤ length list → MostOn g key answers list
-    list_most all_answer list within some =
-        let each = count_all on list (λ p has. (let h = its_place p (within p has) in drive_of p h ∙ all_answer h.line h.own.found.one_of)) in
-        omega (arith, each, some)
+    d_world : (w : Core) × IsWorld (Spells g) site d.identity d.log w (last t)
+    d_world =
+        let has = (stand.worlds (last t) (last_image t)).worlds d (current_in key all d current_one.1) in
+        (has.0, subst (λ (k : Key). IsWorld (Spells g) (site_of g k) d.identity d.log has.0 (last t)) (current_key key all d current_one.1) has.1)
 
-    in_list : (list : List Place) → IsOneOf newest.table.plan.lists list → (p : Place) → Contains list p → Contains places p
-    in_list list (inl is) p has = in_first newest.table.plan.lists p (subst (λ (l : List Place). Contains l p) is has)
-    in_list list (inr is) p has = in_last newest.table.plan.lists p (subst (λ (l : List Place). Contains l p) is has)
+    d_lives : d.log.fate ≡ Lives
+    d_lives = subst (λ (l : Log). l.fate ≡ Lives) same_log lives
 
-    some_listed : (list : List Place) → IsOneOf newest.table.plan.lists list → 1 ≤ length list
-    some_listed list one_of = by newest.table.plan.lists its_record.of_geometry.lists one_of where
-      by : (lists : Lists) → IsListsOf g lists → IsOneOf lists list → 1 ≤ length list
-      by (One l) are (inl is) = omega (arith, are.some, ap length is)
-      by (One l) are (inr is) = omega (arith, are.some, ap length is)
-      by (Two old new) are (inl is) = omega (arith, are.0.some, ap length is)
-      by (Two old new) are (inr is) = omega (arith, are.1.some, ap length is)
+    d_firm : is_firm d.log ≡ true
+    d_firm = subst (λ (l : Log). is_firm l ≡ true) same_log firm
 
-    -- the version is one that a boot may find, where it reads more than half of the places of each of these
-    module _ (firm : is_firm log ≡ true) (list : List Place) (lists : (x : Version) → MayBeFound log.family x → x.table.plan.lists ≡ One list) (most : MostOn g key answers list) where
-      f : (f : ℕ) × (world.0.firm ≡ Some f)
-      f = firm_some g site identity log world.0 here world.1 firm
+    d_lists : (x : Version) → MayBeFound d.log.family x → x.table.plan.lists ≡ One list
+    d_lists = subst (λ (l : Log). (x : Version) → MayBeFound l.family x → x.table.plan.lists ≡ One list) same_log lists
 
-      met : Meets g site identity log world.0 here world.1 f.0 f.1 answers
-      met = meets g site identity log world.0 here world.1 f.0 f.1 list (lists (version_at log.family f.0) (firm_found g site identity log world.0 here world.1 f.0 f.1)) answers most anew.lives
+    its_firm : (f : ℕ) × (d_world.0.firm ≡ Some f)
+    its_firm = firm_some g site d.identity d.log d_world.0 (last t) d_world.1 d_firm
 
-      -- it shows no greater mark
-      not_above : (m : Mark) → m ≡ (table_at world.0.family met.number).mark → IsBelow newest.mark m → ⊥
-      not_above m is below = marks.greatest met.replica (of.all met.replica met.found met.on) met.slot (table_at world.0.family met.number).mark met.bytes met.gate (subst (λ (k : Mark). IsBelow newest.mark k) is below)
+    -- a replica of it that shows a table is found, so the newest table is its one
+    meeting : Meets g site d.identity d.log d_world.0 (last t) d_world.1 its_firm.0 its_firm.1 answers
+    meeting = meets g site d.identity d.log d_world.0 (last t) d_world.1 its_firm.0 its_firm.1 list (d_lists (version_at d.log.family its_firm.0) (firm_found g site d.identity d.log d_world.0 (last t) d_world.1 its_firm.0 its_firm.1)) answers most d_lives
 
-      not_older : (x : Version) → Contains log.family x → x.is_written ≡ true → IsBelow version.version.mark x.mark → ⊥
-      not_older x has written below =
-          let k = numbered site log world.0 world.1.reached world.1.matches x has in
-          let other = world.1.matches.answered k.0 k.1 (ap (λ (y : Version). y.is_written) k.2 ∙ written) in
-          let firms : other.0 ≡ f.0 = some_is world.0.firm other.0 f.0 other.1 f.1 in
-          let over : IsBelow newest.mark (table_at world.0.family k.0).mark = subst (λ (m : Mark). IsBelow newest.mark m) (sym k.3) (subst (λ (m : Mark). IsBelow m x.mark) version.is.marked below) in
-          let up_to = met.above in
-          let at_most = other.2 in
-          elim (cases_lt k.0 met.number) [
-            | inl less ↦
-                not_above (table_at world.0.family met.number).mark refl
-                (below_more newest.mark (table_at world.0.family k.0).mark (table_at world.0.family met.number).mark over ((standing site world.0 world.1.reached).family.marks k.0 met.number less met.known))
-            | inr more ↦ (let same : k.0 ≡ met.number = omega (arith, more, up_to, at_most, firms) in not_above (table_at world.0.family k.0).mark (ap (λ (n : ℕ). (table_at world.0.family n).mark) same) over)
-          ]
+    module _ (newest : Newest) (newest_is : survey.newest ≡ Some newest) (replica : Replica) (the : IsTheOne rs newest replica) where
+      is_current_one : IsCurrentOf all key (identity newest newest_is replica the)
+      is_current_one = record {
+        database = d;
+        current = current_one.1;
+        as_begun = sym meeting.its ∙ the.one meeting.replica (of.all meeting.replica meeting.found meeting.on) (opens meeting.replica.head meeting.slot _ meeting.bytes meeting.gate);
+      }
 
-      its_lists : newest.table.plan.lists ≡ One list
-      its_lists = ap (λ (u : Table). u.plan.lists) (sym same_table) ∙ lists version.version (version.is.one_of, all_that (λ x. x.is_written ≡ true → IsBelow version.version.mark x.mark → ⊥) log.family not_older)
+      places_there : (p : Place) → Contains (places_of newest.table.plan.lists) p → HasPlace (Spells g) site (identity newest newest_is replica the) (last t) p
+      unfolding is_current_one
+      places_there = place_found newest newest_is replica the is_current_one d_lives d_firm list d_lists most
 
-    is_short_of : (needed : ℕ) (list : List Place) → IsOneOf newest.table.plan.lists list → (MostOn g key answers list → ⊥) → needed ≡ needed_of list → IsShortOf g all key up survey needed
-    is_short_of needed list list_is few needed_is = record {
-      newest = newest;
-      newest_is = newest_is;
-      version = version.version;
-      one_of = subst (λ (l : Log). Contains l.family version.version) (sym (ap log_in current.current)) version.is.one_of;
-      same = same_table;
-      list = list;
-      list_is = list_is;
-      few = few;
-      needed_is = needed_is;
-      away = λ all_answer. few (list_most all_answer list (in_list list list_is) (some_listed list list_is));
-    }
+      most_read : MostOnEach g key answers newest.table.plan.lists
+      unfolding is_current_one
+      most_read = subst (λ (l : Lists). MostOnEach g key answers l) (sym (its_lists newest newest_is replica the is_current_one d_lives d_firm list d_lists most)) most
 
-    failing_short : (readable needed : ℕ) → IsNotEnough rs newest readable needed → IsShortOf g all key up survey needed
-    failing_short readable needed is =
-        let its : identity ≡ is.replica.head.master.identity = ap (λ (r : Replica). r.head.master.identity) (some_is (slice_get rs newest.replica) replica is.replica the.one_of is.the.one_of) in
-        let one = failing_list rs identity newest.table.plan.lists is.list (subst (λ (i : Identity). failing rs i newest.table.plan.lists ≡ Some is.list) (sym its) is.fails) in
-        is_short_of needed is.list one.0 (λ most. false≢true (sym one.1 ∙ read_so is.list (in_list is.list one.0) most)) is.needed_is
+      none_fail : (fails : List Place) → failing rs (identity newest newest_is replica the) newest.table.plan.lists ≡ Some fails → ⊥
+      unfolding is_current_one
+      none_fail = fails_nowhere newest newest_is replica the is_current_one d_lives places_there most_read
 
-    room_short : (needed : ℕ) (share : Share) → short_of More seats newest.table.plan.lists ≡ Some share → needed ≡ share.listed / 2 + 1 → IsShortOf g all key up survey needed
-    room_short needed share short needed_is =
-        let one = short_list More seats newest.table.plan.lists share short in
-        let enough : MostOn g key answers one.0 → suffices More (share_in seats one.0) ≡ true = λ most. list_suffices More seats one.0 (list_has_room one.0 (in_list one.0 one.1) most) in
-        is_short_of needed one.0 one.1 (λ most. false≢true (sym one.3 ∙ ap (suffices More) one.2 ∙ enough most)) (needed_is ∙ ap (λ (s : Share). s.listed / 2 + 1) one.2)
-
-  not_few : (o : Option Newest) → survey.newest ≡ o → (readable needed : ℕ) → MatchOption o (chosen.NoQuorum readable needed ≡ chosen.Empty) (λ (n : Newest). IsChoiceAmong rs n (chosen.NoQuorum readable needed)) → IsShortOf g all key up survey needed
-  not_few None is_newest readable needed never = absurd (cc (never))
-  not_few (Some newest) is_newest readable needed few = failing_short newest is_newest few.replica few.the readable needed few
-
-  pub short_by : (readable needed : ℕ) → IsShort survey readable needed → IsShortOf g all key up survey needed
-  short_by readable needed (inl choice) = not_few survey.newest refl readable needed choice
-  short_by readable needed (inr (was, newest, replica, listed_seats, hand, share, short, readable_is, needed_is)) =
-      room_short newest hand.newest_is replica hand.the needed share (subst (λ (l : List Seat). short_of More l newest.table.plan.lists ≡ Some share) hand.seats_are short) needed_is
-
-  -- nor is it short where more than half of the places answer that each table lists which a boot may find
-  module _ (firm : is_firm (log_of all key) ≡ true) (list : List Place) (lists : (x : Version) → MayBeFound (log_of all key).family x → x.table.plan.lists ≡ One list) (most : MostOn g key answers list) where
-    lists_are : (newest : Newest) (newest_is : survey.newest ≡ Some newest) (replica : Replica) (the : IsTheOne rs newest replica) → newest.table.plan.lists ≡ One list
-    lists_are newest newest_is replica the =
-        let is_log : log_of all key ≡ (current newest newest_is replica the).database.log = ap log_in (current newest newest_is replica the).current in
-        its_lists newest newest_is replica the (subst (λ (l : Log). is_firm l ≡ true) is_log firm) list (subst (λ (l : Log). (x : Version) → MayBeFound l.family x → x.table.plan.lists ≡ One list) is_log lists) most
-
-    most_read : (newest : Newest) (newest_is : survey.newest ≡ Some newest) (replica : Replica) (the : IsTheOne rs newest replica) → MostOnEach g key answers newest.table.plan.lists
-    most_read newest newest_is replica the = subst (λ (l : Lists). MostOnEach g key answers l) (sym (lists_are newest newest_is replica the)) most
+      none_full : (share : Share) → short_of More (seats_of rs (identity newest newest_is replica the) (blocks_for (length (record_text newest.table))) (places_of newest.table.plan.lists)) newest.table.plan.lists ≡ Some share → ⊥
+      unfolding is_current_one
+      none_full = has_room newest newest_is replica the is_current_one d_lives places_there most_read
 
     few_never : (o : Option Newest) → survey.newest ≡ o → (readable needed : ℕ) → MatchOption o (chosen.NoQuorum readable needed ≡ chosen.Empty) (λ (n : Newest). IsChoiceAmong rs n (chosen.NoQuorum readable needed)) → ⊥
     few_never None is_newest readable needed never = cc (never)
-    few_never (Some newest) is_newest readable needed few = fails_nowhere newest is_newest few.replica few.the (most_read newest is_newest few.replica few.the) few.list few.fails
+    few_never (Some newest) is_newest readable needed few = none_fail newest is_newest few.replica few.the few.list few.fails
 
     pub never_short : (readable needed : ℕ) → IsShort survey readable needed → ⊥
     never_short readable needed (inl choice) = few_never survey.newest refl readable needed choice
     never_short readable needed (inr (was, newest, replica, listed_seats, hand, share, short, readable_is, needed_is)) =
-        has_room newest hand.newest_is replica hand.the (most_read newest hand.newest_is replica hand.the) share (subst (λ (l : List Seat). short_of More l newest.table.plan.lists ≡ Some share) hand.seats_are short)
-
-    -- and where more than half of the list lies on drives that pass a test, and each drive of a slice that passes it answers, more than half of what a boot has in hand are replicas on such drives
-    pub most_borne : (calm : ℕ → Bool) → ((line : SliceLine) → Contains site.lines line → calm line.at.drive.0 ≡ true → answers line.at.drive.0 ≡ true) → MostOn g key calm list
-        → (newest : Newest) (newest_is : survey.newest ≡ Some newest) (replica : Replica) (the : IsTheOne rs newest replica)
-        → length (seats newest newest_is replica the) < 2 * count_by (λ (r : Replica). calm r.line.at.drive.0) (replicas_of (seats newest newest_is replica the))
-    most_borne calm answered calm_most newest newest_is replica the =
-        let at = places newest newest_is replica the in
-        let more : MostOn g key calm at = subst (λ (l : Lists). MostOn g key calm (places_of l)) (sym (lists_are newest newest_is replica the)) calm_most in
-        let least = passing_least rs (identity newest newest_is replica the) (text newest newest_is replica the) on_calm (λ (r : Replica). calm r.line.at.drive.0) at takes passes in
-        let count = length-map at (seat_for rs (identity newest newest_is replica the) (text newest newest_is replica the)) in
-        omega (arith, least, count, more)
-      where
-        on_calm : Place → Bool
-        on_calm place = is_on calm (slice_at site.lines place.slice)
-
-        takes : (p : Place) → Contains (places newest newest_is replica the) p → on_calm p ≡ true → Takes rs (identity newest newest_is replica the) (text newest newest_is replica the) p
-        takes p has calm_there =
-            let h = its_place newest newest_is replica the p has in
-            let found = line_found g sound key h.line h.own.found.one_of in
-            let is_calm : calm h.line.at.drive.0 ≡ true = sym (ap (λ (q : Place). on_calm q) h.is ∙ ap (is_on calm) found) ∙ calm_there in
-            seated newest newest_is replica the p has (drive_of newest newest_is replica the p h ∙ answered h.line h.own.found.one_of is_calm)
-
-        passes : (p : Place) (r : Replica) → Contains rs r → on_calm p ≡ true → is_seated (identity newest newest_is replica the) p (text newest newest_is replica the) r ≡ true → calm r.line.at.drive.0 ≡ true
-        passes p r has calm_there seated_there =
-            let same = sym (seated_place site (identity newest newest_is replica the) p (text newest newest_is replica the) r (is.each r has).seated seated_there) in
-            sym (ap (λ (q : Place). on_calm q) same ∙ ap (is_on calm) (line_found g sound key r.line (of.each r has).one_of)) ∙ calm_there
+        none_full newest hand.newest_is replica hand.the share (subst (λ (l : List Seat). short_of More l newest.table.plan.lists ≡ Some share) hand.seats_are short)

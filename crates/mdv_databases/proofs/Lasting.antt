@@ -29,26 +29,30 @@ use Rattle.mdv_survey.specs.Replica.{at_of}
 use Rattle.mdv_store.specs.Seats.{drive_of}
 use Rattle.mdv_databases.specs.Below.{Area, AreApart, Core, Database, Everywhere, Geometry, HasNoReplica, Identity, Image, IsBlank, IsImage, IsOpenedAt, IsReadyWith, Key, KeptOutside, Log, Opened, Spells, Table, Tale, log_of, restarted, site_area, site_of, spots_of}
 use Rattle.mdv_databases.specs.Going.{IsOpenIn}
-use Rattle.mdv_databases.specs.Lasting.{HasNoTable, IsElsewhere, LeavesNoMore}
+use Rattle.mdv_databases.specs.Lasting.{AreFreed, HasNoTable, IsElsewhere, LeavesNoMore}
 use Rattle.mdv_databases.specs.Standing.{Stand}
+use Rattle.mdv_databases.proofs.Going.{free_still}
 
 pub stand_crashed : (g : Geometry) (all : List Database) (m : Tale) (image : Image) (told : List ℕ) → Stand g all m → IsImage m image → Stand g all (restarted image told)
 stand_crashed g all m image told s is = record {
   worlds = all_stand (Spells g) g all m image told s.worlds is;
   logs = s.logs;
-  anew = s.anew;
+  ended = s.ended;
   current = s.current;
-  over = λ d has over. everywhere_begun (ShowsNoTable (Spells g) (site_of g d.key) d.identity) (record { block = image; told = told }) (s.over d has over image is);
+  over = λ d has over. free_still g d m (restarted image told) (λ blank. everywhere_begun (ShowsNoTable (Spells g) (site_of g d.key) d.identity) (record { block = image; told = told }) (blank image is)) (s.over d has over);
 }
 
 pub stand_fewer : (g : Geometry) (all : List Database) (t u : Tale) → LeavesNoMore t u → Stand g all t → Stand g all u
 stand_fewer g all t u fewer s = record {
   worlds = λ image is. s.worlds image (fewer image is);
   logs = s.logs;
-  anew = s.anew;
+  ended = s.ended;
   current = s.current;
-  over = λ d has over image is. s.over d has over image (fewer image is);
+  over = λ d has over. free_still g d t u (λ blank image is. blank image (fewer image is)) (s.over d has over);
 }
+
+pub freed_fewer : (g : Geometry) (all : List Database) (key : Key) (t u : Tale) → LeavesNoMore t u → AreFreed g all key t → AreFreed g all key u
+freed_fewer g all key t u fewer free d has keyed = free_still g d t u (λ blank image is. blank image (fewer image is)) (free d has keyed)
 
 pub opened_fewer : (g : Geometry) (o : Opened) (t u : Tale) → LeavesNoMore t u → IsOpenedAt g o t → IsOpenedAt g o u
 opened_fewer g o t u fewer is = record {
@@ -60,13 +64,13 @@ opened_fewer g o t u fewer is = record {
 }
 
 pub open_fewer : (g : Geometry) (o : Opened) (all : List Database) (t u : Tale) → LeavesNoMore t u → IsOpenIn g o all t → IsOpenIn g o all u
-open_fewer g o all t u fewer is = record { its = is.its; newest = is.newest; ready = λ image im. is.ready image (fewer image im); opened = opened_fewer g o t u fewer is.opened }
+open_fewer g o all t u fewer is = record { its = is.its; lives = is.lives; newest = is.newest; ready = λ image im. is.ready image (fewer image im); opened = opened_fewer g o t u fewer is.opened }
 
 pub stand_new : (g : Geometry) (image : Image) (told : List ℕ) → HasNoReplica (Spells g) g image → Stand g [] (restarted image told)
 stand_new g image told none = record {
   worlds = none_stand (Spells g) g image told none;
   logs = λ d has. absurd (omega (arith, has.1));
-  anew = λ d has. absurd (omega (arith, has.1));
+  ended = λ d has. absurd (omega (arith, has.1));
   current = λ d has. absurd (omega (arith, has.1));
   over = λ d has. absurd (omega (arith, has.1));
 }
@@ -145,13 +149,16 @@ module _ (g : Geometry) (area : Area) (elsewhere : IsElsewhere g area) where
     pub tables_elsewhere : (key : Key) → HasNoTable g key t → HasNoTable g key m
     tables_elsewhere key none identity = blank_elsewhere key identity (none identity)
 
+    pub freed_elsewhere : (all : List Database) (key : Key) → AreFreed g all key t → AreFreed g all key m
+    freed_elsewhere all key free d has keyed = free_still g d t m (blank_elsewhere d.key d.identity) (free d has keyed)
+
     pub stand_elsewhere : (all : List Database) → Stand g all t → Stand g all m
     stand_elsewhere all s = record {
       worlds = still (Holds (Spells g) g all) (holds_still all) s.worlds;
       logs = s.logs;
-      anew = s.anew;
+      ended = s.ended;
       current = s.current;
-      over = λ d has over. blank_elsewhere d.key d.identity (s.over d has over);
+      over = λ d has over. free_still g d t m (blank_elsewhere d.key d.identity) (s.over d has over);
     }
 
     pub opened_elsewhere : (o : Opened) → IsOpenedAt g o t → IsOpenedAt g o m
@@ -179,6 +186,7 @@ module _ (g : Geometry) (area : Area) (elsewhere : IsElsewhere g area) where
     pub open_elsewhere : (o : Opened) (all : List Database) → IsOpenIn g o all t → IsOpenIn g o all m
     open_elsewhere o all is = record {
       its = is.its;
+      lives = is.lives;
       newest = is.newest;
       ready = still (λ image. (w : Core) × IsWorld (Spells g) (site_of g o.key) o.identity (log_of all o.key) w image × IsReadyWith (spots_of o.seats) w) (λ old new same has. (has.0, world_still o.key old new same o.identity (log_of all o.key) has.0 has.1, has.2)) is.ready;
       opened = opened_elsewhere o is.opened;

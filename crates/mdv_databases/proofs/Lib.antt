@@ -1,4 +1,6 @@
 pub mod Lists
+pub mod Ended
+pub mod Loose
 pub mod Going
 pub mod Committing
 pub mod Booting
@@ -8,3 +10,6 @@ pub mod Telling
 pub mod Nothing
 pub mod Meeting
 pub mod Finding
+pub mod Moving
+pub mod Bare
+pub mod Ending

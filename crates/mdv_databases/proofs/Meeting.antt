@@ -119,6 +119,7 @@ module _ (g : Geometry) (site : Site) (identity : Identity) (log : Log) (w : Cor
       pub replica : Replica
       pub found : IsFoundIn g site image replica
       pub on : up replica.line.at.drive.0 ≡ true
+      pub its : replica.head.master.identity ≡ identity
       pub number : ℕ
       pub above : f ≤ number
       pub known : number < length w.family
@@ -147,6 +148,7 @@ module _ (g : Geometry) (site : Site) (identity : Identity) (log : Log) (w : Cor
             replica = record { line = one.at.line; number = one.at.number; first = one.at.first; head = one.at.head };
             found = one.at.own.found;
             on = on_drive p.0 one.at up place.1;
+            its = one.at.own.of_identity;
             number = has.table;
             above = has.above;
             known = stands.family.shown p.0 has.table has.shows;
@@ -163,17 +165,17 @@ module _ (g : Geometry) (site : Site) (identity : Identity) (log : Log) (w : Cor
       let f = world.matches.answered i.0 i.1 (ap (λ (y : Version). y.is_written) i.2 ∙ v.2) in
       (f.0, f.1)
 
-pub databases_meet : (g : Geometry) (all : List Database) (key : Key) (places : List Place) (up : ℕ → Bool) (t : Tale) → Stand g all t → is_firm (log_of all key) ≡ true
+pub databases_meet : (g : Geometry) (all : List Database) (key : Key) (places : List Place) (up : ℕ → Bool) (t : Tale) → Stand g all t → (log_of all key).fate ≡ Lives → is_firm (log_of all key) ≡ true
     → ((v : Version) → MayBeFound (log_of all key).family v → v.table.plan.lists ≡ One places) → MostOn g key up places
     → (r : Replica) × IsFoundIn g (site_of g key) (last t) r × (up r.line.at.drive.0 ≡ true) × (shows r.head ≡ true)
-databases_meet g all key places up t stand firm lists most = of_one (current_of all key) refl firm lists
+databases_meet g all key places up t stand lives firm lists most = of_one (current_of all key) refl lives firm lists
   where
-    of_one : (c : Option Database) → current_of all key ≡ c → is_firm (log_in c) ≡ true → ((v : Version) → MayBeFound (log_in c).family v → v.table.plan.lists ≡ One places)
+    of_one : (c : Option Database) → current_of all key ≡ c → (log_in c).fate ≡ Lives → is_firm (log_in c) ≡ true → ((v : Version) → MayBeFound (log_in c).family v → v.table.plan.lists ≡ One places)
         → (r : Replica) × IsFoundIn g (site_of g key) (last t) r × (up r.line.at.drive.0 ≡ true) × (shows r.head ≡ true)
-    of_one None is firm lists = absurd (false≢true firm)
-    of_one (Some d) is firm lists =
+    of_one None is lives firm lists = absurd (false≢true firm)
+    of_one (Some d) is lives firm lists =
         let has = (stand.worlds (last t) (last_image t)).worlds d (current_in key all d is) in
         let world = subst (λ (k : Key). IsWorld (Spells g) (site_of g k) d.identity d.log has.0 (last t)) (current_key key all d is) has.1 in
         let f = firm_some g (site_of g key) d.identity d.log has.0 (last t) world firm in
-        let one = meets g (site_of g key) d.identity d.log has.0 (last t) world f.0 f.1 places (lists (version_at d.log.family f.0) (firm_found g (site_of g key) d.identity d.log has.0 (last t) world f.0 f.1)) up most (stand.anew d (current_in key all d is)).lives in
+        let one = meets g (site_of g key) d.identity d.log has.0 (last t) world f.0 f.1 places (lists (version_at d.log.family f.0) (firm_found g (site_of g key) d.identity d.log has.0 (last t) world f.0 f.1)) up most lives in
         (one.replica, one.found, one.on, opens one.replica.head one.slot (table_at has.0.family one.number).mark one.bytes one.gate)

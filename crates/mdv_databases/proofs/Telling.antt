@@ -1,5 +1,5 @@
 -- A deed is told: the worlds of a log are those of the log behind it.
-use Rattle.std.proofs.Common.{◌≡◌, ⊎_elim, inl, inr, List, [], ◌∷◌, Contains, sym, subst}
+use Rattle.std.proofs.Common.{◌≡◌, ⊎_elim, inl, inr, List, [], ◌∷◌, Contains, sym, subst, ap, ◌∙◌}
 use Rattle.std.proofs.lemmas.List.Elements.{All-contains}
 use Rattle.mdv_standing.specs.Matching.{Matches}
 use Rattle.mdv_standing.specs.Worlds.{IsWorld}
@@ -12,8 +12,8 @@ use Rattle.mdv_shown.specs.declared.site.Site.{Site}
 use Rattle.mdv_store.specs.Commit.{IsNewestWritten}
 use Rattle.mdv_databases.specs.Below.{Change, Core, CoversWith, Database, Geometry, Identity, Image, IsReadyWith, Key, Log, Opened, Spells, Tale, log_of, site_of, spots_of, with_event}
 use Rattle.mdv_databases.specs.Going.{HasAllTold, IsCurrentOf, IsOpenIn}
-use Rattle.mdv_databases.specs.Standing.{Stand}
-use Rattle.mdv_databases.proofs.Going.{its_log, its_worlds, stand_behind}
+use Rattle.mdv_databases.specs.Standing.{AreAnew, Stand}
+use Rattle.mdv_databases.proofs.Going.{anew_behind, its_log, its_worlds, stand_behind}
 use Rattle.mdv_databases.proofs.Lists.{events_its, events_log}
 
 module _ (which before : List Change) where
@@ -40,8 +40,11 @@ module _ (which before : List Change) where
   module _ (g : Geometry) (all : List Database) (key : Key) (m : Tale) where
     pub told_stand : (identity : Identity) → Stand g all m → IsCurrentOf all key identity → MayHappen g (log_of all key) told → Stand g (with_event key told all) m
     told_stand identity stand its may =
-        stand_behind g all key identity m stand its (told ∷ []) m (may, tt) (tt, tt) (rest_of (Spells g) g all m identity stand.worlds) (λ ask other another blank. blank)
+        stand_behind g all key identity m stand its (told ∷ []) m (may, tt) (rest_of (Spells g) g all m identity stand.worlds) (λ ask other another blank. blank)
         (λ image is. (let one = its_worlds g all key identity m stand its image is in (one.0, world_told g (site_of g key) identity (log_of all key) one.0 image one.1)))
+
+    pub told_anew : (identity : Identity) → Stand g all m → IsCurrentOf all key identity → MayHappen g (log_of all key) told → AreAnew all → AreAnew (with_event key told all)
+    told_anew identity stand its may anew = anew_behind g all key identity m stand its (told ∷ []) anew (may, tt) (tt, tt)
 
   newest_told : (log : Log) (o : Opened) → IsNewestWritten log o.mark o.table → IsNewestWritten (log_after log told) o.mark o.table
   newest_told log o is = (let n = is.newest in record { newest = record { version = n.version; older = n.older; family = n.family; marked = n.marked; same = n.same }; written = is.written })
@@ -52,6 +55,7 @@ module _ (which before : List Change) where
       let same : log_of next o.key ≡ log_after (log_of all o.key) told = events_log o.key (told ∷ []) all is.its.database is.its.current in
       record {
         its = events_its o.key (told ∷ []) all o.identity is.its;
+        lives = ap (λ (l : Log). l.fate) same ∙ is.lives;
         newest = subst (λ (l : Log). IsNewestWritten l o.mark o.table) (sym same) (newest_told (log_of all o.key) o is.newest);
         ready = subst (λ (l : Log). CoversWith (Spells g) (site_of g o.key) o.identity (λ image w. IsReadyWith (spots_of o.seats) w) l m) (sym same)
             (λ image at. (let one = is.ready image at in (one.0, world_told g (site_of g o.key) o.identity (log_of all o.key) one.0 image one.1, one.2)));

@@ -2,20 +2,23 @@
 use Rattle.std.specs.Prelude.{◌≡◌, ◌⊎◌, ℕ, true, List, [], Contains, Some}
 use Rattle.mdv_base.specs.DriveSet.{Drives}
 use Rattle.mdv_store.specs.Boot.{IsShort}
-use Rattle.mdv_store.specs.Booting.{BootMoment, HasShown, IsBootedTo}
+use Rattle.mdv_store.specs.Booting.{BootMomentOn, HasShown, IsBootedOn, WasReadOn}
 use Rattle.mdv_store.specs.Commit.{AnyLog, IsNewestWritten}
 use Rattle.mdv_store.specs.declared.booting.BootEnd.{BootEnd}
 use Rattle.mdv_store.specs.declared.booting.BootEnd.TheVariants as end
 use Rattle.mdv_survey.specs.Choice.{needed_of}
 use Rattle.mdv_survey.specs.Survey.{IsSurvey, IsSurveyOf, answers_in}
-use Rattle.mdv_store_law.specs.Log.{Version}
+use Rattle.mdv_shown.specs.Choice.{Seen}
+use Rattle.mdv_standing.specs.Below.{Mark}
+use Rattle.mdv_standing.specs.Matching.{HasStaleVote}
+use Rattle.mdv_store_law.specs.Log.{Over, Version}
 use Rattle.mdv_table.specs.Plan.{first_of, last_of}
 use Rattle.mdv_survey.specs.declared.replica.Newest.{Newest}
 use Rattle.mdv_survey.specs.declared.replica.Survey.{Survey}
-use Rattle.mdv_databases.specs.Below.{Database, Geometry, Identity, IsSound, Key, Opened, Place, SliceLine, Tale, last, log_of, site_of}
+use Rattle.mdv_databases.specs.Below.{Database, Geometry, Identity, Image, IsSound, Key, Lists, Opened, Place, SliceLine, Tale, last, log_of, site_of}
 use Rattle.mdv_databases.specs.Going.{GoOn, IsCurrentOf, IsOpenIn, with_events}
 use Rattle.mdv_databases.specs.Meeting.{MostOn, answers_on}
-use Rattle.mdv_databases.specs.Standing.{Stand}
+use Rattle.mdv_databases.specs.Standing.{AreAnew, Stand}
 
 -- the adopted table is written anew under the number of the boot, and the database is open with it
 pub record IsBootedIn (g : Geometry) (all : List Database) (key : Key) (o : Opened) (u : Tale) : Type 0 where
@@ -39,16 +42,36 @@ pub record IsShortOf (g : Geometry) (all : List Database) (key : Key) (up : Driv
   pub needed_is : needed ≡ needed_of list
   pub away : AllAnswer g key up survey → ⊥
 
+-- A boot of the key that begins on drives that hold this, and reads these, adopts the table with this mark of one of the key's databases, and has a stale vote for it: a replica that it read shows no table,
+-- at a place that this table lists and that was formatted again since a later one dropped it.
+pub record MeetsStale (up : Drives) (g : Geometry) (all : List Database) (key : Key) (content : Image) : Type 0 where
+  pub database : Database
+  pub one_of : Contains all database
+  pub of_key : database.key ≡ key
+  pub lists : Lists
+  pub seen : List Seen
+  pub mark : Mark
+  pub read : WasReadOn up g (site_of g key) database.identity lists content seen mark
+  pub stale : HasStaleVote (site_of g key) database.log seen mark
+
+-- one of the key's databases that was deleted has this identity
+pub record IsGoneOf (all : List Database) (key : Key) (identity : Identity) : Type 0 where
+  pub database : Database
+  pub one_of : Contains all database
+  pub of_key : database.key ≡ key
+  pub as_begun : database.identity ≡ identity
+  pub gone : database.log.fate ≡ Over
+
 pub record BootsGo : Type 0 where
-  -- at each moment of a boot they stand as they did, or the key's current one goes on with nothing asked
-  pub moments : (g : Geometry) (all : List Database) (key : Key) (answer : BootEnd) (t m : Tale) → Stand g all t → BootMoment g (site_of g key) answer t m
-      → Stand g all m ⊎ ((identity : Identity) × GoOn g all key identity [] AnyLog m)
-  -- what is adopted is the key's current database
-  pub ends : (g : Geometry) (all : List Database) (key : Key) (o : Opened) (t u : Tale) → Stand g all t → BootMoment g (site_of g key) (end.Adopted o) t u → IsBootedTo g (site_of g key) o t u → o.key ≡ key
-      → IsBootedIn g all key o u
-  -- a replica that shows a table is the key's current database's, so there are no two
-  pub shown : (g : Geometry) (all : List Database) (key : Key) (identity : Identity) (t : Tale) → Stand g all t → HasShown g (site_of g key) identity t → IsCurrentOf all key identity
-  pub one : (g : Geometry) (all : List Database) (key : Key) (a b : Identity) (t : Tale) → Stand g all t → HasShown g (site_of g key) a t → HasShown g (site_of g key) b t → a ≡ b
-  -- a place that the newest table lists is found, with room for it, where its drive answers: so a boot is short of places where of one of its lists no more than half lie on such drives
-  pub short : (g : Geometry) (all : List Database) (key : Key) (up : Drives) (survey : Survey) (readable needed : ℕ) (t : Tale) → IsSound g → Stand g all t → IsSurvey (site_of g key) up survey
+  -- at each moment of a boot they stand as they did, or the key's current one goes on with nothing asked, if the boot met no stale vote
+  pub moments : (up : Drives) (g : Geometry) (all : List Database) (key : Key) (answer : BootEnd) (t m : Tale) → Stand g all t → BootMomentOn up g (site_of g key) answer t m
+      → Stand g all m ⊎ (((identity : Identity) × GoOn g all key identity [] AnyLog m) ⊎ MeetsStale up g all key (last t))
+  -- then what is adopted is the key's current database, and none that was deleted
+  pub ends : (read up : Drives) (g : Geometry) (all : List Database) (key : Key) (o : Opened) (t u : Tale) → Stand g all t → BootMomentOn read g (site_of g key) (end.Adopted o) t u → IsBootedOn up g (site_of g key) o t u → o.key ≡ key
+      → IsBootedIn g all key o u ⊎ MeetsStale up g all key (last t)
+  -- a replica that shows a table is the key's current database's, or one that was deleted has left it; so there are no two but such
+  pub shown : (g : Geometry) (all : List Database) (key : Key) (identity : Identity) (t : Tale) → Stand g all t → HasShown g (site_of g key) identity t → IsCurrentOf all key identity ⊎ IsGoneOf all key identity
+  pub one : (g : Geometry) (all : List Database) (key : Key) (a b : Identity) (t : Tale) → Stand g all t → HasShown g (site_of g key) a t → HasShown g (site_of g key) b t → (a ≡ b) ⊎ (IsGoneOf all key a ⊎ IsGoneOf all key b)
+  -- as long as no places come and go, a place that the newest table lists is found, with room for it, where its drive answers: so a boot is short of places where of one of its lists no more than half lie on such drives
+  pub short : (g : Geometry) (all : List Database) (key : Key) (up : Drives) (survey : Survey) (readable needed : ℕ) (t : Tale) → IsSound g → Stand g all t → AreAnew all → IsSurvey (site_of g key) up survey
       → IsSurveyOf g (site_of g key) up (last t) survey → IsShort survey readable needed → IsShortOf g all key up survey needed

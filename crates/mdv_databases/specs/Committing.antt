@@ -1,18 +1,16 @@
 -- How all databases go on while a table is committed to an open one.
 use Rattle.std.specs.Prelude.{◌≡◌, List, Option}
-use Rattle.mdv_store_law.specs.Log.{IsAskable, PlacesStay}
 use Rattle.mdv_store.specs.Commit.{AnyLog, CommitDone, CommitMoment, IsCommittedTo}
 use Rattle.mdv_databases.specs.Below.{Change, Database, Geometry, IsMade, IsOfGeometry, Opened, Table, Tale, asks_of}
 use Rattle.mdv_databases.specs.Going.{GoOn, IsOpenIn, with_events}
 use Rattle.mdv_databases.specs.Standing.{Stand}
 
--- A table is committed that a change makes of the newest one, or that one again, to a database that is open among all. The change moves no place.
+-- A table is committed that a change makes of the newest one, or that one again, to a database that is open among all.
 pub record IsCommit (g : Geometry) (all : List Database) (o : Opened) (asked : Option Change) (next : Table) (t : Tale) : Type 0 where
   pub stand : Stand g all t
   pub is_open : IsOpenIn g o all t
   pub of_geometry : IsOfGeometry g next
   pub made : IsMade g asked o.table next
-  pub keeps : IsAskable PlacesStay asked
 
 -- in the end the log has the table as its newest one, and the database is open with that
 pub record IsCommittedIn (g : Geometry) (all : List Database) (old new : Opened) (asked : Option Change) (u : Tale) : Type 0 where

@@ -1,6 +1,6 @@
 -- How all databases go on, by events of the current one of a key.
 use Rattle.std.specs.Prelude.{◌≡◌, List, [], ◌∷◌, Option, Some}
-use Rattle.mdv_store_law.specs.Log.{Adds, AreMade, ChangesAlone, Event, Extends, IsCourse, log_after_all}
+use Rattle.mdv_store_law.specs.Log.{Adds, AreMade, ChangesAlone, Event, Extends, IsCourse, Issue, Lives, log_after_all}
 use Rattle.mdv_databases.specs.Below.{Change, CoversWith, Database, Geometry, Identity, IsOpenedAt, IsReadyWith, Key, Log, Opened, Spells, Tale, current_of, log_of, site_of, spots_of, with_event}
 use Rattle.mdv_databases.specs.Standing.{Stand}
 use Rattle.mdv_store.specs.Commit.{IsNewestWritten}
@@ -16,20 +16,25 @@ abbrev pub with_events : Key → List Event → List Database → List Database
 with_events key [] all = all
 with_events key (e ∷ es) all = with_events key es (with_event key e all)
 
--- The log of the key's current database, which has this identity, goes on by events each of which may happen, with nothing told and only such changes begun
--- as are asked; the drives stand with all databases then, and of that log this is known.
-pub record GoOn (g : Geometry) (all : List Database) (key : Key) (identity : Identity) (asks : List (Option Change)) (After : Log → Type 0) (m : Tale) : Type 0 where
+-- The log of the key's current database, which has this identity, goes on by events each of which may happen, and which issue such things alone, with nothing told and only such
+-- changes begun as are asked; the drives stand with all databases then, and of that log this is known.
+pub record GoOnBy (Which : Issue → Type 0) (g : Geometry) (all : List Database) (key : Key) (identity : Identity) (asks : List (Option Change)) (After : Log → Type 0) (m : Tale) : Type 0 where
   pub its : IsCurrentOf all key identity
   pub es : List Event
   pub course : IsCourse g (log_of all key) es
-  pub come : Adds ChangesAlone asks [] es
+  pub come : Adds Which asks [] es
   pub stand : Stand g (with_events key es all) m
   pub after : After (log_after_all (log_of all key) es)
 
--- The database is open: it is its key's current one, its log's newest table is the open one, whose write was answered, and whatever a crash leaves has that at each
--- active place, in worlds in which nothing is in work.
+-- the same where changes alone are issued
+abbrev pub GoOn : Geometry → List Database → Key → Identity → List (Option Change) → (Log → Type 0) → Tale → Type 0
+GoOn = GoOnBy ChangesAlone
+
+-- The database is open: it is its key's current one, and isn't about to be deleted; its log's newest table is the open one, whose write was answered, and whatever a crash leaves has that
+-- at each active place, in worlds in which nothing is in work.
 pub record IsOpenIn (g : Geometry) (o : Opened) (all : List Database) (t : Tale) : Type 0 where
   pub its : IsCurrentOf all o.key o.identity
+  pub lives : (log_of all o.key).fate ≡ Lives
   pub newest : IsNewestWritten (log_of all o.key) o.mark o.table
   pub ready : CoversWith (Spells g) (site_of g o.key) o.identity (λ image w. IsReadyWith (spots_of o.seats) w) (log_of all o.key) t
   pub opened : IsOpenedAt g o t

@@ -1,8 +1,8 @@
 -- What lasts over crashes, and over what is done elsewhere.
-use Rattle.std.specs.Prelude.{◌≡◌, ℕ, false, List, [], None}
-use Rattle.mdv_store_law.specs.Log.{is_firm}
+use Rattle.std.specs.Prelude.{◌≡◌, ℕ, false, List, [], Contains, None}
+use Rattle.mdv_store_law.specs.Log.{Lives, is_firm}
 use Rattle.mdv_databases.specs.Below.{Area, AreApart, Database, Geometry, HasNoReplica, Identity, Image, IsBlank, IsImage, IsOpenedAt, Key, KeptOutside, Opened, Spells, Tale, log_of, restarted, site_area, site_of}
-use Rattle.mdv_databases.specs.Standing.{Stand}
+use Rattle.mdv_databases.specs.Standing.{IsFree, Stand}
 use Rattle.mdv_databases.specs.Going.{IsOpenIn}
 
 -- the area has no block of a slice on which a boot looks, of whatever key, from block 16 on
@@ -12,6 +12,10 @@ IsElsewhere g area = (key : Key) → AreApart area (site_area (site_of g key))
 -- none of the key's databases shows a table
 abbrev pub HasNoTable : Geometry → Key → Tale → Type 0
 HasNoTable g key t = (identity : Identity) → IsBlank g key identity t
+
+-- each of the key's databases shows no table, as a creation leaves it that failed, or was deleted: another one may be created
+abbrev pub AreFreed : Geometry → List Database → Key → Tale → Type 0
+AreFreed g all key t = (d : Database) → Contains all d → d.key ≡ key → IsFree g d t
 
 -- a crash leaves there what it might have left before, and nothing else
 abbrev pub LeavesNoMore : Tale → Tale → Type 0
@@ -27,10 +31,12 @@ pub record DatabasesLast : Type 0 where
   pub blank_fewer : (g : Geometry) (key : Key) (t u : Tale) → LeavesNoMore t u → HasNoTable g key t → HasNoTable g key u
   -- drives without a replica stand with none
   pub new : (g : Geometry) (image : Image) (told : List ℕ) → HasNoReplica (Spells g) g image → Stand g [] (restarted image told)
+  pub freed_fewer : (g : Geometry) (all : List Database) (key : Key) (t u : Tale) → LeavesNoMore t u → AreFreed g all key t → AreFreed g all key u
   -- what is done elsewhere leaves them standing, an open one open, and those without a table without one
   pub stand : (g : Geometry) (all : List Database) (area : Area) (t m : Tale) → IsElsewhere g area → KeptOutside area t m → Stand g all t → Stand g all m
   pub opened : (g : Geometry) (o : Opened) (area : Area) (t m : Tale) → IsElsewhere g area → KeptOutside area t m → IsOpenedAt g o t → IsOpenedAt g o m
   pub is_open : (g : Geometry) (o : Opened) (all : List Database) (area : Area) (t m : Tale) → IsElsewhere g area → KeptOutside area t m → IsOpenIn g o all t → IsOpenIn g o all m
   pub blank : (g : Geometry) (key : Key) (area : Area) (t m : Tale) → IsElsewhere g area → KeptOutside area t m → HasNoTable g key t → HasNoTable g key m
-  -- where none of a key's databases shows a table, nothing of the current one was answered or told
-  pub nothing : (g : Geometry) (all : List Database) (key : Key) (t : Tale) → Stand g all t → HasNoTable g key t → (is_firm (log_of all key) ≡ false) × ((log_of all key).acknowledged ≡ None)
+  pub freed : (g : Geometry) (all : List Database) (key : Key) (area : Area) (t m : Tale) → IsElsewhere g area → KeptOutside area t m → AreFreed g all key t → AreFreed g all key m
+  -- where none of a key's databases shows a table, nothing of the current one was answered or told, unless it was about to be deleted
+  pub nothing : (g : Geometry) (all : List Database) (key : Key) (t : Tale) → Stand g all t → (log_of all key).fate ≡ Lives → HasNoTable g key t → (is_firm (log_of all key) ≡ false) × ((log_of all key).acknowledged ≡ None)

@@ -7,3 +7,5 @@ pub mod Booting
 pub mod Creating
 pub mod Telling
 pub mod Meeting
+pub mod Moving
+pub mod Ending

@@ -2,7 +2,7 @@
 use Rattle.std.specs.Prelude.{◌≡◌, ◌*◌, ◌<◌, ℕ, Bool, true, false, List, length, count_by, Option, None, Some, Contains}
 use Rattle.mdv_replica.specs.Form.{shows}
 use Rattle.mdv_survey.specs.Replica.{IsFoundIn}
-use Rattle.mdv_store_law.specs.Log.{IsNotOlder, Version, is_firm}
+use Rattle.mdv_store_law.specs.Log.{IsNotOlder, Lives, Version, is_firm}
 use Rattle.mdv_base.specs.DriveSet.{Drives}
 use Rattle.mdv_store.specs.Boot.{IsShort}
 use Rattle.mdv_survey.specs.Survey.{IsSurvey, IsSurveyOf, answers_in}
@@ -28,11 +28,11 @@ abbrev pub answers_on : Drives → Survey → ℕ → Bool
 answers_on up survey drive = answers_in up survey.failed (record { 0 = drive })
 
 pub record DatabasesMeet : Type 0 where
-  -- once a write of the key's current database was answered, and each table that a boot may find lists these places: a replica that shows a table is found on such a drive
-  pub shown : (g : Geometry) (all : List Database) (key : Key) (places : List Place) (up : ℕ → Bool) (t : Tale) → Stand g all t → is_firm (log_of all key) ≡ true
+  -- once a write of the key's current database was answered, as long as it isn't about to be deleted, and each table that a boot may find lists these places: a replica that shows a table is found on such a drive
+  pub shown : (g : Geometry) (all : List Database) (key : Key) (places : List Place) (up : ℕ → Bool) (t : Tale) → Stand g all t → (log_of all key).fate ≡ Lives → is_firm (log_of all key) ≡ true
       → ((v : Version) → MayBeFound (log_of all key).family v → v.table.plan.lists ≡ One places) → MostOn g key up places
       → (r : Replica) × IsFoundIn g (site_of g key) (last t) r × (up r.line.at.drive.0 ≡ true) × (shows r.head ≡ true)
   -- and a boot isn't short of places where the drives that answer are such
-  pub enough : (g : Geometry) (all : List Database) (key : Key) (places : List Place) (up : Drives) (survey : Survey) (readable needed : ℕ) (t : Tale) → IsSound g → Stand g all t → IsSurvey (site_of g key) up survey
+  pub enough : (g : Geometry) (all : List Database) (key : Key) (places : List Place) (up : Drives) (survey : Survey) (readable needed : ℕ) (t : Tale) → IsSound g → Stand g all t → (log_of all key).fate ≡ Lives → IsSurvey (site_of g key) up survey
       → IsSurveyOf g (site_of g key) up (last t) survey → is_firm (log_of all key) ≡ true → ((v : Version) → MayBeFound (log_of all key).family v → v.table.plan.lists ≡ One places) → MostOn g key (answers_on up survey) places
       → IsShort survey readable needed → ⊥

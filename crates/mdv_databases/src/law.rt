@@ -1,8 +1,10 @@
 ghost use Rattle.mdv_databases.specs.Booting.{BootsGo};
 ghost use Rattle.mdv_databases.specs.Committing.{CommitsGo};
 ghost use Rattle.mdv_databases.specs.Creating.{CreationsGo};
+ghost use Rattle.mdv_databases.specs.Ending.{EndsGo};
 ghost use Rattle.mdv_databases.specs.Lasting.{DatabasesLast};
 ghost use Rattle.mdv_databases.specs.Meeting.{DatabasesMeet};
+ghost use Rattle.mdv_databases.specs.Moving.{MovesGo};
 ghost use Rattle.mdv_databases.specs.Telling.{TellsGo};
 
 /// What a crash leaves of drives that stand with all databases does; drives without a replica stand with none; and what is done outside the slices on
@@ -24,6 +26,16 @@ pub fn boots_go()
 /// While a database is created, it goes on by its first table, and all others stand; one that failed leaves no table of its key.
 pub fn creations_go()
     ensures { CreationsGo }
+{}
+
+/// While the places of an open database change, that one's log goes on by the change alone, and by the formats of the added places, and all others stand.
+pub fn moves_go()
+    ensures { MovesGo }
+{}
+
+/// While an open database with one place ends, all others stand; then its log is over, and another one of its key may be created.
+pub fn ends_go()
+    ensures { EndsGo }
 {}
 
 /// Where changes of a key's current database may be told, or its creation, its log goes on by that, all stand, and an open one stays open. What is open has

@@ -1,7 +1,9 @@
-//! How the drives stand with all databases that were ever begun on them, and how each call of the store takes them on: laws for the crates that
+//! How the drives stand with all databases that were ever begun on them, and how each call of the store, and each change of places, takes them on: laws for the crates that
 //! carry commands out.
 #![tactic(auto)]
 
 mod law;
 
-pub use law::{boots_go, commits_go, creations_go, databases_last, databases_meet, tells_go};
+pub use law::{
+    boots_go, commits_go, creations_go, databases_last, databases_meet, ends_go, moves_go, tells_go,
+};

@@ -18,11 +18,14 @@ use Rattle.mdv_store.specs.Boot.{IfAdopted, IsAdopted, IsEndBy, IsOnce, IsShort,
 use Rattle.mdv_store.specs.BootCounts.{IsBootCounted, IsEndCounted}
 use Rattle.mdv_store.specs.Booted.{IsBooted, IsReadAt, WroteFor}
 use Rattle.mdv_store.specs.Letters.{AreLettersOf}
-use Rattle.mdv_store.specs.Booting.{BootEnds, IsBootedTo, boot_area, has_written}
+use Rattle.mdv_store.specs.Booting.{BootEnds, BootMomentOn, IsBootedOn, IsBootedTo, boot_area, has_written}
 use Rattle.mdv_store.specs.Booting as store
 use Rattle.mdv_replica.specs.Form.{shows}
 use Rattle.mdv_store.specs.Records.{Spells}
 use Rattle.mdv_store.specs.Seats.{drive_of}
+use Rattle.mdv_name.specs.declared.geometry.Geometry.{Geometry}
+use Rattle.mdv_store_law.specs.Log.{HasOneList}
+use Rattle.mdv_table.specs.Table.{IsListsOf}
 use Rattle.mdv_table.specs.Plan.{last_of, places_of}
 use Rattle.mdv_store.specs.declared.booting.BootEnd.TheVariants as end
 use Rattle.mdv_store.specs.declared.booting.Booted.{Booted}
@@ -39,6 +42,7 @@ use Rattle.mdv_survey.specs.declared.choosing.Choice.TheVariants as chosen
 use Rattle.mdv_survey.specs.declared.replica.Newest.{Newest}
 use Rattle.mdv_survey.specs.declared.replica.Survey.{Survey}
 use Rattle.mdv_table.specs.declared.plan.Lists.{Lists}
+use Rattle.mdv_table.specs.declared.plan.Lists.TheVariants.{One}
 use Rattle.mdv_engine_law.specs.Answers.{accepted}
 use Rattle.mdv_engine_law.specs.Replies.{HasEndCause}
 use Rattle.mdv_engine_law.specs.declared.answer.Answer.TheVariants.{Over}
@@ -50,19 +54,28 @@ use Rattle.mdv_engine_law.proofs.Rebooting.{up_by}
 use Rattle.mdv_engine.specs.Below.{Answer, AreLaid, BootEnd, BootMoment, BootedTo, DriveNo, Drives, Ended, Host, Identity, IsOfGeometry, IsReady, IsUpBy, Key, KeptOutside, MayLeave, Memory, Opened, Outcomes, Replica, Site, SliceLine, Tale, answered_by, booted_with, has_drive, key_of, last, nowhere, opened_by, replicas_of, site_area, site_of, unbooted, shortage}
 use Rattle.mdv_engine.specs.Counts.{IsBootedCounted, IsOpenedCounted}
 use Rattle.mdv_engine.specs.Ends.{IsBootEnd}
+use Rattle.mdv_engine.proofs.Listed.{none_listed}
 use Rattle.mdv_engine.specs.Engine.{FailedOnSite, IsAnsweredBy, IsEndedBy, IsFitting, IsHeldBy, IsOpenBy, IsWell, LiesOn}
 use Rattle.mdv_store.specs.Shares.{short_of}
 use Rattle.mdv_store.specs.declared.seats.Share.{Share}
 use Rattle.mdv_store.proofs.Shares.{half_less as half_less_of, more_less}
-use Rattle.mdv_table.proofs.Listed.{listed_few, listed_some}
+use Rattle.mdv_table.proofs.Listed.{listed_some}
+
+-- one list has at most fifty places
+one_few : (g : Geometry) (lists : Lists) (list : List Place) → lists ≡ One list → IsListsOf g lists → length (places_of lists) ≤ 50
+one_few g lists list one of = subst (λ (l : Lists). length (places_of l) ≤ 50) (sym one) ((subst (IsListsOf g) one of).few)
 
 -- at each moment, and in the end
 module _ (host : Host) (sizes : List ℕ) (ready : IsReady host sizes) where
-  its_moment : (answer : BootEnd) (t m : Tale) → store.BootMoment host.drives host.site answer t m → store.BootMoment host.drives (site_of host.drives (key_of host)) answer t m
-  its_moment answer t m is = subst (λ (s : Site). store.BootMoment host.drives s answer t m) ready.site is
+  its_moment : (up : Drives) (answer : BootEnd) (t m : Tale) → BootMomentOn up host.drives host.site answer t m → BootMomentOn up host.drives (site_of host.drives (key_of host)) answer t m
+  its_moment up answer t m is = subst (λ (s : Site). BootMomentOn up host.drives s answer t m) ready.site is
 
-  boots_on : (answer : BootEnd) (t m : Tale) → store.BootMoment host.drives host.site answer t m → BootsOn host t m
-  boots_on answer t m is all stand = databases.boot_moment host.drives all (key_of host) answer t m stand (its_moment answer t m is)
+  -- no stale vote is met yet
+  boots_on : (failed : ℕ → Type 0) (answer : BootEnd) (t m : Tale) → store.BootMoment failed host.drives host.site answer t m → BootsOn host t m
+  boots_on failed answer t m is all stand anew = elim (databases.boot_moment is.0 host.drives all (key_of host) answer t m stand (its_moment is.0 answer t m is.2)) [
+    | inl still ↦ inl still
+    | inr on ↦ elim on [ inl goes ↦ inr goes | inr stale ↦ absurd (databases.never_meets is.0 host.drives all (key_of host) _ anew stale) ]
+  ]
 
   on_site : (wrote : Bool) (t m : Tale) → KeptOutside (boot_area host.site wrote) t m → KeptOutside (site_area host.site) t m
   on_site true t m kept = kept
@@ -72,33 +85,36 @@ module _ (host : Host) (sizes : List ℕ) (ready : IsReady host sizes) where
   off_site true drive block out = out
   off_site false drive block out = refl
 
-  pub boot_moments : (answer : BootEnd) (t m : Tale) → store.BootMoment host.drives host.site answer t m → BootMoment host t m
-  boot_moments answer t m is = boot_moment host sizes ready t m (on_site (has_written answer) t m is.quiet.outside) is.quiet.quiet (boots_on answer t m is)
+  pub boot_moments : (failed : ℕ → Type 0) (answer : BootEnd) (t m : Tale) → store.BootMoment failed host.drives host.site answer t m → BootMoment host t m
+  boot_moments failed answer t m is = boot_moment host sizes ready t m (on_site (has_written answer) t m is.2.quiet.outside) is.2.quiet.quiet (boots_on failed answer t m is)
 
   -- what is known once it is answered
-  module _ (failed : ℕ → Type 0) (answer : Booted) (begun : ℕ) (t u : Tale) (moment : store.BootMoment host.drives host.site answer.end t u) (ends : BootEnds failed host.drives host.site answer t u) where
+  module _ (failed : ℕ → Type 0) (answer : Booted) (begun : ℕ) (t u : Tale) (moment : store.BootMoment failed host.drives host.site answer.end t u) (ends : BootEnds failed host.drives host.site answer t u) where
     abbrev To : Option Opened → Type 0
     To opened = BootedTo host (booted_with opened answer.up answer.clean begun) t u
 
     kept : KeptOutside (site_area host.site) t u
-    kept = on_site (has_written answer.end) t u moment.quiet.outside
+    kept = on_site (has_written answer.end) t u moment.2.quiet.outside
 
     rests : (drive : DriveNo) (block : ℕ) → has_drive answer.up drive ≡ true → site_area host.site drive.0 block ≡ false → (x : List ℕ) → MayLeave u drive.0 block x → x ≡ last u drive.0 block
     rests drive block on out = ends.still drive block on (off_site (has_written answer.end) drive.0 block out)
 
-    its_booted : (o : Opened) → answer.end ≡ end.Adopted o → IsBootedTo host.drives host.site o t u
-    its_booted o so = subst (λ (e : BootEnd). IfAdopted e (λ x. IsBootedTo host.drives host.site x t u)) so ends.adopted
+    its_booted : (o : Opened) → answer.end ≡ end.Adopted o → IsBootedTo failed host.drives host.site o t u
+    its_booted o so = subst (λ (e : BootEnd). IfAdopted e (λ x. IsBootedTo failed host.drives host.site x t u)) so ends.adopted
 
     adopted_to : (o : Opened) → answer.end ≡ end.Adopted o → o.key ≡ key_of host → To (Some o)
     adopted_to o so its =
         let is = its_booted o so in
-        booted_adopted host sizes ready t answer.up u kept moment.quiet.quiet answer.clean begun rests o its is.opened
-        (λ all stand. databases.boot_end host.drives all (key_of host) o t u stand (its_moment (end.Adopted o) t u (subst (λ (e : BootEnd). store.BootMoment host.drives host.site e t u) so moment)) (subst (λ (s : Site). IsBootedTo host.drives s o t u) ready.site is) its)
+        booted_adopted host sizes ready t answer.up u kept moment.2.quiet.quiet answer.clean begun rests o its is.2.opened
+        (λ all stand anew. elim (databases.boot_end moment.0 is.0 host.drives all (key_of host) o t u stand (its_moment moment.0 (end.Adopted o) t u (subst (λ (e : BootEnd). BootMomentOn moment.0 host.drives host.site e t u) so moment.2)) (subst (λ (s : Site). IsBootedOn is.0 host.drives s o t u) ready.site is.2) its) [
+          | inl booted ↦ booted
+          | inr stale ↦ absurd (databases.never_meets is.0 host.drives all (key_of host) _ anew stale)
+        ])
 
     empty_to : answer.end ≡ end.Empty → To None
     empty_to so =
-        booted_none host sizes ready t answer.up u kept moment.quiet.quiet answer.clean begun rests
-        (λ clean identity image left. subst (λ (s : Site). ShowsNoTable (Spells host.drives) s identity image) ready.site (ends.empty so clean image left identity)) (boots_on answer.end t u moment)
+        booted_none host sizes ready t answer.up u kept moment.2.quiet.quiet answer.clean begun rests
+        (λ clean identity image left. subst (λ (s : Site). ShowsNoTable (Spells host.drives) s identity image) ready.site (ends.empty so clean image left identity)) (boots_on failed answer.end t u moment)
 
 -- numbers of a boot that isn't answered: fewer places are readable than are needed
 half_less : (n l : ℕ) → 2 * n ≤ l → n < l / 2 + 1
@@ -169,11 +185,11 @@ module _ {S : Type 0} (shelf : Ghosts S) (old new : S) (host : Host) (ready : Is
   memory opened = booted_with opened answer.up answer.clean begun
 
   abbrev Read : BootEnd → Type 0
-  Read e = (survey : Survey) × (at : IsReadAt shelf old new host.drives host.site answer survey) × IsEndBy calls (WroteFor shelf old at.looked new host.drives host.site) host.site survey e
+  Read e = (survey : Survey) × (at : IsReadAt shelf old new host.drives host.site answer survey) × IsEndBy calls (WroteFor shelf old at.looked new host.drives host.site answer.clean) host.site survey e
 
   read : (e : BootEnd) → answer.end ≡ e → is_memory e ≡ false → Read e
   read e so remembered = by is.ended where
-    by : (is_memory answer.end ≡ true) ⊎ ((survey : Survey) × (at : IsReadAt shelf old new host.drives host.site answer survey) × IsEndBy calls (WroteFor shelf old at.looked new host.drives host.site) host.site survey answer.end × AreLettersOf host.site survey at.calm answer.letters) → Read e
+    by : (is_memory answer.end ≡ true) ⊎ ((survey : Survey) × (at : IsReadAt shelf old new host.drives host.site answer survey) × IsEndBy calls (WroteFor shelf old at.looked new host.drives host.site answer.clean) host.site survey answer.end × AreLettersOf host.site survey at.calm answer.letters) → Read e
     by (inl wanting) = absurd (let none = ap is_memory so in cc (wanting, none, remembered))
     by (inr (survey, at, end_by, letters)) = subst Read so (survey, at, end_by)
 
@@ -200,7 +216,7 @@ module _ {S : Type 0} (shelf : Ghosts S) (old new : S) (host : Host) (ready : Is
     abbrev by_it : Read (end.Adopted o)
     by_it = read (end.Adopted o) so refl
 
-    abbrev adoption : IsAdopted calls (WroteFor shelf old by_it.1.looked new host.drives host.site) host.site by_it.0 o
+    abbrev adoption : IsAdopted calls (WroteFor shelf old by_it.1.looked new host.drives host.site answer.clean) host.site by_it.0 o
     adoption = by_it.2
 
     abbrev Took : Replica → Replica → Type 0
@@ -208,7 +224,7 @@ module _ {S : Type 0} (shelf : Ghosts S) (old new : S) (host : Host) (ready : Is
 
     each : (n : Replica) → Contains (replicas_of o.seats) n → (r : Replica) × IsListed host.site by_it.1.calm r × (calls (drive_of r)).none × Took r n
     each n has =
-        let one = adopted_each calls (WroteFor shelf old by_it.1.looked new host.drives host.site) host.site by_it.0 o adoption n has in
+        let one = adopted_each calls (WroteFor shelf old by_it.1.looked new host.drives host.site answer.clean) host.site by_it.0 o adoption n has in
         (one.0, by_it.1.survey_is.each one.0 (found_read by_it.0 adoption.newest adoption.replica adoption.seats adoption.drawn.hand (last_of adoption.newest.table.plan.lists) one.0 one.1), one.2, one.3)
 
     stay : (n : Replica) (has : Contains (replicas_of o.seats) n) → n ≡ record ((each n has).0) { head = n.head }
@@ -216,19 +232,24 @@ module _ {S : Type 0} (shelf : Ghosts S) (old new : S) (host : Host) (ready : Is
 
     -- a seat for each listed place
     seats_counted : length o.seats ≡ length (places_of o.table.plan.lists)
-    seats_counted = adopted_count calls (WroteFor shelf old by_it.1.looked new host.drives host.site) host.site by_it.0 o adoption
+    seats_counted = adopted_count calls (WroteFor shelf old by_it.1.looked new host.drives host.site answer.clean) host.site by_it.0 o adoption
 
     pub its_key : o.key ≡ key_of host
     its_key = ap (λ (x : Opened). x.key) adoption.is
 
     half_by : shortage o ≡ None
-    half_by = subst (λ (k : Key). short_of (need_of k) o.seats o.table.plan.lists ≡ None) ready.key (adopted_enough calls (WroteFor shelf old by_it.1.looked new host.drives host.site) host.site by_it.0 o adoption)
+    half_by = subst (λ (k : Key). short_of (need_of k) o.seats o.table.plan.lists ≡ None) ready.key (adopted_enough calls (WroteFor shelf old by_it.1.looked new host.drives host.site answer.clean) host.site by_it.0 o adoption)
+
+    -- a change of its places is over then
+    one_list : HasOneList o.table
+    one_list = (last_of adoption.newest.table.plan.lists, ap (λ (x : Opened). x.table.plan.lists) adoption.is)
 
     pub held_by : IsOfGeometry host.drives o.table → IsHeldBy host o
     held_by listed = record {
       its = its_key;
       some = (let counted = seats_counted in let least = listed_some host.drives o.table.plan.lists listed.lists in omega (arith, counted, least));
-      few = (let counted = seats_counted in let most = listed_few host.drives o.table.plan.lists listed.lists in omega (arith, counted, most));
+      few = (let counted = seats_counted in let most = one_few host.drives o.table.plan.lists one_list.0 one_list.1 listed.lists in omega (arith, counted, most));
+      one = one_list;
       half = half_by;
       of_geometry = listed;
       laid = subst (λ (s : List ℕ). AreLaid s o.seats) (sym ready.on_shelf.sizes_are) (subst (λ (e : BootEnd). IfAdopted e (λ x. AreLaid (shelf.sizes old) x.seats)) so is.laid);
@@ -258,7 +279,7 @@ module _ {S : Type 0} (shelf : Ghosts S) (old new : S) (host : Host) (ready : Is
     unfitting_cause = record { end = end.Empty; answer_is = refl; opened_is = refl; up = up_as end.Empty (ap is_memory so); opened = tt }
 
     pub adopted_well : IsOfGeometry host.drives o.table → IsWell host (memory (Some o))
-    adopted_well listed = record { database = held_by listed }
+    adopted_well listed = record { database = held_by listed; entries = none_listed }
 
   pub empty_cause : answer.end ≡ end.Empty → IsAnsweredBy calls host (memory None)
   empty_cause so = record { end = end.Empty; answer_is = refl; opened_is = refl; up = up_as end.Empty (ap is_memory so); opened = tt }
@@ -276,9 +297,9 @@ module _ {S : Type 0} (shelf : Ghosts S) (old new : S) (host : Host) (ready : Is
   pub lost_cause : (active listed : ℕ) → answer.end ≡ end.Lost active listed → IsEndedBy calls host (ended.Lost active listed)
   lost_cause active listed so =
       let by = read (end.Lost active listed) so refl in
-      let one = lost_read calls (WroteFor shelf old by.1.looked new host.drives host.site) host.site.key by.0 active listed by.2 in
+      let one = lost_read calls (WroteFor shelf old by.1.looked new host.drives host.site answer.clean) host.site.key by.0 active listed by.2 in
       let at = by.1.survey_is.each one.0 one.1 in
-      let short = lost_short calls (WroteFor shelf old by.1.looked new host.drives host.site) host.site.key by.0 active listed by.2 in
+      let short = lost_short calls (WroteFor shelf old by.1.looked new host.drives host.site answer.clean) host.site.key by.0 active listed by.2 in
       let share : Share = record { active = active; listed = listed } in
       let less = half_less_of short.1 short.0 share (subst (λ (k : Key). short_of (need_of k) short.1 short.0 ≡ Some share) ready.key short.2) in
       ended_cause (end.Lost active listed) (ended.Lost active listed) so refl (record { line = one.0.line; one_of = at.seated.one_of; here = one.2 }, less)
@@ -290,20 +311,20 @@ module _ {S : Type 0} (shelf : Ghosts S) (old new : S) (host : Host) (ready : Is
   wanting_cause so = ended_cause end.Memory ended.Memory so refl tt
 
   -- The end, where the tale is told.
-  module _ (moments : AtEachTale shelf (store.BootMoment host.drives host.site answer.end) old new) (ends : AtEnd shelf (BootEnds (λ drive. (calls drive).some) host.drives host.site answer) old new) (counted : IsBootCounted shelf old new host.drives host.site answer) where
+  module _ (moments : AtEachTale shelf (store.BootMoment (λ drive. (calls drive).some) host.drives host.site answer.end) old new) (ends : AtEnd shelf (BootEnds (λ drive. (calls drive).some) host.drives host.site answer) old new) (counted : IsBootCounted shelf old new host.drives host.site answer) where
     pub all_moments : AtEachTale shelf (BootMoment host) old new
-    all_moments = moments_weaker (store.BootMoment host.drives host.site answer.end) (BootMoment host) (shelf.tale old) (shelf.tale new) (boot_moments host (shelf.sizes old) ready answer.end) moments
+    all_moments = moments_weaker (store.BootMoment (λ drive. (calls drive).some) host.drives host.site answer.end) (BootMoment host) (shelf.tale old) (shelf.tale new) (boot_moments host (shelf.sizes old) ready (λ drive. (calls drive).some) answer.end) moments
 
     abbrev EndAs : Answer → Memory → Type 0
     EndAs said next = AtEnd shelf (IsBootEnd calls (made_of shelf old new) host (unbooted begun) said next) old new
 
     end_as : (said : Answer) (next : Memory) → said ≡ answered_by answer.end → (said ≡ accepted → next ≡ memory (opened_by answer.end))
-        → ((t u : Tale) → store.BootMoment host.drives host.site answer.end t u → BootEnds (λ drive. (calls drive).some) host.drives host.site answer t u → said ≡ accepted → BootedTo host next t u) → EndAs said next
+        → ((t u : Tale) → store.BootMoment (λ drive. (calls drive).some) host.drives host.site answer.end t u → BootEnds (λ drive. (calls drive).some) host.drives host.site answer t u → said ≡ accepted → BootedTo host next t u) → EndAs said next
     end_as said next said_is next_is to t told =
         let e = ends t told in
-        let m = moments_end (store.BootMoment host.drives host.site answer.end) (shelf.tale old) (shelf.tale new) moments t told in
+        let m = moments_end (store.BootMoment (λ drive. (calls drive).some) host.drives host.site answer.end) (shelf.tale old) (shelf.tale new) moments t told in
         let same : m.0 ≡ e.0 = some_is (shelf.tale new) m.0 e.0 m.1 e.1 in
-        let moment = subst (λ (u : Tale). store.BootMoment host.drives host.site answer.end t u) same m.2 in (
+        let moment = subst (λ (u : Tale). store.BootMoment (λ drive. (calls drive).some) host.drives host.site answer.end t u) same m.2 in (
           e.0,
           e.1,
           record {
@@ -312,16 +333,16 @@ module _ {S : Type 0} (shelf : Ghosts S) (old new : S) (host : Host) (ready : Is
               up = answer.up;
               clean = answer.clean;
               up_by = up_by shelf old new host answer is kept unclean;
-              by = rebooting.ended shelf old new host answer is kept t e.0 told e.1 unclean away moment (λ drive. (calls drive).some) e.2;
+              by = rebooting.ended shelf old new host answer is kept t e.0 told e.1 unclean away (λ drive. (calls drive).some) moment e.2;
               answer_is = said_is;
               memory = next_is;
-              content = rebooting.left shelf old new host answer is kept t e.0 told e.1 unclean away moment (λ drive. (calls drive).some) e.2;
-              beside = same_beside (boot_area host.site (has_written answer.end)) t e.0 moment.quiet.outside;
+              content = rebooting.left shelf old new host answer is kept t e.0 told e.1 unclean away (λ drive. (calls drive).some) moment e.2;
+              beside = same_beside (boot_area host.site (has_written answer.end)) t e.0 moment.2.quiet.outside;
             };
             booted = to t e.0 moment e.2;
             synced = λ ok drive one_of calm. e.2.synced (remembered answer.end (sym said_is ∙ ok)) drive one_of calm;
             still = λ drive block on out. e.2.still drive block on out;
-            unwritten = λ quiet. subst (λ (wrote : Bool). KeptOutside (boot_area host.site wrote) t e.0) quiet moment.quiet.outside;
+            unwritten = λ quiet. subst (λ (wrote : Bool). KeptOutside (boot_area host.site wrote) t e.0) quiet moment.2.quiet.outside;
             effort = rebooting.boot_calls shelf old new host answer is kept t e.0 told e.1 unclean counted (unbooted begun) next said said_is next_is;
           },
         )
@@ -339,7 +360,7 @@ module _ {S : Type 0} (shelf : Ghosts S) (old new : S) (host : Host) (ready : Is
 
     -- where the tale is told the adopted table is one of the host's table of drives
     listed_told : (o : Opened) → answer.end ≡ end.Adopted o → (t : Tale) → shelf.tale old ≡ Some t → IsOfGeometry host.drives o.table
-    listed_told o so t told = (let e = ends t told in (subst (λ (x : BootEnd). IfAdopted x (λ y. IsBootedTo host.drives host.site y t e.0)) so e.2.adopted).opened.of_geometry)
+    listed_told o so t told = (let e = ends t told in (subst (λ (x : BootEnd). IfAdopted x (λ y. IsBootedTo (λ drive. (calls drive).some) host.drives host.site y t e.0)) so e.2.adopted).2.opened.of_geometry)
 
     counted_as : (said : Answer) (next : Memory) → said ≡ answered_by answer.end
         → (said ≡ accepted → (t : Tale) → shelf.tale old ≡ Some t → (next.opened ≡ opened_by answer.end) × (next.up ≡ answer.up) × (next.clean ≡ answer.clean))
@@ -398,4 +419,4 @@ module _ {S : Type 0} (shelf : Ghosts S) (old new : S) (host : Host) (ready : Is
       fitting_well = by database fits where
         by : (d : Option Opened) → IsFitting host.drives o d → IsWell host (memory d)
         by (Some kept_one) is_it = subst (λ (x : Opened). IsWell host (memory (Some x))) (sym is_it.0) (adopted_well o so is_it.1)
-        by None off = record { database = tt }
+        by None off = record { database = tt; entries = none_listed }

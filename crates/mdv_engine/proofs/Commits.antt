@@ -39,7 +39,7 @@ use Rattle.mdv_engine.specs.Engine.{IsHeldBy, IsLostOnSite, IsNextTable, IsWell,
 use Rattle.mdv_engine.specs.declared.engine.Engine.{Engine}
 use Rattle.mdv_engine.proofs.Blocks.{refused_carried}
 use Rattle.mdv_engine.proofs.Committing as committing
-use Rattle.mdv_engine.proofs.Committing.{IsChanging, next_of, with_open}
+use Rattle.mdv_engine.proofs.Committing.{IsChanging, made_lists, next_of, with_open}
 use Rattle.mdv_engine.proofs.Creating.{calm_beside}
 use Rattle.mdv_engine.proofs.Ending.{command_ends, no_creation, other_ends}
 use Rattle.mdv_engine.proofs.Losing.{lost_on_site}
@@ -168,9 +168,10 @@ module _ {S : Type 0} (shelf : Ghosts S) (a b : S) (v : Engine) (ready : IsReady
         never_made : Contains (Changed (key_of v.host) (OfPlan (MakeStripe volume slice)) ∷ []) (Created (key_of v.host)) → ⊥
         never_made has = no_creation (key_of v.host) (Changed (key_of v.host) (OfPlan (MakeStripe volume slice))) (λ same. absurd (cc (same))) has
 
-        well_left : (failed : Outcomes) → shortage new ≡ None → AreLaid (shelf.sizes b) new.seats → new.key ≡ o.key → IsOfGeometry v.host.drives new.table → AreLeft failed (TakesSlot (commit.next_mark o.mark) (length (record_text next))) o.seats new.seats → IsWell v.host (with_open v.state new)
-        well_left failed enough laid_now keyed listed left = record {
-          database = committing.held_left v.host o new failed (commit.next_mark o.mark) (length (record_text next)) held enough keyed listed left
+        well_left : (failed : Outcomes) → shortage new ≡ None → AreLaid (shelf.sizes b) new.seats → new.key ≡ o.key → new.table ≡ next → IsOfGeometry v.host.drives new.table → AreLeft failed (TakesSlot (commit.next_mark o.mark) (length (record_text next))) o.seats new.seats → IsWell v.host (with_open v.state new)
+        well_left failed enough laid_now keyed tabled listed left = record {
+          entries = well.entries;
+          database = committing.held_left v.host o new failed (commit.next_mark o.mark) (length (record_text next)) held enough keyed (ap (λ (t : Table). t.plan.lists) (tabled ∙ chosen.is) ∙ made_lists v.host.drives (MakeStripe volume slice) o.table) listed left
               (subst (λ (s : List ℕ). AreLaid s new.seats) (kept.keeps.same_sizes ∙ sym ready.on_shelf.sizes_are) laid_now);
         }
 
@@ -180,8 +181,9 @@ module _ {S : Type 0} (shelf : Ghosts S) (a b : S) (v : Engine) (ready : IsReady
           cause = (o, opened, calm);
           lost = λ one two is. absurd (cc (is));
           free = λ on has. absurd (never_made has);
+          few = inr tt;
           host = refl;
-          well = λ on. well_left (DriveFailures shelf a b) said.came.enough said.laid (ap (λ (x : Opened). x.key) said.came.is) (subst (λ (t : Table). IsOfGeometry v.host.drives t) (sym (ap (λ (x : Opened). x.table) said.came.is)) chosen.of_geometry) said.came.tried.left;
+          well = λ on. well_left (DriveFailures shelf a b) said.came.enough said.laid (ap (λ (x : Opened). x.key) said.came.is) (ap (λ (x : Opened). x.table) said.came.is) (subst (λ (t : Table). IsOfGeometry v.host.drives t) (sym (ap (λ (x : Opened). x.table) said.came.is)) chosen.of_geometry) said.came.tried.left;
           begun = same_most v.state.begun;
         }
 
@@ -193,6 +195,7 @@ module _ {S : Type 0} (shelf : Ghosts S) (a b : S) (v : Engine) (ready : IsReady
               (let now = lost_now active listed said.came.0 said.came.1 in
               lost_on_site (DriveFailures shelf a b) v.host (TakesSlot (commit.next_mark o.mark) (length (record_text next))) o.seats new.seats o.table.plan.lists now.tried.left held.half (λ r has. (held.seated r has).one_of) active listed (of_old active listed now said.came.0));
           free = λ on has. absurd on;
+          few = inr tt;
           host = refl;
           well = λ on. absurd on;
           begun = same_most v.state.begun;
@@ -200,7 +203,7 @@ module _ {S : Type 0} (shelf : Ghosts S) (a b : S) (v : Engine) (ready : IsReady
 
         still_answer : (answer : Answer) → IsPlainAnswer answer → HasAnswerCause (blame_of (DriveFailures shelf a b) v.host v.state (command.MakeStripe volume slice)) (Unit {0}) answer → (IsAccepted answer → ⊥) → ((active listed : ℕ) → answer ≡ Over (ended.Lost active listed) → ⊥) → new ≡ o → Answered answer after
         still_answer answer plain cause never unlost same = subst (λ (e : Engine). Answered answer e) (sym (as_before same))
-            (record { plain = plain; cause = cause; lost = λ one two is. absurd (unlost one two is); free = λ on has. absurd (never on); host = refl; well = λ on. well; begun = same_most v.state.begun })
+            (record { plain = plain; cause = cause; lost = λ one two is. absurd (unlost one two is); free = λ on has. absurd (never on); few = inr tt; host = refl; well = λ on. well; begun = same_most v.state.begun })
 
         unwritten_said : (fault : CommitFault) → CommitAnswer shelf a b o new next (Err fault) → IsCommitCounted shelf a b (length (record_text next)) o new.seats (Err fault) → Answered (commit_answer fault) after
         unwritten_said (unwritten.Lost active listed) said counted = lost_answer active listed said

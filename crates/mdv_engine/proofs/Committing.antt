@@ -165,11 +165,12 @@ seats_on host o held drive block out = none_in (replicas_of o.seats) drive block
         only one other among = elim (first_or_behind one other [] among) [ inl same ↦ same | inr none ↦ absurd (omega (arith, none.1)) ]
 
 -- what it is behind a commit that at least half of each list took
-pub held_left : (host : Host) (o new : Opened) (failed : Outcomes) (mark : _) (bytes : ℕ) → IsHeldBy host o → shortage new ≡ None → new.key ≡ o.key → IsOfGeometry host.drives new.table → AreLeft failed (TakesSlot mark bytes) o.seats new.seats → AreLaid host.site.sizes new.seats → IsHeldBy host new
-held_left host o new failed mark bytes held half keyed listed left laid = record {
+pub held_left : (host : Host) (o new : Opened) (failed : Outcomes) (mark : _) (bytes : ℕ) → IsHeldBy host o → shortage new ≡ None → new.key ≡ o.key → new.table.plan.lists ≡ o.table.plan.lists → IsOfGeometry host.drives new.table → AreLeft failed (TakesSlot mark bytes) o.seats new.seats → AreLaid host.site.sizes new.seats → IsHeldBy host new
+held_left host o new failed mark bytes held half keyed lists listed left laid = record {
   its = keyed ∙ held.its;
   some = (let counted = left_count failed (TakesSlot mark bytes) o.seats new.seats left in let least = held.some in omega (arith, counted, least));
   few = (let counted = left_count failed (TakesSlot mark bytes) o.seats new.seats left in let most = held.few in omega (arith, counted, most));
+  one = (held.one.0, lists ∙ held.one.1);
   half = half;
   of_geometry = listed;
   laid = laid;

@@ -8,7 +8,7 @@ use Rattle.mdv_shelf.proofs.Between.{between_none, between_of, between_then, bet
 use Rattle.mdv_shelf.proofs.Made.{with_more}
 use Rattle.mdv_acts.specs.Asked.{blanked_asked}
 use Rattle.mdv_words.specs.declared.command.Command.TheVariants.{MakeStripe, Print}
-use Rattle.mdv_engine.specs.Below.{Answer, Command, Create, Ended, Host, IoFault, Memory, Opened, OutOfMemory, Outcomes, Read, Refusal, VolId, Write, lines_asked}
+use Rattle.mdv_engine.specs.Below.{Answer, Command, AddListed, AddPlaces, DropPlaces, Ended, Host, IoFault, Memory, Opened, OutOfMemory, Outcomes, Read, Refusal, VolId, Write, lines_asked}
 use Rattle.mdv_engine_law.specs.Answers.{IsMereRefusal, IsSaid, refusing}
 use Rattle.mdv_engine_law.specs.Efforts.{CommandCalls, FaultCalls, LossCalls, MadeCallsOf, places_on, replied_to, wanting_calls}
 use Rattle.mdv_engine_law.specs.Refusals.{blocks_refusal}
@@ -200,14 +200,18 @@ module _ {S : Type 0} (shelf : Ghosts S) where
     creation_most slices count least took = places_most (blanked_asked (lines_asked host slices) count) (places_on (lines_asked host slices) count) least took
 
     fault_most : (command : Command) (before : Option Opened) → FaultCalls (made_of shelf old new) command host → (made_of shelf old new).within 0 (calls_of host before command) (blocks_of host before command)
-    fault_most (Create slices force count blocks) before took = formats_most (blanked_asked (lines_asked host slices) count) (places_on (lines_asked host slices) count) took
+    fault_most (AddPlaces slices force count blocks) before took = formats_most (blanked_asked (lines_asked host slices) count) (places_on (lines_asked host slices) count) took
+    fault_most (AddListed number force) before took = absurd took
+    fault_most (DropPlaces slices force) before took = absurd took
     fault_most (MakeStripe volume slice) before took = absurd took
     fault_most (Read volume at count) before took = wider 1 1 0 1 0 (omega arith) (omega arith) took
     fault_most (Write volume at block) before took = wider 1 2 1 2 1 (omega arith) (omega arith) took
     fault_most (Print names) before took = absurd took
 
     loss_most : (command : Command) (before : Option Opened) → LossCalls (made_of shelf old new) command host before → (made_of shelf old new).within 0 (calls_of host before command) (blocks_of host before command)
-    loss_most (Create slices force count blocks) before took = creation_most slices count _ took
+    loss_most (AddPlaces slices force count blocks) before took = creation_most slices count _ took
+    loss_most (AddListed number force) before took = absurd took
+    loss_most (DropPlaces slices force) before took = absurd took
     loss_most (MakeStripe volume slice) (Some o) took = wider 1 (calls_of host (Some o) (MakeStripe volume slice)) (blocks_of host (Some o) (MakeStripe volume slice)) _ _ (omega arith) (omega arith) took
     loss_most (MakeStripe volume slice) None took = absurd took
     loss_most (Read volume at count) before took = absurd took
@@ -215,11 +219,23 @@ module _ {S : Type 0} (shelf : Ghosts S) where
     loss_most (Print names) before took = absurd took
 
     wanting_most : (command : Command) (before : Option Opened) (blocks : ℕ) → (made_of shelf old new).within 0 (wanting_calls command) 0 → (made_of shelf old new).within 0 (calls_of host before command) blocks
-    wanting_most (Create slices force count blocks) before written took = wider 0 0 0 _ written (omega arith) (omega arith) took
+    wanting_most (AddPlaces slices force count blocks) before written took = wider 0 0 0 _ written (omega arith) (omega arith) took
+    wanting_most (AddListed number force) before written took = wider 0 0 0 0 written (omega arith) (omega arith) took
+    wanting_most (DropPlaces slices force) before written took = wider 0 0 0 0 written (omega arith) (omega arith) took
     wanting_most (MakeStripe volume slice) before written took = wider 0 0 0 _ written (omega arith) (omega arith) took
     wanting_most (Read volume at count) before written took = wider 0 1 0 1 written (omega arith) (omega arith) took
     wanting_most (Write volume at block) before written took = wider 0 0 0 2 written (omega arith) (omega arith) took
     wanting_most (Print names) before written took = wider 0 0 0 0 written (omega arith) (omega arith) took
+
+    -- a command that is refused for want of memory has made one call at most
+    wanting_one : (command : Command) → (made_of shelf old new).within 0 (wanting_calls command) 0 → (made_of shelf old new).within 0 1 0
+    wanting_one (AddPlaces slices force count blocks) took = wider 0 0 0 1 0 (omega arith) (omega arith) took
+    wanting_one (AddListed number force) took = wider 0 0 0 1 0 (omega arith) (omega arith) took
+    wanting_one (DropPlaces slices force) took = wider 0 0 0 1 0 (omega arith) (omega arith) took
+    wanting_one (MakeStripe volume slice) took = wider 0 0 0 1 0 (omega arith) (omega arith) took
+    wanting_one (Read volume at count) took = took
+    wanting_one (Write volume at block) took = wider 0 0 0 1 0 (omega arith) (omega arith) took
+    wanting_one (Print names) took = wider 0 0 0 1 0 (omega arith) (omega arith) took
 
   module _ (old new : S) (host : Host) (command : Command) (before now : Option Opened) where
     abbrev Counted : Answer → Type 0
@@ -239,6 +255,15 @@ module _ {S : Type 0} (shelf : Ghosts S) where
     command_most (Over ended.Memory) same = none_within old new _ _ same
     command_most (Over (ended.NoQuorum readable needed)) same = none_within old new _ _ same
     command_most (Over (ended.TwoDatabases a b)) same = none_within old new _ _ same
+
+    -- a mere refusal
+    pub mere_most : (answer : Answer) → IsMereRefusal answer → Counted answer → (made_of shelf old new).within 0 1 0
+    mere_most (Said outcome.Ok) is took = absurd is
+    mere_most (Said (outcome.Values text)) is took = absurd is
+    mere_most (Said (outcome.Refused IoFault)) is took = absurd is
+    mere_most (Said (outcome.Refused OutOfMemory)) is took = wanting_one old new host command took.0
+    mere_most (Said (outcome.Refused other)) is same = none_within old new _ _ same
+    mere_most (Over end) is took = absurd is
 
     refused_calls : (refusal : Refusal) → Counted (refusing refusal) → CommandCalls (made_of shelf old new) host command (refusing refusal) before now
     refused_calls IoFault counted = counted

@@ -46,7 +46,7 @@ use Rattle.mdv_engine_law.proofs.Making as making
 use Rattle.mdv_engine_law.proofs.Places.{asked_kept}
 use Rattle.mdv_engine_law.proofs.Placing.{asked, asked_on_site, asked_placed, asked_within}
 use Rattle.mdv_engine_law.proofs.Refusing.{refused_still}
-use Rattle.mdv_engine.specs.Below.{AreCalm, AreLaid, CameTo, CarriedTo, CarryMoment, Create, DriveNo, Ends, HasNoTable, Host, Identity, IoFault, IsAllowed, IsOfGeometry, IsOpenedAt, IsReady, Key, KeptOutside, Knows, Memory, OnDrive, Opened, OutOfMemory, Outcomes, Replica, Seat, Site, SliceLine, SliceName, Tale, identity_of, kept_at, key_of, lines_asked, places_area, record_text, replicas_of}
+use Rattle.mdv_engine.specs.Below.{AreCalm, AreLaid, CameTo, CarriedTo, CarryMoment, AddPlaces, DriveNo, Ends, HasNoTable, Host, Identity, IoFault, IsAllowed, IsOfGeometry, IsOpenedAt, IsReady, Key, KeptOutside, Knows, Memory, OnDrive, Opened, OutOfMemory, Outcomes, Replica, Seat, Site, SliceLine, SliceName, Tale, identity_of, kept_at, key_of, lines_asked, places_area, record_text, replicas_of}
 use Rattle.mdv_engine.specs.Ends.{made_at}
 use Rattle.mdv_engine.specs.Engine.{IsHeldBy, IsLostOnSite, LiesOn}
 use Rattle.mdv_engine.proofs.Losing.{lost_on_site}
@@ -85,7 +85,7 @@ owner host sizes ready number small = record {
 }
 
 -- A creation that nothing refuses, on some slices.
-module _ (host : Host) (sizes : List ℕ) (ready : IsReady host sizes) (memory : Memory) (slices : List SliceName) (force : Bool) (count blocks : ℕ) (free : IsAllowed (record { host = host; memory = memory }) (Create slices force count blocks))
+module _ (host : Host) (sizes : List ℕ) (ready : IsReady host sizes) (memory : Memory) (slices : List SliceName) (force : Bool) (count blocks : ℕ) (free : IsAllowed (record { host = host; memory = memory }) (AddPlaces slices force count blocks))
     (some : 1 ≤ length slices) (more : IsCount count) (sized : IsLength blocks) where
   abbrev case : Case
   case = record { host = host; memory = memory }
@@ -162,6 +162,7 @@ module _ (host : Host) (sizes : List ℕ) (ready : IsReady host sizes) (memory :
         let all = asked_length key identity count blocks lines in
         let most = are_asked.few in
         omega (arith, counted, all, most);
+    one = (map (λ (s : Seat). s.place) seats, ap (λ (x : Opened). x.table.plan.lists) made.is);
     half = made.half;
     of_geometry = subst (λ (t : _). IsOfGeometry host.drives t) (sym (ap (λ (x : Opened). x.table) made.is)) placed;
     laid = subst (λ (s : List ℕ). AreLaid s o.seats) (sym ready.on_shelf.sizes_are) laid;
@@ -184,7 +185,7 @@ module _ (host : Host) (sizes : List ℕ) (ready : IsReady host sizes) (memory :
       opened : IsOpenedAt host.drives o m
       opened = ends.opened host.drives may_form
 
-      pub made_line : CameTo calls host (kept_at memory t) (Create slices force count blocks) accepted (kept_at (with_new memory o) m)
+      pub made_line : CameTo calls host (kept_at memory t) (AddPlaces slices force count blocks) accepted (kept_at (with_new memory o) m)
       made_line = came.done free (refl, created host memory (with_new memory o) t m calls lines count blocks o made calm kept refl formed opened)
 
       pub made_carried : CarriedTo host (ToMake key lines count blocks) memory accepted (with_new memory o) t m
@@ -200,7 +201,7 @@ module _ (host : Host) (sizes : List ℕ) (ready : IsReady host sizes) (memory :
         | inr differ ↦ moment.blank host.drives may_form key other differ (before other)
       ]
 
-      pub failed_line : Knows host memory t → CameTo calls host (kept_at memory t) (Create slices force count blocks) (refusing IoFault) (kept_at (begun memory) m)
+      pub failed_line : Knows host memory t → CameTo calls host (kept_at memory t) (AddPlaces slices force count blocks) (refusing IoFault) (kept_at (begun memory) m)
       failed_line known = came.faulted free refl (uncreated host memory (begun memory) t m calls lines count blocks failed kept refl (nothing (known.nothing none clean)))
 
       pub failed_carried : CarriedTo host (ToMake key lines count blocks) memory (refusing IoFault) (begun memory) t m
@@ -210,7 +211,7 @@ module _ (host : Host) (sizes : List ℕ) (ready : IsReady host sizes) (memory :
     -- too few places took its table
     module _ (calls : Outcomes) (active listed : ℕ) (lost : create.IsLost calls key identity lines count blocks active listed) (calm : AreCalmBeside (drives_asked lines) calls)
         (formed : AreTheirs host.drives key identity seats m) (left : IsOpenedAt host.drives (made_at host memory.begun lines count blocks lost.now) m) where
-      pub lost_line : CameTo calls host (kept_at memory t) (Create slices force count blocks) (Over (ended.Lost active listed)) (kept_at (begun memory) m)
+      pub lost_line : CameTo calls host (kept_at memory t) (AddPlaces slices force count blocks) (Over (ended.Lost active listed)) (kept_at (begun memory) m)
       lost_line = came.over (ended.Lost active listed) free refl (leaves_places host memory (begun memory) t m calls lines count blocks active listed lost calm kept formed left)
 
     pub lost_carried : (active listed : ℕ) (next : Memory) → CarriedTo host (ToMake key lines count blocks) memory (Over (ended.Lost active listed)) next t m
@@ -248,7 +249,7 @@ module _ (host : Host) (sizes : List ℕ) (ready : IsReady host sizes) (memory :
 
 -- memory was wanting
 module _ (host : Host) (memory : Memory) (slices : List SliceName) (force : Bool) (count blocks : ℕ) (a b : Option Tale) (same : b ≡ a) where
-  pub unbegun_line : IsAllowed (record { host = host; memory = memory }) (Create slices force count blocks) → (calls : Outcomes) → AreCalm calls → Ends (λ t u. Knows host memory t → CameTo calls host (kept_at memory t) (Create slices force count blocks) (refusing OutOfMemory) (kept_at (begun memory) u)) a b
+  pub unbegun_line : IsAllowed (record { host = host; memory = memory }) (AddPlaces slices force count blocks) → (calls : Outcomes) → AreCalm calls → Ends (λ t u. Knows host memory t → CameTo calls host (kept_at memory t) (AddPlaces slices force count blocks) (refusing OutOfMemory) (kept_at (begun memory) u)) a b
   unbegun_line free calls calm t start = (t, same ∙ start, λ known. came.wanting calm refl (free, record { memory = refl; content = λ drive block. refl }))
 
   pub unbegun_carried : Ends (CarriedTo host (ToMake (key_of host) (lines_asked host slices) count blocks) memory (refusing OutOfMemory) (begun memory)) a b

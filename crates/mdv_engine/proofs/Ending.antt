@@ -1,12 +1,13 @@
 -- The end of a command and of a boot, put together, and what the answer says of a command that ended before anything was done.
-use Rattle.std.proofs.Common.{◌≡◌, ◌≤◌, ◌+◌, ℕ, zero, suc, [], ◌∷◌, Option, Contains, refl, sym, subst, arith}
+use Rattle.std.proofs.Common.{◌≡◌, ◌⊎◌, ◌≤◌, ◌+◌, ℕ, zero, suc, [], ◌∷◌, Option, Contains, refl, sym, subst, arith}
 use Rattle.mdv_shelf.proofs.Moments.{ends_both}
 use Rattle.mdv_words.specs.declared.command.Command.{Command}
-use Rattle.mdv_words.specs.declared.command.Command.TheVariants.{Create, MakeStripe, Print, Read, Write}
+use Rattle.mdv_words.specs.declared.command.Command.TheVariants.{AddListed, AddPlaces, DropPlaces, MakeStripe, Print, Read, Write}
 use Rattle.mdv_engine_law.proofs.Widening.{AreWithin, left_more}
 use Rattle.mdv_shelf.specs.Made.{Made}
 use Rattle.mdv_engine.specs.Below.{Outcomes, Key, Refusal, Ends, Tale, Deed, Created, Answer, Host, Memory, kept_at, unbooted, asked_by, CameTo, IsRebooted, IsPlain, CarriedTo, CarryEnd, Knows}
-use Rattle.mdv_engine_law.specs.Answers.{refusing}
+use Rattle.mdv_engine_law.specs.Answers.{IsMereRefusal, refusing}
+use Rattle.mdv_engine_law.specs.Line.{Ask}
 use Rattle.mdv_engine_law.specs.Commands.{MaySpend, blame_of}
 use Rattle.mdv_engine_law.specs.Replies.{HasAnswerCause, IsAccepted}
 use Rattle.mdv_engine_law.specs.Standing.{LeavesDone}
@@ -14,7 +15,7 @@ use Rattle.mdv_engine_law.specs.declared.answer.Answer.TheVariants.{Said, Over}
 use Rattle.mdv_engine_law.specs.declared.answer.Ended.TheVariants as ended
 use Rattle.mdv_engine_law.specs.declared.answer.Outcome.{Outcome}
 use Rattle.mdv_engine.specs.declared.engine.Engine.{Engine}
-use Rattle.mdv_engine.specs.Ends.{CommandEnd, HasAnswered, IsBootEnd, LeavesMade}
+use Rattle.mdv_engine.specs.Ends.{CarriedOut, CommandEnd, HasAnswered, IsBootEnd, IsFew, LeavesMade}
 use Rattle.mdv_engine.specs.Engine.{IsWell}
 
 module _ (calls : Outcomes) (old : Engine) (command : Command) (answer : Answer) (new : Engine) (a b : Option Tale)
@@ -49,13 +50,22 @@ pub command_ends : (calls : Outcomes) (old : Engine) (command : Command) (this :
     → Ends (CarriedTo old.host (asked_by old.host command) old.state (Said this) new.state) a b → (IsAccepted (Said this) → (u : Tale) → LeavesDone old.host old.state command u) → Ends (CommandEnd calls old command (Said this) new) a b
 command_ends calls old command this new a b came carried done = other_ends calls old command (Said this) new a b came carried done (λ active listed is u. absurd (cc (is)))
 
+-- and where a line is refused, whatever it asks
+pub refused_ends : (calls : Outcomes) (old : Engine) (asked : Ask) (command : Command) (r : Refusal) (a b : Option Tale) → Ends (λ t u. Knows old.host old.state t → CameTo calls old.host (kept_at old.state t) command (refusing r) (kept_at old.state u)) a b
+    → Ends (CarriedTo old.host asked old.state (refusing r) old.state) a b → Ends (CarriedOut calls old.host asked command old.state (refusing r) old.state) a b
+refused_ends calls old asked command r a b came carried =
+    ends_both (λ t u. Knows old.host old.state t → CameTo calls old.host (kept_at old.state t) command (refusing r) (kept_at old.state u)) (CarriedTo old.host asked old.state (refusing r) old.state) (CarriedOut calls old.host asked command old.state (refusing r) old.state) a b
+    (λ t u one two. record { carry = record { answered = one; carried = two }; done = λ on. absurd on; lost = λ active listed is. absurd (cc (is)) }) came carried
+
 -- what is left at the places of a creation, told of a longer stretch by which no further call failed
 pub leaves_more : (failed more : Outcomes) → AreWithin failed more → (host : Host) (memory : Memory) (command : Command) (active listed : ℕ) (u : Tale) → LeavesMade failed host memory command active listed u → LeavesMade more host memory command active listed u
-leaves_more failed more within host memory (Create slices force count blocks) active listed u leaves = (let lost = leaves.lost in record {
+leaves_more failed more within host memory (AddPlaces slices force count blocks) active listed u leaves = (let lost = leaves.lost in record {
   lost = record { now = lost.now; tried = left_more failed more within _ _ _ lost.tried; few = lost.few };
   formed = leaves.formed;
   left = leaves.left;
 })
+leaves_more failed more within host memory (AddListed number force) active listed u leaves = tt
+leaves_more failed more within host memory (DropPlaces slices force) active listed u leaves = tt
 leaves_more failed more within host memory (MakeStripe volume slice) active listed u leaves = tt
 leaves_more failed more within host memory (Read volume at count) active listed u leaves = tt
 leaves_more failed more within host memory (Write volume at block) active listed u leaves = tt
@@ -63,8 +73,8 @@ leaves_more failed more within host memory (Print names) active listed u leaves 
 
 -- a refusal before anything was done
 pub refused_answer : (calls : Outcomes) (command : Command) (old : Engine) → IsWell old.host old.state → (r : Refusal) → HasAnswerCause (blame_of calls old.host old.state command) (MaySpend command) (refusing r) → IsPlain r
-    → HasAnswered calls command old (refusing r) old
-refused_answer calls command old well r cause plain = record { plain = plain; cause = cause; lost = λ active listed is. absurd (cc (is)); free = λ on has. absurd on; host = refl; well = λ on. well; begun = at_most old.state.begun }
+    → IsMereRefusal (refusing r) ⊎ IsFew command → HasAnswered calls command old (refusing r) old
+refused_answer calls command old well r cause plain few = record { plain = plain; cause = cause; lost = λ active listed is. absurd (cc (is)); free = λ on has. absurd on; few = few; host = refl; well = λ on. well; begun = at_most old.state.begun }
   where
     at_most : (n : ℕ) → n ≤ n + 1
     at_most n = omega arith

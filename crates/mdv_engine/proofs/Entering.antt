@@ -17,6 +17,7 @@ use Rattle.mdv_engine_law.specs.declared.answer.Outcome.{Outcome}
 use Rattle.mdv_engine_law.specs.declared.answer.Outcome.TheVariants as outcome
 use Rattle.mdv_engine_law.specs.declared.answer.Reply.{Reply}
 use Rattle.mdv_engine_law.proofs.Executing.{content_kept}
+use Rattle.mdv_words.proofs.Tabs.{entries_are_in_form}
 use Rattle.mdv_engine_law.proofs.Plain.{bad_line_plain, memory_plain, too_many_plain}
 use Rattle.mdv_engine_law.proofs.Turning.{carry_none, entered_none, refused_none, turn_tell, turned}
 use Rattle.mdv_engine_law.proofs.Knowing.{knows_kept}
@@ -53,7 +54,7 @@ module _ (lines : List ℕ) where
   kept_host old new this (none r why is now) = ap (λ (e : Engine). e.host) now
 
   pub kept_well : (old new : Engine) (this : Outcome) → HasKept old lines this new → IsWell old.host old.state → IsWell old.host new.state
-  kept_well old new this (all entries tab is now) well = subst (λ (e : Engine). IsWell old.host e.state) (sym now) (record { database = well.database })
+  kept_well old new this (all entries tab is now) well = subst (λ (e : Engine). IsWell old.host e.state) (sym now) (record { database = well.database; entries = entries_are_in_form lines entries tab })
   kept_well old new this (none r why is now) well = subst (λ (e : Engine). IsWell old.host e.state) (sym now) well
 
   pub kept_begun : (old new : Engine) (this : Outcome) → HasKept old lines this new → new.state.begun ≤ old.state.begun + 1

@@ -11,11 +11,12 @@ use Rattle.mdv_table.specs.Change.{is_db}
 use Rattle.mdv_plan.specs.Slices.{meets_db}
 use Rattle.mdv_table.specs.Plan.{is_in_use, used_slices}
 use Rattle.mdv_table.specs.Volumes.{has_volume}
-use Rattle.mdv_engine_law.specs.Below.{Down}
-use Rattle.mdv_engine_law.specs.Answers.{refusing}
-use Rattle.mdv_engine_law.specs.Refusals.{Case, blocks_refusal, bytes_after, change_refusal, has_number, held_of_blocks, held_of_change, held_of_creation, held_of_more, held_of_read, held_of_replicas, held_past, is_doubled, is_missing, is_plain, is_short, is_taken, places_open, read_refusal, refusal_of, size_of}
+use Rattle.mdv_engine_law.specs.Below.{Down, Place, StateWord}
+use Rattle.mdv_engine_law.specs.Places.{bytes_with, list_more, list_of, room_with}
+use Rattle.mdv_engine_law.specs.Answers.{IsMereRefusal, refusing}
+use Rattle.mdv_engine_law.specs.Refusals.{Case, are_all, held_of_drop, held_of_less, held_of_lists, held_of_others, in_state, rest_of, state_of_less, blocks_refusal, bytes_after, change_refusal, has_number, held_of_blocks, held_of_change, held_of_creation, held_of_more, held_of_read, held_of_replicas, held_past, is_doubled, is_missing, is_plain, is_short, is_taken, places_open, read_refusal, refusal_of, size_of}
 use Rattle.mdv_engine_law.specs.Replies.{Blame, HasAnswerCause}
-use Rattle.mdv_engine.specs.Below.{SliceName, VolId, Create, Refusal, IoFault, OutOfMemory, PlanChange, MakeStripe, Host, Memory, Opened, Volume, record_room}
+use Rattle.mdv_engine.specs.Below.{SliceName, VolId, Refusal, IoFault, OutOfMemory, PlanChange, MakeStripe, Host, Memory, Opened, Volume, record_room, AddPlaces, DropPlaces}
 use Rattle.mdv_engine.specs.Engine.{HasChangeCause}
 
 -- a refusal that tells of no failed call and of no want of memory
@@ -23,6 +24,12 @@ abbrev pub IsJudged : Refusal → Type 0
 IsJudged IoFault = ⊥
 IsJudged OutOfMemory = ⊥
 IsJudged other = Unit {0}
+
+-- so it is a mere refusal
+pub judged_mere : (r : Refusal) → IsJudged r → IsMereRefusal (refusing r)
+judged_mere IoFault judged = absurd judged
+judged_mere OutOfMemory judged = absurd judged
+judged_mere other judged = tt
 
 pub where_judged : (holds : Bool) (r : Refusal) → IsJudged r → All IsJudged (where_so holds r)
 where_judged true r judged = All-cons IsJudged r [] judged (All-nil IsJudged)
@@ -71,11 +78,37 @@ more_held (Some o) [] all = All-cons IsJudged BadLine [] tt (All-nil IsJudged)
 more_held (Some o) (r ∷ rs) all = all
 more_held None held all = all
 
-pub creation_judged : (case : Case) (slices : List SliceName) (force : Bool) (count blocks : ℕ) (r : Refusal) → refusal_of case (Create slices force count blocks) ≡ Some r → IsJudged r
+lists_held : (o : Opened) (list : List Place) → All IsJudged (held_of_lists o list)
+lists_held o list = where_judged (nat_lt (room_with o list) (bytes_with o list)) (ReplicaFull (bytes_with o list) (room_with o list)) tt
+
+others_held : (opened : Option Opened) (slices : List SliceName) (count blocks : ℕ) → All IsJudged (held_of_others opened slices count blocks)
+others_held None slices count blocks = All-nil IsJudged
+others_held (Some o) slices count blocks = lists_held o (list_more slices count blocks (list_of o))
+
+pub creation_judged : (case : Case) (slices : List SliceName) (force : Bool) (count blocks : ℕ) (r : Refusal) → refusal_of case (AddPlaces slices force count blocks) ≡ Some r → IsJudged r
 creation_judged case slices force count blocks r is =
-    first_holds IsJudged order (held_of_creation case slices force count blocks) r (more_held case.memory.opened (held_of_replicas case slices force count blocks)
-    (creation_held (list_any (is_missing case.host) slices) (list_any (λ slice. is_plain (slice_at case.host.drives.slices slice)) slices) (not (is_some case.memory.opened) && not case.memory.clean)
-    (nat_lt 50 (length (places_open case.memory.opened) + length slices * count)) (not (is_some case.memory.opened) && not force) (list_any (is_taken case) slices || is_doubled slices) (list_any (is_short case.host count blocks) slices))) is
+    first_holds IsJudged order (held_of_creation case slices force count blocks) r (more_held case.memory.opened (held_of_replicas case slices force count blocks ++ held_of_others case.memory.opened slices count blocks)
+    (All-append IsJudged (held_of_replicas case slices force count blocks) (held_of_others case.memory.opened slices count blocks) (creation_held (list_any (is_missing case.host) slices) (list_any (λ slice. is_plain (slice_at case.host.drives.slices slice)) slices) (not (is_some case.memory.opened) && not case.memory.clean)
+    (nat_lt 50 (length (places_open case.memory.opened) + length slices * count)) (not (is_some case.memory.opened) && not force) (list_any (is_taken case) slices || is_doubled slices) (list_any (is_short case.host count blocks) slices)) (others_held case.memory.opened slices count blocks))) is
+
+-- nor is what places are refused for that are to go
+state_held : (state : Option StateWord) → All IsJudged (in_state state)
+state_held None = All-nil IsJudged
+state_held (Some word) = All-cons IsJudged (WrongState word) [] tt (All-nil IsJudged)
+
+less_held : (gone plain unforced : Bool) (state : Option StateWord) → All IsJudged (where_so gone NoSuchSlice ++ (where_so plain WrongKind ++ (in_state state ++ where_so unforced NeedForce)))
+less_held gone plain unforced state =
+    let last = where_so unforced NeedForce in
+    and_judged gone NoSuchSlice (where_so plain WrongKind ++ (in_state state ++ last)) tt (and_judged plain WrongKind (in_state state ++ last) tt (All-append IsJudged (in_state state) last (state_held state) (where_judged unforced NeedForce tt)))
+
+drop_held : (case : Case) (opened : Option Opened) (slices : List SliceName) (force : Bool) → All IsJudged (held_of_drop case opened slices force)
+drop_held case None slices force = All-cons IsJudged NoDatabase [] tt (All-nil IsJudged)
+drop_held case (Some o) slices force = more_held (Some o) (held_of_less case o slices force ++ held_of_lists o (rest_of o slices)) (All-append IsJudged (held_of_less case o slices force) (held_of_lists o (rest_of o slices))
+    (less_held (list_any (is_missing case.host) slices) (list_any (λ slice. is_plain (slice_at case.host.drives.slices slice)) slices) (are_all o slices && not force) (state_of_less case o slices))
+    (lists_held o (rest_of o slices)))
+
+pub drop_judged : (case : Case) (slices : List SliceName) (force : Bool) (r : Refusal) → refusal_of case (DropPlaces slices force) ≡ Some r → IsJudged r
+drop_judged case slices force r is = first_holds IsJudged order (held_of_drop case case.memory.opened slices force) r (drop_held case case.memory.opened slices force) is
 
 -- and a change
 change_held_so : (gone taken set_aside used long : Bool) (full : Refusal) → IsJudged full

@@ -15,3 +15,5 @@ pub mod Entering
 pub mod Printing
 mod Judging
 pub mod Judged
+pub mod Listed
+pub mod Coming

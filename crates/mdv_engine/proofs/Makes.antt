@@ -1,5 +1,5 @@
 -- A creation that the engine makes of its store, put together: its moments, its end, its answer and its calls.
-use Rattle.std.proofs.Common.{◌≡◌, ◌≤◌, ◌<◌, ◌+◌, ◌*◌, ◌^◌, ℕ, Bool, List, length, Option, Some, None, Ok, Err, refl, sym, subst, ap, ◌∙◌, arith}
+use Rattle.std.proofs.Common.{◌≡◌, inl, inr, ◌≤◌, ◌<◌, ◌+◌, ◌*◌, ◌^◌, ℕ, Bool, List, length, Option, Some, None, Ok, Err, refl, sym, subst, ap, ◌∙◌, arith}
 use Rattle.std.specs.Prelude.{IfSome}
 use Rattle.mdv_shelf.proofs.Moments.{ends_both, moments_end, moments_weaker}
 use Rattle.mdv_shelf.specs.Between.{RoseByAtLeast}
@@ -20,8 +20,9 @@ use Rattle.mdv_engine_law.specs.Line.{AreCalmBeside, ToMake}
 use Rattle.mdv_engine_law.specs.declared.answer.Answer.TheVariants.{Over}
 use Rattle.mdv_engine_law.specs.declared.answer.Ended.TheVariants as ended
 use Rattle.mdv_engine_law.specs.declared.answer.Outcome.TheVariants as outcome
+use Rattle.mdv_engine_law.proofs.Allowed.{allowed_few}
 use Rattle.mdv_engine_law.proofs.Plain.{fault_plain, memory_plain}
-use Rattle.mdv_engine.specs.Below.{Answer, AreLaid, CameTo, CarriedTo, CarryMoment, Create, CreateFault, Identity, IoFault, IsAllowed, IsOpenedAt, IsReady, Key, Knows, Memory, Opened, OutOfMemory, Seat, SliceLine, SliceName, Table, Tale, active_of, identity_of, kept_at, key_of, lines_asked, record_text}
+use Rattle.mdv_engine.specs.Below.{Answer, AreInForm, AreLaid, CameTo, CarriedTo, CarryMoment, AddPlaces, CreateFault, Identity, IoFault, IsAllowed, IsOpenedAt, IsReady, Key, Knows, Memory, Opened, OutOfMemory, Seat, SliceLine, SliceName, Table, Tale, active_of, identity_of, kept_at, key_of, lines_asked, record_text}
 use Rattle.mdv_engine.specs.Counts.{IsCommandCounted, WereMadeInTurn, WereTried}
 use Rattle.mdv_engine.specs.Ends.{CreationEnds, HasAnswered, LeavesMade, made_at}
 use Rattle.mdv_engine.specs.Engine.{IsHeldBy, IsLostOnSite, IsWell, answer_of, case_at}
@@ -57,7 +58,7 @@ same_most n = omega arith
 within_one : (n : ℕ) → n + 1 < 2 ^ 32 → n < 2 ^ 32
 within_one n small = omega (arith, small)
 
-module _ {S : Type 0} (shelf : Ghosts S) (a b : S) (v : Engine) (ready : IsReady v.host (shelf.sizes a)) (slices : List SliceName) (count blocks : ℕ) (form : (1 ≤ length slices) × IsCount count × IsLength blocks) (small : v.state.begun + 1 < 2 ^ 32) where
+module _ {S : Type 0} (shelf : Ghosts S) (a b : S) (v : Engine) (ready : IsReady v.host (shelf.sizes a)) (slices : List SliceName) (count blocks : ℕ) (form : (1 ≤ length slices) × IsCount count × IsLength blocks) (small : v.state.begun + 1 < 2 ^ 32) (entries : AreInForm v.state.entries) where
   abbrev key : Key
   key = key_of v.host
 
@@ -68,27 +69,30 @@ module _ {S : Type 0} (shelf : Ghosts S) (a b : S) (v : Engine) (ready : IsReady
   lines = lines_asked v.host slices
 
   abbrev Free : Bool → Type 0
-  Free force = IsAllowed (case_at v) (Create slices force count blocks)
+  Free force = IsAllowed (case_at v) (AddPlaces slices force count blocks)
 
   abbrev now : Memory → Engine
   now memory = record { host = v.host; state = memory }
 
   -- memory was wanting before anything was done
   pub wanting_ends : (force : Bool) → Free force → shelf.tale b ≡ shelf.tale a → ((drive : ℕ) → (DriveFailures shelf a b drive).none) → CreationEnds shelf a b v slices force count blocks (refusing OutOfMemory) (now (begun v.state))
-  wanting_ends force free same calm = command_ends (DriveFailures shelf a b) v (Create slices force count blocks) (outcome.Refused OutOfMemory) (now (begun v.state)) (shelf.tale a) (shelf.tale b)
+  wanting_ends force free same calm = command_ends (DriveFailures shelf a b) v (AddPlaces slices force count blocks) (outcome.Refused OutOfMemory) (now (begun v.state)) (shelf.tale a) (shelf.tale b)
       (creating.unbegun_line v.host v.state slices force count blocks (shelf.tale a) (shelf.tale b) same free (DriveFailures shelf a b) calm)
       (creating.unbegun_carried v.host v.state slices force count blocks (shelf.tale a) (shelf.tale b) same)
       (λ on u. absurd on)
+
+  few_asked : (force : Bool) × Free force → length slices * count ≤ 50
+  few_asked (force, free) = allowed_few (case_at v) slices force count blocks free
 
   module _ (held : (force : Bool) × Free force) where
     nothing_open : v.state.opened ≡ None
     nothing_open = creating.none v.host (shelf.sizes a) ready v.state slices held.0 count blocks held.1 form.0 form.1 form.2
 
     well_begun : IsWell v.host (begun v.state)
-    well_begun = record { database = subst (λ (o : Option Opened). IfSome o (IsHeldBy v.host)) (sym nothing_open) tt }
+    well_begun = record { entries = entries; database = subst (λ (o : Option Opened). IfSome o (IsHeldBy v.host)) (sym nothing_open) tt }
 
-    pub wanting_answer : ((drive : ℕ) → (DriveFailures shelf a b drive).none) → (force : Bool) → HasAnswered (DriveFailures shelf a b) (Create slices force count blocks) v (refusing OutOfMemory) (now (begun v.state))
-    wanting_answer calm force = record { plain = memory_plain; cause = calm; lost = λ one two is. absurd (cc (is)); free = λ on has. absurd on; host = refl; well = λ on. well_begun; begun = same_most (v.state.begun + 1) }
+    pub wanting_answer : ((drive : ℕ) → (DriveFailures shelf a b drive).none) → (force : Bool) → HasAnswered (DriveFailures shelf a b) (AddPlaces slices force count blocks) v (refusing OutOfMemory) (now (begun v.state))
+    wanting_answer calm force = record { plain = memory_plain; cause = calm; lost = λ one two is. absurd (cc (is)); free = λ on has. absurd on; few = inl tt; host = refl; well = λ on. well_begun; begun = same_most (v.state.begun + 1) }
 
     pub creation_moments : AtEachTale shelf (CreateMoment key identity lines count blocks) a b → AtEachTale shelf (CarryMoment v.host (ToMake key lines count blocks) v.state) a b
     creation_moments moments = moments_weaker (CreateMoment key identity lines count blocks) (CarryMoment v.host (ToMake key lines count blocks) v.state) (shelf.tale a) (shelf.tale b)
@@ -96,14 +100,15 @@ module _ {S : Type 0} (shelf : Ghosts S) (a b : S) (v : Engine) (ready : IsReady
 
     -- it was made
     module _ (kept : KeptAmong shelf a b (drives_asked lines)) (o : Opened) (created : IsCreated shelf a b key identity lines count blocks (Ok o)) where
-      pub made_answer : (force : Bool) → HasAnswered (DriveFailures shelf a b) (Create slices force count blocks) v accepted (now (with_new v.state o))
+      pub made_answer : (force : Bool) → HasAnswered (DriveFailures shelf a b) (AddPlaces slices force count blocks) v accepted (now (with_new v.state o))
       made_answer force = record {
         plain = tt;
         cause = creating.calm_beside shelf a b (drives_asked lines) kept;
         lost = λ one two is. absurd (cc (is));
         free = λ on has. (nothing_open, creating.clean v.host (shelf.sizes a) ready v.state slices held.0 count blocks held.1 form.0 form.1 form.2);
+        few = inr (few_asked held);
         host = refl;
-        well = λ on. record { database = creating.made_held v.host (shelf.sizes a) ready v.state slices held.0 count blocks held.1 form.0 form.1 form.2 (DriveFailures shelf a b) o created.came (subst (λ (s : List ℕ). AreLaid s o.seats) kept.keeps.same_sizes created.formed.2) };
+        well = λ on. record { entries = entries; database = creating.made_held v.host (shelf.sizes a) ready v.state slices held.0 count blocks held.1 form.0 form.1 form.2 (DriveFailures shelf a b) o created.came (subst (λ (s : List ℕ). AreLaid s o.seats) kept.keeps.same_sizes created.formed.2) };
         begun = same_most (v.state.begun + 1);
       }
 
@@ -126,8 +131,8 @@ module _ {S : Type 0} (shelf : Ghosts S) (a b : S) (v : Engine) (ready : IsReady
     pub made_ends : (o : Opened) → IsCreated shelf a b key identity lines count blocks (Ok o) → AtEnd shelf (CreateEnds key identity lines count blocks (Ok o)) a b → CreationEnds shelf a b v slices force count blocks accepted (now (with_new v.state o))
     made_ends o created ends =
         let all = with_formed (CreateEnds key identity lines count blocks (Ok o)) created.formed.0 ends in
-        done_ends (DriveFailures shelf a b) v (Create slices force count blocks) accepted (now (with_new v.state o)) (shelf.tale a) (shelf.tale b)
-        (with_moment (λ t u. CreateEnds key identity lines count blocks (Ok o) t u × Formed u) (λ t u. Knows v.host v.state t → CameTo (DriveFailures shelf a b) v.host (kept_at v.state t) (Create slices force count blocks) accepted (kept_at (with_new v.state o) u))
+        done_ends (DriveFailures shelf a b) v (AddPlaces slices force count blocks) accepted (now (with_new v.state o)) (shelf.tale a) (shelf.tale b)
+        (with_moment (λ t u. CreateEnds key identity lines count blocks (Ok o) t u × Formed u) (λ t u. Knows v.host v.state t → CameTo (DriveFailures shelf a b) v.host (kept_at v.state t) (AddPlaces slices force count blocks) accepted (kept_at (with_new v.state o) u))
         (λ t u moment end known. creating.made_line v.host (shelf.sizes a) ready v.state slices force count blocks free form.0 form.1 form.2 t u moment (DriveFailures shelf a b) o created.came calm end.0 end.1) all)
         (with_moment (λ t u. CreateEnds key identity lines count blocks (Ok o) t u × Formed u) (CarriedTo v.host (ToMake key lines count blocks) v.state accepted (with_new v.state o))
         (λ t u moment end. creating.made_carried v.host (shelf.sizes a) ready v.state slices force count blocks free form.0 form.1 form.2 t u moment (DriveFailures shelf a b) o created.came calm end.0 end.1) all)
@@ -135,8 +140,8 @@ module _ {S : Type 0} (shelf : Ghosts S) (a b : S) (v : Engine) (ready : IsReady
         (creating.formed_end v.host (shelf.sizes a) ready v.state slices force count blocks free form.0 form.1 form.2 shelf a b (within_one v.state.begun small) created.formed.0)
 
     failed_ends : IsCreated shelf a b key identity lines count blocks (Err unmade.Failed) → AtEnd shelf (CreateEnds key identity lines count blocks (Err unmade.Failed)) a b → CreationEnds shelf a b v slices force count blocks (refusing IoFault) (now (begun v.state))
-    failed_ends created ends = command_ends (DriveFailures shelf a b) v (Create slices force count blocks) (outcome.Refused IoFault) (now (begun v.state)) (shelf.tale a) (shelf.tale b)
-        (with_moment (CreateEnds key identity lines count blocks (Err unmade.Failed)) (λ t u. Knows v.host v.state t → CameTo (DriveFailures shelf a b) v.host (kept_at v.state t) (Create slices force count blocks) (refusing IoFault) (kept_at (begun v.state) u))
+    failed_ends created ends = command_ends (DriveFailures shelf a b) v (AddPlaces slices force count blocks) (outcome.Refused IoFault) (now (begun v.state)) (shelf.tale a) (shelf.tale b)
+        (with_moment (CreateEnds key identity lines count blocks (Err unmade.Failed)) (λ t u. Knows v.host v.state t → CameTo (DriveFailures shelf a b) v.host (kept_at v.state t) (AddPlaces slices force count blocks) (refusing IoFault) (kept_at (begun v.state) u))
         (λ t u moment end. creating.failed_line v.host (shelf.sizes a) ready v.state slices force count blocks free form.0 form.1 form.2 t u moment (DriveFailures shelf a b) created.came end) ends)
         (with_moment (CreateEnds key identity lines count blocks (Err unmade.Failed)) (CarriedTo v.host (ToMake key lines count blocks) v.state (refusing IoFault) (begun v.state))
         (λ t u moment end. creating.failed_carried v.host (shelf.sizes a) ready v.state slices force count blocks free form.0 form.1 form.2 t u moment (DriveFailures shelf a b) created.came end) ends)
@@ -148,15 +153,15 @@ module _ {S : Type 0} (shelf : Ghosts S) (a b : S) (v : Engine) (ready : IsReady
         let open_at = λ (t u : Tale). IsOpenedAt v.host.drives (made_at v.host v.state.begun lines count blocks found.0.now) u in
         let all = with_formed open_at created.formed.0 found.1 in
         let both = λ (t u : Tale). open_at t u × Formed u in
-        lost_ends (DriveFailures shelf a b) v (Create slices force count blocks) (Over (ended.Lost active listed)) (now (begun v.state)) (shelf.tale a) (shelf.tale b)
-        (with_moment both (λ t u. Knows v.host v.state t → CameTo (DriveFailures shelf a b) v.host (kept_at v.state t) (Create slices force count blocks) (Over (ended.Lost active listed)) (kept_at (begun v.state) u))
+        lost_ends (DriveFailures shelf a b) v (AddPlaces slices force count blocks) (Over (ended.Lost active listed)) (now (begun v.state)) (shelf.tale a) (shelf.tale b)
+        (with_moment both (λ t u. Knows v.host v.state t → CameTo (DriveFailures shelf a b) v.host (kept_at v.state t) (AddPlaces slices force count blocks) (Over (ended.Lost active listed)) (kept_at (begun v.state) u))
         (λ t u moment left known. creating.lost_line v.host (shelf.sizes a) ready v.state slices force count blocks free form.0 form.1 form.2 t u moment (DriveFailures shelf a b) active listed found.0 calm left.1 left.0) all)
         (moments_end (CarriedTo v.host (ToMake key lines count blocks) v.state (Over (ended.Lost active listed)) (begun v.state)) (shelf.tale a) (shelf.tale b)
         (moments_weaker (CreateMoment key identity lines count blocks) (CarriedTo v.host (ToMake key lines count blocks) v.state (Over (ended.Lost active listed)) (begun v.state)) (shelf.tale a) (shelf.tale b)
         (λ t m moment. creating.lost_carried v.host (shelf.sizes a) ready v.state slices force count blocks free form.0 form.1 form.2 t m moment active listed (begun v.state)) moments))
         (λ on. on)
-        (with_moment both (λ t u. (one two : ℕ) → Over (ended.Lost active listed) ≡ Over (ended.Lost one two) → LeavesMade (DriveFailures shelf a b) v.host v.state (Create slices force count blocks) one two u)
-        (λ t u moment left one two is. moved (λ (x y : ℕ). LeavesMade (DriveFailures shelf a b) v.host v.state (Create slices force count blocks) x y u) active listed one two is (record { lost = found.0; formed = left.1; left = left.0 })) all)
+        (with_moment both (λ t u. (one two : ℕ) → Over (ended.Lost active listed) ≡ Over (ended.Lost one two) → LeavesMade (DriveFailures shelf a b) v.host v.state (AddPlaces slices force count blocks) one two u)
+        (λ t u moment left one two is. moved (λ (x y : ℕ). LeavesMade (DriveFailures shelf a b) v.host v.state (AddPlaces slices force count blocks) x y u) active listed one two is (record { lost = found.0; formed = left.1; left = left.0 })) all)
 
     -- what became of it where it isn't made
     unmade_by : (fault : CreateFault) → IsCreated shelf a b key identity lines count blocks (Err fault) → AtEnd shelf (CreateEnds key identity lines count blocks (Err fault)) a b → IsCreationCounted shelf a b lines count blocks (Err fault)
@@ -171,16 +176,17 @@ module _ {S : Type 0} (shelf : Ghosts S) (a b : S) (v : Engine) (ready : IsReady
 
   module _ (held : (force : Bool) × Free force) (kept : KeptAmong shelf a b (drives_asked lines)) where
     abbrev Answered : Bool → Answer → Type 0
-    Answered force answer = HasAnswered (DriveFailures shelf a b) (Create slices force count blocks) v answer (now (begun v.state))
+    Answered force answer = HasAnswered (DriveFailures shelf a b) (AddPlaces slices force count blocks) v answer (now (begun v.state))
 
     unmade_said : (fault : CreateFault) → IsCreated shelf a b key identity lines count blocks (Err fault) → (force : Bool) → Answered force (answer_of fault)
-    unmade_said unmade.Failed created force = record { plain = fault_plain; cause = created.came; lost = λ one two is. absurd (cc (is)); free = λ on has. absurd on; host = refl; well = λ on. well_begun held; begun = same_most (v.state.begun + 1) }
+    unmade_said unmade.Failed created force = record { plain = fault_plain; cause = created.came; lost = λ one two is. absurd (cc (is)); free = λ on has. absurd on; few = inr (few_asked held); host = refl; well = λ on. well_begun held; begun = same_most (v.state.begun + 1) }
     unmade_said (unmade.Lost active listed) created force = record {
       plain = tt;
       cause = (created.came, creating.calm_beside shelf a b (drives_asked lines) kept);
       lost = λ one two is. moved (λ (x y : ℕ). IsLostOnSite (DriveFailures shelf a b) v.host x y) active listed one two is
           (creating.lost_on v.host (shelf.sizes a) ready v.state slices held.0 count blocks held.1 form.0 form.1 form.2 (DriveFailures shelf a b) active listed created.came);
       free = λ on has. absurd on;
+      few = inr (few_asked held);
       host = refl;
       well = λ on. absurd on;
       begun = same_most (v.state.begun + 1);
@@ -191,7 +197,7 @@ module _ {S : Type 0} (shelf : Ghosts S) (a b : S) (v : Engine) (ready : IsReady
     unmade_answer fault answer is created force = subst (Answered force) (sym is) (unmade_said fault created force)
 
   abbrev Counted : Bool → Answer → Option Opened → Type 0
-  Counted force answer opened = IsCommandCounted shelf a b v.host (Create slices force count blocks) answer v.state.opened opened
+  Counted force answer opened = IsCommandCounted shelf a b v.host (AddPlaces slices force count blocks) answer v.state.opened opened
 
   in_turn : (formed : WereFormed shelf a b key identity lines count blocks) → WereMadeInTurn shelf a b key identity lines count blocks formed.now
   in_turn formed = record { formed = formed.formed; gone = formed.gone; steps = formed.steps }

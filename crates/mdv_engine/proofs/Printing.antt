@@ -131,6 +131,7 @@ module _ (old : Engine) (names : List Named) where
     cause = print_cause this has calls calm;
     lost = λ active listed is. absurd (cc (is));
     free = λ on among. absurd (omega (arith, among.1));
+    few = inr tt;
     host = refl;
     well = λ on. well;
     begun = at_most old.state.begun;

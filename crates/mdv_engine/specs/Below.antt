@@ -59,4 +59,5 @@ pub use Rattle.mdv_table.specs.declared.volume.VolumeKind.TheVariants.{Stripe}
 pub use Rattle.mdv_volumes.specs.History.{Changed, Created, Deed, Saw, Wrote}
 pub use Rattle.mdv_volumes.specs.Tables.{IsMapOf}
 pub use Rattle.mdv_words.specs.declared.command.Command.{Command}
-pub use Rattle.mdv_words.specs.declared.command.Command.TheVariants.{Create, Read, Write}
+pub use Rattle.mdv_words.specs.declared.command.Command.TheVariants.{AddListed, AddPlaces, DropPlaces, Read, Write}
+pub use Rattle.mdv_words.specs.Listed.{AreInForm, Replicas, listed_by, meant}

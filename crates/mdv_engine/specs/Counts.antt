@@ -31,14 +31,16 @@ use Rattle.mdv_engine_law.specs.declared.answer.Outcome.TheVariants as outcome
 use Rattle.mdv_engine_law.specs.Answers.{accepted, refusing}
 use Rattle.mdv_engine_law.specs.declared.answer.Reply.{Reply}
 use Rattle.mdv_engine_law.specs.declared.answer.Reply.TheVariants as reply
-use Rattle.mdv_engine.specs.Below.{Create, Host, Identity, Key, MakeStripe, Memory, Opened, Read, Seat, SliceLine, Write, active_of, key_of, lines_asked}
+use Rattle.mdv_engine.specs.Below.{AddListed, AddPlaces, DropPlaces, Host, Identity, Key, MakeStripe, Memory, Opened, Read, Seat, SliceLine, Write, active_of, key_of, lines_asked}
 use Rattle.mdv_store.specs.Shares.{short_of}
 use Rattle.mdv_store.specs.declared.seats.Need.TheVariants.{Half}
 use Rattle.mdv_table.specs.declared.plan.Lists.{Lists}
 
 -- the most calls that a command makes, and the most blocks that it writes
 abbrev pub calls_of : Host → Option Opened → Command → ℕ
-calls_of host opened (Create slices force count blocks) = 2 * blanked_asked (lines_asked host slices) count + 12 * places_on (lines_asked host slices) count
+calls_of host opened (AddPlaces slices force count blocks) = 2 * blanked_asked (lines_asked host slices) count + 12 * places_on (lines_asked host slices) count
+calls_of host opened (AddListed number force) = 0
+calls_of host opened (DropPlaces slices force) = 0
 calls_of host None (command.MakeStripe volume slice) = 0
 calls_of host (Some o) (command.MakeStripe volume slice) = 6 * active_of o.seats
 calls_of host opened (Read volume at count) = 1
@@ -46,7 +48,9 @@ calls_of host opened (Write volume at block) = 2
 calls_of host opened (command.Print names) = 0
 
 abbrev pub blocks_of : Host → Option Opened → Command → ℕ
-blocks_of host opened (Create slices force count blocks) = blanked_asked (lines_asked host slices) count + 4103 * places_on (lines_asked host slices) count
+blocks_of host opened (AddPlaces slices force count blocks) = blanked_asked (lines_asked host slices) count + 4103 * places_on (lines_asked host slices) count
+blocks_of host opened (AddListed number force) = 0
+blocks_of host opened (DropPlaces slices force) = 0
 blocks_of host None (command.MakeStripe volume slice) = 0
 blocks_of host (Some o) (command.MakeStripe volume slice) = 4096 * active_of o.seats
 blocks_of host opened (Read volume at count) = 0
@@ -61,7 +65,7 @@ pub record WereMadeInTurn {S : Type 0} (shelf : Ghosts S) (old new : S) (key : K
 
 -- A change that is done wrote its table at each place that was active, in turn: one is left only where its own writing was begun and a call on its drive failed, or behind an earlier one of this pass on its drive. So did a creation behind its formats.
 abbrev pub HasWrittenAll : {S : Type 0} → Ghosts S → S → S → Host → Command → Option Opened → Option Opened → Type 0
-HasWrittenAll shelf old new host (Create slices force count blocks) before (Some now) = WereMadeInTurn shelf old new now.key now.identity (lines_asked host slices) count blocks now.seats
+HasWrittenAll shelf old new host (AddPlaces slices force count blocks) before (Some now) = WereMadeInTurn shelf old new now.key now.identity (lines_asked host slices) count blocks now.seats
 HasWrittenAll shelf old new host (command.MakeStripe volume slice) (Some before) (Some now) = AreWrittenBy shelf now.mark now.table old new before.seats now.seats
 HasWrittenAll shelf old new host other before now = Unit {0}
 
@@ -74,7 +78,7 @@ pub record WereTried {S : Type 0} (shelf : Ghosts S) (old new : S) (Steps : List
 
 -- so it is where too few places took the table of a command
 abbrev pub HasTriedAll : {S : Type 0} → Ghosts S → S → S → Host → Command → Option Opened → ℕ → ℕ → Type 0
-HasTriedAll shelf old new host (Create slices force count blocks) before active listed =
+HasTriedAll shelf old new host (AddPlaces slices force count blocks) before active listed =
     (identity : Identity) × WereTried shelf old new (WereMadeInTurn shelf old new (key_of host) identity (lines_asked host slices) count blocks) (seats_asked (key_of host) identity (lines_asked host slices) count blocks)
     (table_of (seats_asked (key_of host) identity (lines_asked host slices) count blocks)).plan.lists active listed
 HasTriedAll shelf old new host (command.MakeStripe volume slice) (Some o) active listed =

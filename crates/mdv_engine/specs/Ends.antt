@@ -1,23 +1,22 @@
 -- What the calls of an engine say of their answers, and of the drives in the end.
-use Rattle.std.specs.Prelude.{◌≡◌, ◌≢◌, ◌≤◌, ◌+◌, ℕ, Bool, true, false, List, [], Option, Some, None, Result, Ok, Err, IfOk, IfErr, OnOk, Contains, length}
+use Rattle.std.specs.Prelude.{◌≡◌, ◌≢◌, ◌⊎◌, ◌≤◌, ◌+◌, ◌*◌, ℕ, Bool, true, false, List, [], Option, Some, None, Result, Ok, Err, IfOk, IfErr, OnOk, Contains, length}
 use Rattle.mdv_acts.specs.Asked.{drives_asked}
 use Rattle.mdv_shelf.specs.Drives.{KeptAmong}
 use Rattle.mdv_shelf.specs.Shelves.{AtEachMoment, AtEachTale, AtEnd, DriveFailures, EndsTold, GivingFailed, GivingFailures, KeptOn, MadeCalls, RestsOnceTold}
 use Rattle.mdv_shelf.specs.declared.shelf.Shelf.{Ghosts}
 use Rattle.mdv_standing.specs.Creating.{first_mark}
-use Rattle.mdv_acts.specs.Asked.{drives_asked}
 use Rattle.mdv_store.specs.Booting.{boot_area, has_written}
 use Rattle.mdv_store.specs.Create as create
 use Rattle.mdv_store.specs.Seats.{AreTheirs}
 use Rattle.mdv_words.specs.declared.command.Command.{Command}
 use Rattle.mdv_words.specs.declared.command.Command.TheVariants as command
 use Rattle.mdv_words.specs.Line as words
-use Rattle.mdv_engine.specs.Below.{Answer, AreBlocksAt, AreCalm, BootedTo, CameTo, CarryEnd, CarryMoment, OfPlan, PlanChange, Changed, Create, Created, DriveBlock, DriveNo, Ended, Executed, FailedOn, Host, IoFault, IsAllowed, IsOpenedAt, IsPlainAnswer, IsRebooted, IsSettled, IsSynced, Kept, KeptOutside, Knows, MakeStripe, MayLeave, Memory, OnDrive, Opened, OutOfMemory, Outcomes, Read, Refusal, Seat, Settling, SliceLine, SliceName, Table, Tale, TellMoment, TellsFront, TurnMoment, Turned, VolId, Write, asked_by, blocks_of, has_drive, identity_of, kept_at, key_of, last, lines_asked, nowhere, text_of, unbooted}
+use Rattle.mdv_engine.specs.Below.{Answer, AreBlocksAt, AreCalm, BootedTo, CameTo, CarryEnd, CarryMoment, OfPlan, PlanChange, Changed, Created, DriveBlock, DriveNo, Ended, Executed, FailedOn, Host, IoFault, IsAllowed, IsOpenedAt, IsPlainAnswer, IsRebooted, IsSettled, IsSynced, Kept, KeptOutside, Knows, MakeStripe, MayLeave, Memory, OnDrive, Opened, OutOfMemory, Outcomes, Read, Refusal, Seat, Settling, SliceLine, SliceName, Table, Tale, TellMoment, TellsFront, TurnMoment, Turned, VolId, Write, asked_by, blocks_of, has_drive, identity_of, kept_at, key_of, last, lines_asked, nowhere, text_of, unbooted, AddListed, AddPlaces, DropPlaces, meant}
 use Rattle.mdv_shelf.specs.Made.{Made, and_more, made_of}
 use Rattle.mdv_engine_law.specs.declared.answer.Answer.TheVariants.{Over}
 use Rattle.mdv_engine_law.specs.declared.answer.Ended.TheVariants as ended
 use Rattle.mdv_engine_law.specs.Line.{Ask, ToDo, ToMake, contents, deeds}
-use Rattle.mdv_engine_law.specs.Answers.{IsSaid, accepted, refusing}
+use Rattle.mdv_engine_law.specs.Answers.{IsMereRefusal, IsSaid, accepted, refusing}
 use Rattle.mdv_engine_law.specs.Commands.{MaySpend, blame_of}
 use Rattle.mdv_engine_law.specs.Efforts.{BootCalls, FaultCalls, LossCalls, MadeCallsOf, wanting_calls}
 use Rattle.mdv_engine_law.specs.Refusals.{blocks_refusal, read_refusal}
@@ -57,18 +56,22 @@ pub record LeavesReplicas (calls : Outcomes) (host : Host) (begun : ℕ) (lines 
 
 -- what a command leaves that the run is over with, for too few places are left
 abbrev pub LeavesMade : Outcomes → Host → Memory → Command → ℕ → ℕ → Tale → Type 0
-LeavesMade calls host old (Create slices force count blocks) active listed u = LeavesReplicas calls host old.begun (lines_asked host slices) count blocks active listed u
+LeavesMade calls host old (AddPlaces slices force count blocks) active listed u = LeavesReplicas calls host old.begun (lines_asked host slices) count blocks active listed u
 LeavesMade calls host old other active listed u = Unit {0}
 
--- a command that was carried out: what it came to and led to, what it left where it was done, and where the run is over, for too few places are left
-pub record CarriedOut (calls : Outcomes) (host : Host) (command : Command) (old : Memory) (answer : Answer) (new : Memory) (t u : Tale) : Type 0 where
-  pub carry : CarryEnd (λ kept a next. CameTo calls host kept command a next) host (asked_by host command) old answer new t u
+-- a command that was carried out for a line that asks this: what it came to and led to, what it left where it was done, and where the run is over, for too few places are left
+pub record CarriedOut (calls : Outcomes) (host : Host) (asked : Ask) (command : Command) (old : Memory) (answer : Answer) (new : Memory) (t u : Tale) : Type 0 where
+  pub carry : CarryEnd (λ kept a next. CameTo calls host kept command a next) host asked old answer new t u
   pub done : IsAccepted answer → LeavesDone host old command u
   pub lost : (active listed : ℕ) → answer ≡ Over (ended.Lost active listed) → LeavesMade calls host old command active listed u
 
 -- the end of a command
 abbrev pub CommandEnd : Outcomes → Engine → Command → Answer → Engine → Tale → Tale → Type 0
-CommandEnd calls old command answer new t u = CarriedOut calls old.host command old.state answer new.state t u
+CommandEnd calls old command answer new t u = CarriedOut calls old.host (asked_by old.host command) command old.state answer new.state t u
+
+-- and of one that a line names, which means another one where it names an entry that is kept
+abbrev pub NamedEnd : Outcomes → Engine → Command → Answer → Engine → Tale → Tale → Type 0
+NamedEnd calls old command answer new t u = CarriedOut calls old.host (asked_by old.host command) (meant old.state.entries command) old.state answer new.state t u
 
 -- the table that the change makes of the engine's
 abbrev pub IsNext : Engine → PlanChange → Table → Type 0
@@ -84,19 +87,25 @@ StripeEnds shelf from to old volume slice answer new = AtEnd shelf (CommandEnd (
 
 -- the end of a creation of so many replicas of so many blocks on each of these slices
 abbrev pub CreationEnds : {S : Type 0} → Ghosts S → S → S → Engine → List SliceName → Bool → ℕ → ℕ → Answer → Engine → Type 0
-CreationEnds shelf from to old slices force count blocks answer new = AtEnd shelf (CommandEnd (DriveFailures shelf from to) old (Create slices force count blocks) answer new) from to
+CreationEnds shelf from to old slices force count blocks answer new = AtEnd shelf (CommandEnd (DriveFailures shelf from to) old (AddPlaces slices force count blocks) answer new) from to
 
 -- of one that nothing refuses, with whichever force
 abbrev pub FreeEnds : {S : Type 0} → Ghosts S → S → S → Engine → List SliceName → ℕ → ℕ → Answer → Engine → Type 0
-FreeEnds shelf from to old slices count blocks answer new = (force : Bool) → IsAllowed (case_at old) (Create slices force count blocks) → CreationEnds shelf from to old slices force count blocks answer new
+FreeEnds shelf from to old slices count blocks answer new = (force : Bool) → IsAllowed (case_at old) (AddPlaces slices force count blocks) → CreationEnds shelf from to old slices force count blocks answer new
+
+-- it asks no more places than a database lists
+abbrev pub IsFew : Command → Type 0
+IsFew (AddPlaces slices force count blocks) = length slices * count ≤ 50
+IsFew other = Unit {0}
 
 -- What an answer says, whatever the shelf tells: its text is a reply's, it has its cause, and where places are lost that lies on the slices where the host's replicas may; a creation is
--- accepted only where no database is open and no call failed in the last boot; and what the engine keeps, by which it may go on where the run does.
+-- accepted only where no database is open and no call failed in the last boot; the places asked are few, or it is refused before any call of theirs; and what the engine keeps, by which it may go on where the run does.
 pub record HasAnswered (calls : Outcomes) (command : Command) (old : Engine) (answer : Answer) (new : Engine) : Type 0 where
   pub plain : IsPlainAnswer answer
   pub cause : HasAnswerCause (blame_of calls old.host old.state command) (MaySpend command) answer
   pub lost : (active listed : ℕ) → answer ≡ Over (ended.Lost active listed) → IsLostOnSite calls old.host active listed
   pub free : IsAccepted answer → Contains (deeds (asked_by old.host command)) (Created (key_of old.host)) → IsBare old.state
+  pub few : IsMereRefusal answer ⊎ IsFew command
   pub host : new.host ≡ old.host
   pub well : IsSaid answer → IsWell old.host new.state
   pub begun : new.state.begun ≤ old.state.begun + 1
@@ -124,9 +133,9 @@ pub record RefusalMoments {S : Type 0} (shelf : Ghosts S) (host : Host) (old : M
   pub line : (ask : Ask) → LineMoments shelf host ask old (OnlyAnswers (refusing refusal)) from to
   pub tells : AtEachTale shelf (TellMoment (text_of (refusing refusal))) from to
 
--- what a command comes to
+-- what a command comes to, by what it means
 abbrev pub CarriesOut : Host → Command → Outcomes → Kept → Answer → Kept → Type 0
-CarriesOut host command calls kept answer next = CameTo calls host kept command answer next
+CarriesOut host command calls kept answer next = CameTo calls host kept (meant kept.memory.entries command) answer next
 
 -- The end of a command and its reply: what it came to and with how many calls, what it led to, what is known where the run isn't lost; a refusal behind which
 -- nothing was written, nor by a change whose number is spent; and what a command left that was told `ok`, and one with which the run is over, for too few places are left.
@@ -136,8 +145,8 @@ pub record TurnEnd (calls : Outcomes) (replies : Type 0) (made : Made) (old : En
   pub knows : (IsLost given → ⊥) → Knows old.host old.state t → Knows old.host new.state u
   pub quiet : IsQuietRefusal given → KeptOutside nowhere t u
   pub spent : given ≡ reply.Spent → KeptOutside nowhere t u
-  pub done : given ≡ reply.Ok → LeavesDone old.host old.state command u
-  pub lost : (active listed : ℕ) → given ≡ reply.Panic active listed → LeavesMade calls old.host old.state command active listed u
+  pub done : given ≡ reply.Ok → LeavesDone old.host old.state (meant old.state.entries command) u
+  pub lost : (active listed : ℕ) → given ≡ reply.Panic active listed → LeavesMade calls old.host old.state (meant old.state.entries command) active listed u
 
 abbrev pub TurnEnds : {S : Type 0} → Ghosts S → S → S → Engine → Command → Reply → Engine → Type 0
 TurnEnds shelf from to old command given new = AtEnd shelf (TurnEnd (DriveFailures shelf from to) (GivingFailed shelf from to) (made_of shelf from to) old command given new) from to
@@ -157,10 +166,11 @@ pub record HasOnlyReplied (calls : Outcomes) (replies : Type 0) (said : Outcome)
   pub same : new ≡ old
 
 -- The calls of a command and of its reply, by what was open before and is then: as many as the command takes, and one; where it was done, just these, and just
--- its blocks; a creation and a change wrote their table at each place in turn, also where the run is over with them. A refused command writes nothing, unless a call failed, and makes no call on a drive, unless memory was wanting behind it; where a call failed it made no more than it makes then. A count that is
+-- its blocks; a creation and a change wrote their table at each place in turn, also where the run is over with them. Its places are few, or it made two calls at most, and wrote nothing. A refused command writes nothing, unless a call failed, and makes no call on a drive, unless memory was wanting behind it; where a call failed it made no more than it makes then. A count that is
 -- spent takes no call. Where the reply was told whole, none failed behind its first byte; and unless it was cut short no giving failed.
 pub record IsTurnCounted {S : Type 0} (shelf : Ghosts S) (old new : S) (host : Host) (command : Command) (r : Reply) (before now : Option Opened) : Type 0 where
   pub most : (made_of shelf old new).within 0 (1 + calls_of host before command) (counts.blocks_of host before command)
+  pub few : (made_of shelf old new).within 0 2 0 ⊎ IsFew command
   pub done : r ≡ reply.Ok → MadeCallsOf (and_more 1 (made_of shelf old new)) command host before now
   pub wrote : r ≡ reply.Ok → (through : S) × counts.HasWrittenAll shelf old through host command before now × MadeCalls shelf through new 1 0
   pub unlooked : IsUnlooked r → (made_of shelf old new).within 0 1 0
@@ -265,7 +275,9 @@ KeptOnOne shelf old new = (drive : ℕ) × KeptOn shelf old new (OnDrive drive)
 
 -- so they are of a command: on the drives of the slices that a creation names, on those of the open database's active places, and of a transfer on one
 abbrev pub KeptAsAsked : {S : Type 0} → Ghosts S → S → S → Host → Memory → Command → Type 0
-KeptAsAsked shelf old new host memory (Create slices force count blocks) = KeptAmong shelf old new (drives_asked (lines_asked host slices))
+KeptAsAsked shelf old new host memory (AddPlaces slices force count blocks) = KeptAmong shelf old new (drives_asked (lines_asked host slices))
+KeptAsAsked shelf old new host memory (AddListed number force) = KeptOnOne shelf old new
+KeptAsAsked shelf old new host memory (DropPlaces slices force) = KeptOnOne shelf old new
 KeptAsAsked shelf old new host memory (command.MakeStripe volume slice) = KeptAmong shelf old new (drives_open memory.opened)
 KeptAsAsked shelf old new host memory (Read volume at count) = KeptOnOne shelf old new
 KeptAsAsked shelf old new host memory (Write volume at block) = KeptOnOne shelf old new

@@ -1,7 +1,8 @@
 -- What an engine keeps, what its boots answer, and why blocks and changes are refused.
 use Rattle.std.specs.Prelude.{◌≡◌, ◌⊎◌, ◌+◌, ◌*◌, ◌<◌, ◌≤◌, ℕ, Bool, true, List, [], length, Contains, Option, Some, None, IfSome, Result, Ok, Err}
-use Rattle.mdv_engine.specs.Below.{Answer, AreCalm, AreLaid, BootEnd, PlanChange, CommitFault, CreateFault, DriveNo, Drives, Geometry, Host, IoFault, IsOfGeometry, IsUpBy, Memory, Opened, OutOfMemory, Outcomes, Refusal, Replica, ReplicaFull, Site, SliceLine, Table, VolId, answered_by, drives_of, has_drive, key_of, opened_by, replicas_of, shortage}
+use Rattle.mdv_engine.specs.Below.{Answer, AreCalm, AreLaid, BootEnd, PlanChange, CommitFault, CreateFault, DriveNo, Drives, Geometry, Host, IoFault, IsOfGeometry, IsUpBy, Memory, Opened, OutOfMemory, Outcomes, Refusal, Replica, ReplicaFull, Site, SliceLine, Table, VolId, answered_by, drives_of, has_drive, key_of, opened_by, replicas_of, shortage, AreInForm}
 pub use Rattle.mdv_engine_law.specs.Commands.{FailedBlocks}
+use Rattle.mdv_store_law.specs.Log.{HasOneList}
 use Rattle.mdv_table.specs.Change.{table_after}
 use Rattle.mdv_table.specs.Change as table
 use Rattle.mdv_engine_law.specs.Answers.{accepted, refusing}
@@ -23,20 +24,22 @@ pub record LiesOn (site : Site) (r : Replica) : Type 0 where
   pub one_of : Contains site.lines r.line
   pub within : 16 + r.number * r.first.blocks + r.first.blocks ≤ r.line.at.blocks
 
--- The database is the host's own, of some places, a hundred at most; of each list of its table at least half is active; the table is one of the host's table of drives, and the replicas at its active places lie
+-- The database is the host's own, of some places, fifty at most, in one list; of that at least half is active; the table is one of the host's table of drives, and the replicas at its active places lie
 -- within their drives, where the host's may.
 pub record IsHeldBy (host : Host) (o : Opened) : Type 0 where
   pub its : o.key ≡ key_of host
   pub some : 1 ≤ length o.seats
-  pub few : length o.seats ≤ 100
+  pub few : length o.seats ≤ 50
+  pub one : HasOneList o.table
   pub half : shortage o ≡ None
   pub of_geometry : IsOfGeometry host.drives o.table
   pub laid : AreLaid host.site.sizes o.seats
   pub seated : (r : Replica) → Contains (replicas_of o.seats) r → LiesOn host.site r
 
--- so it is of the open database
+-- so it is of the open database; and each entry of replicas that is kept has one slice or more, and numbers in their bounds
 pub record IsWell (host : Host) (memory : Memory) : Type 0 where
   pub database : IfSome memory.opened (IsHeldBy host)
+  pub entries : AreInForm memory.entries
 
 -- the database, where its table is one of the table of drives
 abbrev pub IsFitting : Geometry → Opened → Option Opened → Type 0

@@ -6,3 +6,4 @@ pub mod Counts
 pub mod Ends
 pub mod Printing
 pub mod Tab
+pub mod Listed

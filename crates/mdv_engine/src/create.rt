@@ -2,8 +2,9 @@ ghost use Rattle.std.specs.Prelude.{◌≡◌, ◌<◌, ◌≤◌, ◌+◌, ◌*
 ghost use Rattle.std.specs.List.{list_any};
 ghost use Rattle.mdv_name.specs.SliceIndex.{same_slice as spec_same_slice, slice_at as spec_slice_at};
 ghost use Rattle.mdv_plan.specs.Slices.{meets_db as spec_meets_db};
-ghost use Rattle.mdv_words.specs.declared.command.Command.TheVariants.{Create};
+ghost use Rattle.mdv_words.specs.declared.command.Command.TheVariants.{AddPlaces};
 ghost use Rattle.mdv_words.specs.Line.{IsCount, IsInForm, IsLength};
+ghost use Rattle.mdv_words.specs.Listed.{AreInForm};
 ghost use Rattle.mdv_shelf.specs.Drives.{KeptAmong};
 ghost use Rattle.mdv_shelf.specs.Shelves.{DriveFailures};
 ghost use Rattle.mdv_acts.specs.Asked.{drives_asked};
@@ -11,12 +12,14 @@ ghost use Rattle.mdv_table.specs.Slices.{IsSound};
 ghost use Rattle.mdv_engine_law.specs.Commands.{IsAllowed};
 ghost use Rattle.mdv_engine_law.specs.Hosts.{IsReady, lines_asked as spec_lines_asked};
 ghost use Rattle.mdv_engine_law.specs.Refusals.{is_doubled as spec_is_doubled, is_missing as spec_is_missing, is_plain as spec_is_plain};
-ghost use Rattle.mdv_engine_law.specs.Refusals.{is_short as spec_is_short, is_taken as spec_is_taken, places_open as spec_places_open, refusal_of};
+ghost use Rattle.mdv_engine_law.specs.Refusals.{is_short as spec_is_short, is_taken as spec_is_taken, places_open as spec_places_open, refusal_of, told_of_others};
 ghost use Rattle.mdv_engine.specs.Counts.{IsCommandCounted};
 ghost use Rattle.mdv_engine.specs.Ends.{CreationEnds, CreationMoments, FreeEnds, HasAnswered};
 ghost use Rattle.mdv_engine.specs.Engine.{IsWell, answer_of, case_at};
 
 use crate::engine::Engine;
+use crate::lists::{list_more, list_of};
+use crate::replicas::told_of;
 use mdv_base::{Identity, Place, Refusal, SliceName, StateWord};
 use mdv_engine_law::{Answer, Ended, Outcome};
 use mdv_name::SliceLine;
@@ -44,13 +47,13 @@ impl Engine {
         blocks: u32,
     ) -> Answer
         requires ready { IsReady self.old.host (S.sizes shelf.old) }
-        requires form { IsInForm (Create slices.now force count blocks) }
+        requires form { IsInForm (AddPlaces slices.now force count blocks) }
         requires well { IsWell self.old.host self.old.state }
         requires begun { self.old.state.begun + 1 < 2 ^ 32 }
         ensures moments { CreationMoments S.Shelf shelf.old shelf.new self.old slices.now count blocks }
         ensures end { CreationEnds S.Shelf shelf.old shelf.new self.old slices.now force count blocks result self.new }
-        ensures answer { HasAnswered (DriveFailures S.Shelf shelf.old shelf.new) (Create slices.now force count blocks) self.old result self.new }
-        ensures counted { IsCommandCounted S.Shelf shelf.old shelf.new self.old.host (Create slices.now force count blocks) result self.old.state.opened self.new.state.opened }
+        ensures answer { HasAnswered (DriveFailures S.Shelf shelf.old shelf.new) (AddPlaces slices.now force count blocks) self.old result self.new }
+        ensures counted { IsCommandCounted S.Shelf shelf.old shelf.new self.old.host (AddPlaces slices.now force count blocks) result self.old.state.opened self.new.state.opened }
         ensures kept { KeptAmong S.Shelf shelf.old shelf.new (drives_asked (spec_lines_asked self.old.host slices.now)) }
     {
         match self.creation_refusal(slices, force, count, blocks) {
@@ -60,7 +63,7 @@ impl Engine {
     }
 
     // The first cause that a creation is refused for before anything is done.
-    fn creation_refusal(
+    pub(crate) fn creation_refusal(
         &self,
         slices: &[SliceName],
         force: bool,
@@ -68,8 +71,10 @@ impl Engine {
         blocks: u32,
     ) -> Option<Refusal>
         requires sound { IsSound self.now.host.drives }
+        requires well { IsWell self.now.host self.now.state }
         requires count { IsCount count }
-        ensures { result ≡ refusal_of (case_at self.now) (Create slices.now force count blocks) }
+        requires blocks { IsLength blocks }
+        ensures { result ≡ refusal_of (case_at self.now) (AddPlaces slices.now force count blocks) }
     {
         if self.lack_one(slices) {
             return Some(Refusal::NoSuchSlice);
@@ -92,15 +97,25 @@ impl Engine {
         if self.are_short(slices, count, blocks) {
             return Some(Refusal::TooSmall);
         }
-        // To a database that is open nothing is added yet.
-        if self.state.database.is_some() {
-            return Some(Refusal::BadLine);
-        }
-        None
+        self.refusal_beside(slices, count, blocks)
+    }
+
+    // What is told where nothing else speaks against so many places beside those of a database that is open: none are
+    // added yet.
+    fn refusal_beside(&self, slices: &[SliceName], count: u8, blocks: u32) -> Option<Refusal>
+        requires well { IsWell self.now.host self.now.state }
+        requires few { length (spec_places_open self.now.state.opened) + length slices.now * count ≤ 50 }
+        requires count { IsCount count }
+        requires blocks { IsLength blocks }
+        ensures { result ≡ told_of_others self.now.state.opened slices.now count blocks }
+    {
+        let store = self.state.database.as_ref()?;
+        let list = list_more(list_of(store), slices, count, blocks);
+        Some(told_of(store, list))
     }
 
     // Whether one of the slices isn't there.
-    fn lack_one(&self, slices: &[SliceName]) -> bool
+    pub(crate) fn lack_one(&self, slices: &[SliceName]) -> bool
         requires sound { IsSound self.now.host.drives }
         ensures { result ≡ list_any (spec_is_missing self.now.host) slices.now }
     {
@@ -108,7 +123,7 @@ impl Engine {
     }
 
     // Whether one isn't set aside for replicas.
-    fn have_plain(&self, slices: &[SliceName]) -> bool
+    pub(crate) fn have_plain(&self, slices: &[SliceName]) -> bool
         requires sound { IsSound self.now.host.drives }
         ensures { result ≡ list_any (λ slice. spec_is_plain (spec_slice_at self.now.host.drives.slices slice)) slices.now }
     {
@@ -141,10 +156,7 @@ impl Engine {
         ensures { result ≡ list_any (spec_is_taken (case_at self.now)) slices.now }
     {
         match &self.state.database {
-            Some(store) => {
-                let places = store.table().plan.lists.each();
-                self.meet_one(places.as_slice(), slices)
-            }
+            Some(store) => self.meet_one(list_of(store), slices),
             None => self.meet_one(&[], slices),
         }
     }
@@ -195,13 +207,10 @@ impl Engine {
     // How many places the open database lists.
     fn listed(&self) -> usize
         ensures value { result ≡ length (spec_places_open self.now.state.opened) }
-        ensures few { result ≤ 100 }
+        ensures few { result ≤ 50 }
     {
         match &self.state.database {
-            Some(store) => {
-                let places = store.table().plan.lists.each();
-                places.as_slice().len()
-            }
+            Some(store) => list_of(store).len(),
             None => 0,
         }
     }
@@ -219,7 +228,7 @@ impl Engine {
 
     // Makes the database. A failed format leaves none; where too few places took its table, some may have it though
     // nobody was told of it, so the run ends.
-    fn make_database<S: Shelf>(
+    pub(crate) fn make_database<S: Shelf>(
         &mut self,
         shelf: &mut S,
         alloc: Global,
@@ -230,11 +239,12 @@ impl Engine {
         requires ready { IsReady self.old.host (S.sizes shelf.old) }
         requires form { (1 ≤ length slices.now) × IsCount count × IsLength blocks }
         requires begun { self.old.state.begun + 1 < 2 ^ 32 }
-        requires allowed { (force : Bool) × IsAllowed (case_at self.old) (Create slices.now force count blocks) }
+        requires entries { AreInForm self.old.state.entries }
+        requires allowed { (force : Bool) × IsAllowed (case_at self.old) (AddPlaces slices.now force count blocks) }
         ensures moments { CreationMoments S.Shelf shelf.old shelf.new self.old slices.now count blocks }
         ensures end { FreeEnds S.Shelf shelf.old shelf.new self.old slices.now count blocks result self.new }
-        ensures answer { (force : Bool) → HasAnswered (DriveFailures S.Shelf shelf.old shelf.new) (Create slices.now force count blocks) self.old result self.new }
-        ensures counted { (force : Bool) → IsCommandCounted S.Shelf shelf.old shelf.new self.old.host (Create slices.now force count blocks) result self.old.state.opened self.new.state.opened }
+        ensures answer { (force : Bool) → HasAnswered (DriveFailures S.Shelf shelf.old shelf.new) (AddPlaces slices.now force count blocks) self.old result self.new }
+        ensures counted { (force : Bool) → IsCommandCounted S.Shelf shelf.old shelf.new self.old.host (AddPlaces slices.now force count blocks) result self.old.state.opened self.new.state.opened }
         ensures kept { KeptAmong S.Shelf shelf.old shelf.new (drives_asked (spec_lines_asked self.old.host slices.now)) }
     {
         let identity = Identity {
@@ -296,7 +306,7 @@ fn is_doubled(slices: &[SliceName]) -> bool
 }
 
 // Whether one of the places is on the slice.
-fn are_on(places: &[Place], slice: SliceName) -> bool
+pub(crate) fn are_on(places: &[Place], slice: SliceName) -> bool
     ensures { result ≡ list_any (λ p. spec_same_slice p.slice slice) places.now }
 {
     places.iter().any(|place| same_slice(place.slice, slice))

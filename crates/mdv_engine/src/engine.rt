@@ -5,11 +5,12 @@ ghost use Rattle.mdv_shelf.specs.Shelves.{AtEachTale, AtEnd, DriveFailures, Givi
 ghost use Rattle.mdv_engine_law.specs.Answers.{accepted, refusing};
 ghost use Rattle.mdv_engine_law.specs.Hosts.{IsReady};
 ghost use Rattle.mdv_words.specs.Line.{IsInForm};
+ghost use Rattle.mdv_words.specs.Listed.{meant};
 ghost use Rattle.mdv_engine_law.specs.Line.{asked_by, unbooted, Nothing};
 ghost use Rattle.mdv_engine_law.specs.Replies.{IsPlain};
 ghost use Rattle.mdv_engine_law.specs.Standing.{BootMoment, CarryMoment, OnlyReplied};
 ghost use Rattle.mdv_engine.specs.Counts.{IsBootedCounted, IsCommandCounted};
-ghost use Rattle.mdv_engine.specs.Ends.{BootEndsAs, CarriesOut, CommandEnd, HasAnswered, HasBooted, HasBootedFrom, HasOnlyReplied, HasRebooted, HasReplied, IsReplyCounted, IsTurnCounted, KeptAsAsked, LineMoments, OnlyAnswers, RefusalMoments, TurnEnds, kept_by, left_by};
+ghost use Rattle.mdv_engine.specs.Ends.{BootEndsAs, CarriesOut, HasAnswered, HasBooted, HasBootedFrom, HasOnlyReplied, HasRebooted, HasReplied, IsReplyCounted, IsTurnCounted, KeptAsAsked, LineMoments, NamedEnd, OnlyAnswers, RefusalMoments, TurnEnds, kept_by, left_by};
 ghost use Rattle.mdv_engine.specs.Engine.{IsFitting, IsWell, boot_answer};
 ghost use Rattle.mdv_table.specs.Slices.{IsSound};
 
@@ -76,8 +77,8 @@ impl Engine {
         requires form { IsInForm command.now }
         ensures moments { LineMoments B.Shelf self.old.host (asked_by self.old.host command.now) self.old.state (CarriesOut self.old.host command.now) bench.old bench.new }
         ensures end { TurnEnds B.Shelf bench.old bench.new self.old command.now result self.new }
-        ensures answer { HasReplied (DriveFailures B.Shelf bench.old bench.new) (GivingFailed B.Shelf bench.old bench.new) self.old command.now result self.new }
-        ensures counted { IsTurnCounted B.Shelf bench.old bench.new self.old.host command.now result self.old.state.opened self.new.state.opened }
+        ensures answer { HasReplied (DriveFailures B.Shelf bench.old bench.new) (GivingFailed B.Shelf bench.old bench.new) self.old (meant self.old.state.entries command.now) result self.new }
+        ensures counted { IsTurnCounted B.Shelf bench.old bench.new self.old.host (meant self.old.state.entries command.now) result self.old.state.opened self.new.state.opened }
         ensures kept { KeptInTime B.Shelf bench.old bench.new }
     {
         let answer = self.carry_out(bench, alloc, command);
@@ -114,18 +115,25 @@ impl Engine {
         requires begun { self.old.state.begun + 1 < 2 ^ 32 }
         requires form { IsInForm command.now }
         ensures moments { AtEachTale S.Shelf (CarryMoment self.old.host (asked_by self.old.host command.now) self.old.state) shelf.old shelf.new }
-        ensures end { AtEnd S.Shelf (CommandEnd (DriveFailures S.Shelf shelf.old shelf.new) self.old command.now result self.new) shelf.old shelf.new }
-        ensures answer { HasAnswered (DriveFailures S.Shelf shelf.old shelf.new) command.now self.old result self.new }
-        ensures counted { IsCommandCounted S.Shelf shelf.old shelf.new self.old.host command.now result self.old.state.opened self.new.state.opened }
-        ensures kept { KeptAsAsked S.Shelf shelf.old shelf.new self.old.host self.old.state command.now }
+        ensures end { AtEnd S.Shelf (NamedEnd (DriveFailures S.Shelf shelf.old shelf.new) self.old command.now result self.new) shelf.old shelf.new }
+        ensures answer { HasAnswered (DriveFailures S.Shelf shelf.old shelf.new) (meant self.old.state.entries command.now) self.old result self.new }
+        ensures counted { IsCommandCounted S.Shelf shelf.old shelf.new self.old.host (meant self.old.state.entries command.now) result self.old.state.opened self.new.state.opened }
+        ensures kept { KeptAsAsked S.Shelf shelf.old shelf.new self.old.host self.old.state (meant self.old.state.entries command.now) }
     {
         match command {
-            Command::Create {
+            Command::AddPlaces {
                 slices,
                 force,
                 count,
                 blocks,
             } => self.make(shelf, alloc, slices.as_slice(), *force, *count, *blocks),
+            Command::AddListed { number, force } => {
+                self.make_listed(shelf, alloc, *number, *force)
+            }
+            Command::DropPlaces { slices, force } => {
+                let refusal = self.drop_refusal(slices.as_slice(), *force);
+                Answer::Said(Outcome::Refused(refusal))
+            }
             Command::MakeStripe { volume, slice } => self.make_stripe(
                 shelf, alloc, *volume, *slice,
             ),

@@ -6,7 +6,9 @@ mod change;
 mod create;
 mod engine;
 mod keep;
+mod lists;
 mod print;
+mod replicas;
 mod state;
 mod transfer;
 

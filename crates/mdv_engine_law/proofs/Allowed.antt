@@ -2,15 +2,16 @@
 use Rattle.std.proofs.Common.{◌≡◌, ◌≤◌, ◌+◌, ◌&&◌, ◌||◌, ◌*◌, not, if◌then◌else◌, ℕ, Bool, false, true, List, [], ◌∷◌, length, Option, Some, None, Contains, refl, sym, ◌∙◌, ap, arith}
 use Rattle.std.specs.Prelude.{nat_lt, is_some}
 use Rattle.std.specs.List.{list_any}
+use Rattle.std.specs.Option.{option_or}
 use Rattle.std.proofs.lemmas.Bool.{false≢true}
 use Rattle.std.proofs.lemmas.Bool.Decides.{nat_tests}
 use Rattle.std.proofs.lemmas.List.Folds.{list_any_at}
-use Rattle.mdv_engine_law.specs.Below.{SliceName, Refusal, Create, Opened}
+use Rattle.mdv_engine_law.specs.Below.{SliceName, Refusal, AddPlaces, Opened}
 use Rattle.mdv_engine_law.specs.Commands.{IsAllowed}
 use Rattle.mdv_name.specs.SliceIndex.{slice_at}
 use Rattle.mdv_plan.specs.Slices.{meets_db}
-use Rattle.mdv_engine_law.specs.Refusals.{Case, blocks_at, has_replica, is_doubled, is_missing, is_plain, is_short, is_taken, places_open}
-use Rattle.mdv_engine_law.proofs.Judging.{causes_of, creation_is_told, told_of_more}
+use Rattle.mdv_engine_law.specs.Refusals.{Case, blocks_at, has_replica, is_doubled, is_missing, is_plain, is_short, is_taken, places_open, told_of_others}
+use Rattle.mdv_engine_law.proofs.Judging.{causes_of, creation_is_told}
 use Rattle.mdv_engine_law.proofs.Ordered.{Held, first_told}
 
 is_none : (opened : Option Opened) → is_some opened ≡ false → opened ≡ None
@@ -40,10 +41,10 @@ none_passes p xs none x has = by (p x) refl where
   by true is = absurd (false≢true (sym none ∙ list_any_at p xs has.0 x has.1 (ap p has.2 ∙ is)))
 
 -- where none is told none holds
-none_more : (opened : Bool) (told : Option Refusal) → told_of_more opened told ≡ None → (opened ≡ false) × (told ≡ None)
-none_more true None is = absurd (cc (is))
-none_more true (Some r) is = absurd (cc (is))
-none_more false told is = (refl, is)
+none_more : (opened : Option Opened) (slices : List SliceName) (count blocks : ℕ) (told : Option Refusal) → option_or told (told_of_others opened slices count blocks) ≡ None → (is_some opened ≡ false) × (told ≡ None)
+none_more None slices count blocks None is = (refl, refl)
+none_more (Some o) slices count blocks None is = absurd (cc (is))
+none_more opened slices count blocks (Some r) is = absurd (cc (is))
 
 abbrev NoneHold : List Held → Type 0
 NoneHold [] = Unit {0}
@@ -56,7 +57,7 @@ none_hold (c ∷ cs) is = by c.holds is (none_hold cs) where
   by true is rest = absurd (cc (is))
   by false is rest = (refl, rest is)
 
-module _ (case : Case) (slices : List SliceName) (force : Bool) (count blocks : ℕ) (free : IsAllowed case (Create slices force count blocks)) where
+module _ (case : Case) (slices : List SliceName) (force : Bool) (count blocks : ℕ) (free : IsAllowed case (AddPlaces slices force count blocks)) where
   abbrev opened : Bool
   opened = is_some case.memory.opened
 
@@ -66,7 +67,7 @@ module _ (case : Case) (slices : List SliceName) (force : Bool) (count blocks : 
       (list_any (is_taken case) slices || is_doubled slices) (list_any (is_short case.host count blocks) slices)
 
   both : (opened ≡ false) × NoneHold causes
-  both = (let is = none_more opened (first_told causes) (sym (creation_is_told case slices force count blocks) ∙ free) in (is.0, none_hold causes is.1))
+  both = (let is = none_more case.memory.opened slices count blocks (first_told causes) (sym (creation_is_told case slices force count blocks) ∙ free) in (is.0, none_hold causes is.1))
 
   -- no database is open, no call failed in the last boot, and there are fifty places at most
   pub allowed_none : case.memory.opened ≡ None

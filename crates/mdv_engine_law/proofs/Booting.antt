@@ -4,7 +4,7 @@ use Rattle.std.proofs.lemmas.List.Elements.{Contains-append_left, Contains-appen
 use Rattle.mdv_databases.proofs.Lists.{key_itself}
 use Rattle.mdv_databases.specs.Booting.{IsBootedIn}
 use Rattle.mdv_databases.specs.Going.{GoOn, with_events}
-use Rattle.mdv_databases.specs.Standing.{Stand}
+use Rattle.mdv_databases.specs.Standing.{AreAnew, Stand}
 use Rattle.mdv_engine_law.specs.Below.{AreWoken, Boots, Database, DriveNo, Drives, Event, HasNoTable, History, Identity, IsMapOf, IsOpenIn, IsOpenedAt, Key, KeptOutside, Map, MayLeave, Opened, Site, Table, Tale, VolId, area_of_map, told, last, log_of, has_drive, history_after, history_after_all, site_area, site_of}
 use Rattle.mdv_store.specs.Commit.{AnyLog, IsNewestWritten}
 use Rattle.mdv_store_law.specs.Log as log
@@ -65,12 +65,12 @@ HasBegun host up before es h = BootBegins (key_of host) up es × (h.up (key_of h
 
 -- how all databases go on while one boots: they stand as they did, or the key's current one goes on with nothing asked
 abbrev pub BootsOn : Host → Tale → Tale → Type 0
-BootsOn host t m = (all : List Database) → Stand host.drives all t → Stand host.drives all m ⊎ ((identity : Identity) × GoOn host.drives all (key_of host) identity [] AnyLog m)
+BootsOn host t m = (all : List Database) → Stand host.drives all t → AreAnew all → Stand host.drives all m ⊎ ((identity : Identity) × GoOn host.drives all (key_of host) identity [] AnyLog m)
 
 module _ (host : Host) (sizes : List ℕ) (ready : IsReady host sizes) (t : Tale) (up : Drives) where
   -- a boot begins, by which nothing is done
   begins : (h : History) → StandsAt host h t → StandsAt host (history_after h (Boots (key_of host) up)) t
-  begins h stands = record { databases = stands.databases; laid = stands.laid; apart = stands.apart; volumes = stands.volumes }
+  begins h stands = record { databases = stands.databases; anew = stands.anew; laid = stands.laid; apart = stands.apart; volumes = stands.volumes }
 
   has_begun : (h : History) → HasBegun host up h (Boots (key_of host) up ∷ []) (history_after h (Boots (key_of host) up))
   has_begun h = (Contains-push [] (Boots (key_of host) up), own_up, λ number its. own_still host number h its number (history_after h (Boots (key_of host) up)) (omega arith) refl) where
@@ -87,6 +87,7 @@ module _ (host : Host) (sizes : List ℕ) (ready : IsReady host sizes) (t : Tale
   stands_beside : (h : History) (m : Tale) → KeptOutside (site_area host.site) t m → StandsAt host h t → Stand host.drives h.databases m → StandsAt host h m
   stands_beside h m kept stands databases = record {
     databases = databases;
+    anew = stands.anew;
     laid = stands.laid;
     apart = stands.apart;
     volumes = λ key volume v named.
@@ -110,7 +111,7 @@ module _ (host : Host) (sizes : List ℕ) (ready : IsReady host sizes) (t : Tale
   pub booting : (m : Tale) → KeptOutside (site_area host.site) t m → BootsOn host t m → (h : History) → StandsAt host h t → (Then : List Event → History → Type 0)
       → ((es : List Event) (g : History) → StandsAt host g m → HasBegun host up h es g → Then es g) → Goes host [] [] Then m h
   booting m kept goes h stands Then then =
-      goes_more host [] [] [] [] [] (λ es g. HasBegun host up h es g) Then t m h tt (begun h stands) (λ es g there has. by es g there has (goes g.databases there.databases))
+      goes_more host [] [] [] [] [] (λ es g. HasBegun host up h es g) Then t m h tt (begun h stands) (λ es g there has. by es g there has (goes g.databases there.databases there.anew))
     where
       by : (es : List Event) (g : History) → StandsAt host g t → HasBegun host up h es g → Stand host.drives g.databases m ⊎ ((identity : Identity) × GoOn host.drives g.databases (key_of host) identity [] AnyLog m) → Goes host [] [] (λ fs. Then (es ++ fs)) m g
       by es g there has (inl databases) =
@@ -122,11 +123,11 @@ module _ (host : Host) (sizes : List ℕ) (ready : IsReady host sizes) (t : Tale
           (λ fs k now databases woken drives. then (es ++ fs) k now (gone h g k es fs on.es has databases drives))
 
   -- the key's current one is adopted
-  pub adopting : (o : Opened) (u : Tale) → KeptOutside (site_area host.site) t u → ((all : List Database) → Stand host.drives all t → IsBootedIn host.drives all (key_of host) o u) → (h : History) → StandsAt host h t
+  pub adopting : (o : Opened) (u : Tale) → KeptOutside (site_area host.site) t u → ((all : List Database) → Stand host.drives all t → AreAnew all → IsBootedIn host.drives all (key_of host) o u) → (h : History) → StandsAt host h t
       → (Then : List Event → History → Type 0) → ((es : List Event) (g : History) → StandsAt host g u → HasBegun host up h es g → IsOpenIn host.drives o g.databases u → Then es g) → Goes host [] [] Then u h
   adopting o u kept goes h stands Then then =
       goes_more host [] [] [] [] [] (λ es g. HasBegun host up h es g) Then t u h tt (begun h stands) (λ es g there has.
-      (let is = goes g.databases there.databases in
+      (let is = goes g.databases there.databases there.anew in
       let on = is.goes in
       lift_log host [] (λ fs. Then (es ++ fs)) (key_of host) o.identity [] (λ lg. IsNewestWritten lg o.mark o.table) t u (its_site u kept) tt tt g there on
       (λ table asked. absurd (never_asked on.es table (nothing on.es on.come.begins) asked))
@@ -165,7 +166,7 @@ module _ (host : Host) (sizes : List ℕ) (ready : IsReady host sizes) (t : Tale
             (tables_lie.laid host.drives table ready.sound listed).clear volume v lies (key_of host) drive block has (subst (λ (s : Site). site_area s drive block ≡ true) ready.site here))
 
     pub booted_adopted : ((drive : DriveNo) (block : ℕ) → has_drive up drive ≡ true → site_area host.site drive.0 block ≡ false → (x : List ℕ) → MayLeave u drive.0 block x → x ≡ last u drive.0 block)
-        → (o : Opened) → o.key ≡ key_of host → IsOpenedAt host.drives o u → ((all : List Database) → Stand host.drives all t → IsBootedIn host.drives all (key_of host) o u)
+        → (o : Opened) → o.key ≡ key_of host → IsOpenedAt host.drives o u → ((all : List Database) → Stand host.drives all t → AreAnew all → IsBootedIn host.drives all (key_of host) o u)
         → BootedTo host (booted_with (Some o) up clean number) t u
     booted_adopted rests o its opened goes =
         let memory = booted_with (Some o) up clean number in

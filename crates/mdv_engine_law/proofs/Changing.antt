@@ -43,7 +43,7 @@ module _ (host : Host) (sizes : List ℕ) (ready : IsReady host sizes) (memory :
   kept = kept_outside_wider (seats_area o.seats) (site_area host.site) t m seated within
 
   is_commit : (h : History) → IsKnown host memory h t → IsCommit host.drives h.databases o (Some change) table t
-  is_commit h known = record { stand = known.stands.databases; is_open = known_open host memory o opened t h known; of_geometry = placed; made = made; keeps = tt }
+  is_commit h known = record { stand = known.stands.databases; is_open = known_open host memory o opened t h known; of_geometry = placed; made = made }
 
   changing : (After : Log → Type 0) (Then : List Event → History → Type 0) (h : History) (known : IsKnown host memory h t) (goes : GoOn host.drives h.databases o.key o.identity (Some change ∷ []) After m)
       → ((es : List Event) (g : History) → StandsAt host g m → g.up (key_of host) ≡ memory.up → AreWoken host.drives table (is_up memory) g (key_of host) → g.databases ≡ with_events o.key goes.es h.databases → Then es g)

@@ -1,7 +1,7 @@
 -- Telling a deed is one event, which leaves the open database open: what was known is known.
 use Rattle.std.proofs.Common.{◌≡◌, inl, inr, List, [], ◌∷◌, Option, Some, None, refl, sym, ◌∙◌, ap, subst, arith}
 use Rattle.mdv_databases.proofs.Lists.{events_elsewhere, key_differs, key_is}
-use Rattle.mdv_databases.proofs.Telling.{told_open, told_stand}
+use Rattle.mdv_databases.proofs.Telling.{told_anew, told_open, told_stand}
 use Rattle.mdv_databases.specs.Going.{IsCurrentOf}
 use Rattle.mdv_engine_law.specs.Below.{Acknowledges, CanTell, Change, Changed, Created, Database, Deed, Deleted, Deletes, Drives, Event, Geometry, Happens, History, IsOpenIn, Key, KeptOutside, OfDatabase, Opened, Saw, Shows, Tale, VolId, Wrote, history_after, nowhere, site_area, site_of}
 use Rattle.mdv_shelf.proofs.Blocks.{both_ways}
@@ -29,6 +29,7 @@ open_beside g all o key e m differ is =
     let same = events_elsewhere key (e ∷ []) all o.key differ in
     record {
       its = record { database = is.its.database; current = same ∙ is.its.current; as_begun = is.its.as_begun };
+      lives = rw (ap log_in same) is.lives;
       newest = rw (ap log_in same) is.newest;
       ready = rw (ap log_in same) is.ready;
       opened = is.opened;
@@ -63,6 +64,7 @@ module _ (host : Host) (memory : Memory) (u v : Tale) (kept : KeptOutside nowher
       let one = current_some h.databases key can.may.may.newest can.may.may.older can.may.may.family in
       let its : IsCurrentOf h.databases key one.0.identity = record { database = one.0; current = one.1; as_begun = refl } in
       let is = databases_go host.drives h key one.0.identity (log.Told which before ∷ []) v v here its (tt, tt) (can.may.may, tt) (told_stand which before host.drives h.databases key v one.0.identity here.databases its can.may.may)
+      (told_anew which before host.drives h.databases key v one.0.identity here.databases its can.may.may here.anew)
       (kept_outside_same (site_area (site_of host.drives key)) v) (λ table none. absurd (never which before table none)) in
       tells (deed_of key asked) (OfDatabase key (identity_in (current_of h.databases key)) (log.Told which before)) (record { course = is.happens.course; begins = is.happens.begins; tells = is.happens.tells ∙ one_deed key asked before; stands = is.happens.stands }) tt tt
       (own_gone host memory.begun h known.its key (log.Told which before ∷ []) memory.begun (history_after h (OfDatabase key (identity_in (current_of h.databases key)) (log.Told which before))) (omega arith) refl)
@@ -79,19 +81,19 @@ module _ (host : Host) (memory : Memory) (u v : Tale) (kept : KeptOutside nowher
     course = (((can.0.1, can.0.2), can.1), tt);
     begins = refl;
     tells = refl;
-    stands = record { databases = here.databases; laid = here.laid; apart = here.apart; volumes = here.volumes };
+    stands = record { databases = here.databases; anew = here.anew; laid = here.laid; apart = here.apart; volumes = here.volumes };
   }) tt tt (own_still host memory.begun h known.its memory.begun (history_after h (Deletes can.0.0 key)) (omega arith) refl) (λ o is_open. is_open) refl refl
   told_one (Wrote key volume at blocks) can = tells (Wrote key volume at blocks) (Acknowledges can.untold.0 key volume at blocks) (record {
     course = (((can.untold.1, can.untold.2), can.range, can.only), tt);
     begins = refl;
     tells = refl;
-    stands = record { databases = here.databases; laid = here.laid; apart = here.apart; volumes = here.volumes };
+    stands = record { databases = here.databases; anew = here.anew; laid = here.laid; apart = here.apart; volumes = here.volumes };
   }) tt tt (own_still host memory.begun h known.its memory.begun (history_after h (Acknowledges can.untold.0 key volume at blocks)) (omega arith) refl) (λ o is_open. is_open) refl refl
   told_one (Saw key volume at blocks) can = tells (Saw key volume at blocks) (Shows can.0 key volume at blocks) (record {
     course = ((can.1, can.2), tt);
     begins = refl;
     tells = refl;
-    stands = record { databases = here.databases; laid = here.laid; apart = here.apart; volumes = here.volumes };
+    stands = record { databases = here.databases; anew = here.anew; laid = here.laid; apart = here.apart; volumes = here.volumes };
   }) tt tt (own_still host memory.begun h known.its memory.begun (history_after h (Shows can.0 key volume at blocks)) (omega arith) refl) (λ o is_open. is_open) refl refl
 
   -- once all that was done was told, what was known is known

@@ -1,9 +1,9 @@
 -- The calls of a line, told of another stretch.
-use Rattle.std.proofs.Common.{◌≡◌, ◌⊎◌, inl, inr, ℕ, true, Option, Some, None}
+use Rattle.std.proofs.Common.{◌≡◌, Bool, ◌⊎◌, inl, inr, ℕ, true, Option, Some, None}
 use Rattle.mdv_base.specs.declared.refusal.Refusal.TheVariants as refusal
 use Rattle.mdv_shelf.specs.Made.{Made}
 use Rattle.mdv_shelf.proofs.Made.{IsToo, more_too}
-use Rattle.mdv_engine_law.specs.Below.{BootEnd, Drives, Image, Opened, Refusal, Command, Create, Print, Read, Write, Line}
+use Rattle.mdv_engine_law.specs.Below.{BootEnd, Drives, Image, Opened, Refusal, Command, AddListed, AddPlaces, DropPlaces, Print, Read, Write, Line, meant}
 use Rattle.mdv_store.specs.Boot.{is_memory}
 use Rattle.mdv_store.specs.declared.booting.BootEnd.TheVariants as end
 use Rattle.mdv_words.specs.declared.command.Command.TheVariants.{MakeStripe}
@@ -23,8 +23,10 @@ module _ (one other : Made) (too : IsToo one other) where
   none_too none = too.within _ _ _ none
 
   pub done_too : (command : Command) (host : Host) (old new : Option Opened) → MadeCallsOf one command host old new → MadeCallsOf other command host old new
-  done_too (Create slices force count blocks) host old (Some o) calls = record { all = λ as_many. too.exactly _ _ (calls.all as_many); some = too.within _ _ _ calls.some }
-  done_too (Create slices force count blocks) host old None calls = absurd calls
+  done_too (AddPlaces slices force count blocks) host old (Some o) calls = record { all = λ as_many. too.exactly _ _ (calls.all as_many); some = too.within _ _ _ calls.some }
+  done_too (AddPlaces slices force count blocks) host old None calls = absurd calls
+  done_too (AddListed number force) host old new calls = absurd calls
+  done_too (DropPlaces slices force) host old new calls = absurd calls
   done_too (MakeStripe volume slice) host (Some before) (Some o) calls = record { all = λ as_many. too.exactly _ _ (calls.all as_many); some = too.within _ _ _ calls.some; wrote = too.wrote calls.wrote }
   done_too (MakeStripe volume slice) host (Some before) None calls = absurd calls
   done_too (MakeStripe volume slice) host None new calls = absurd calls
@@ -33,14 +35,18 @@ module _ (one other : Made) (too : IsToo one other) where
   done_too (Print names) host old new calls = none_too calls
 
   pub fault_too : (command : Command) (host : Host) → FaultCalls one command host → FaultCalls other command host
-  fault_too (Create slices force count blocks) host calls = too.within _ _ _ calls
+  fault_too (AddPlaces slices force count blocks) host calls = too.within _ _ _ calls
+  fault_too (AddListed number force) host calls = absurd calls
+  fault_too (DropPlaces slices force) host calls = absurd calls
   fault_too (MakeStripe volume slice) host calls = absurd calls
   fault_too (Read volume at count) host calls = too.within _ _ _ calls
   fault_too (Write volume at block) host calls = too.within _ _ _ calls
   fault_too (Print names) host calls = absurd calls
 
   loss_too : (command : Command) (host : Host) (old : Option Opened) → LossCalls one command host old → LossCalls other command host old
-  loss_too (Create slices force count blocks) host old calls = too.within _ _ _ calls
+  loss_too (AddPlaces slices force count blocks) host old calls = too.within _ _ _ calls
+  loss_too (AddListed number force) host old calls = absurd calls
+  loss_too (DropPlaces slices force) host old calls = absurd calls
   loss_too (MakeStripe volume slice) host (Some o) calls = too.within _ _ _ calls
   loss_too (MakeStripe volume slice) host None calls = absurd calls
   loss_too (Read volume at count) host old calls = absurd calls
@@ -73,14 +79,14 @@ module _ (one other : Made) (too : IsToo one other) where
 
 -- of a stretch by which a call failed just where one did by the first
 module _ (calls more : Outcomes) (cause : AreWithin calls more) (one other : Made) (too : IsToo one other) where
-  hand_too : (host : Host) (content : Image) (up : Drives) (e : BootEnd) → (is_memory e ≡ true) ⊎ EndsByCalls calls one host content up e → (is_memory e ≡ true) ⊎ EndsByCalls more other host content up e
-  hand_too host content up e (inl memory) = inl memory
-  hand_too host content up e (inr by) =
-      let looks = looks_of host up by.read.calm in
+  hand_too : (host : Host) (content : Image) (up : Drives) (clean : Bool) (e : BootEnd) → (is_memory e ≡ true) ⊎ EndsByCalls calls one host content up clean e → (is_memory e ≡ true) ⊎ EndsByCalls more other host content up clean e
+  hand_too host content up clean e (inl memory) = inl memory
+  hand_too host content up clean e (inr by) =
       inr (record {
         survey = by.survey;
         read = read_more calls more cause host content up e by.survey by.read;
-        by_hand = end_more calls more cause (λ hand table gone. HandCalls one looks hand.seats table) (λ hand table gone. HandCalls other looks hand.seats table) (λ hand table gone made. too.within _ _ _ made) host.site by.survey e by.by_hand;
+        by_hand = end_more calls more cause (λ hand table progress. HandCalls one host content up by.read.calm clean hand.seats table progress) (λ hand table progress. HandCalls other host content up by.read.calm clean hand.seats table progress)
+            (λ hand table progress made. record { within = too.within _ _ _ made.within; exactly = λ so. (let each = made.exactly so in (each.0, each.1, too.exactly _ _ each.2)) }) host.site by.survey e by.by_hand;
         still = λ unwritten. too.within _ _ _ (by.still unwritten);
       })
 
@@ -93,7 +99,7 @@ module _ (calls more : Outcomes) (cause : AreWithin calls more) (one other : Mad
     clean = is.clean;
     by = up_more calls more cause host is.end is.up is.clean is.by;
     tied = is.tied;
-    by_hand = hand_too host content is.up is.end is.by_hand;
+    by_hand = hand_too host content is.up is.clean is.end is.by_hand;
     still = λ unwritten. too.within _ _ _ (is.still unwritten);
     wrote = λ written. too.wrote (is.wrote written);
     exactly = λ clean. (let by = is.exactly clean in (by.0, by.1, end_too one other too _ is.end by.2));
@@ -102,7 +108,7 @@ module _ (calls more : Outcomes) (cause : AreWithin calls more) (one other : Mad
   pub line_too : (host : Host) (kept : Kept) (line : Line) (answer : Answer) (next : Kept) → LineCalls calls one host kept line answer next → LineCalls more other host kept line answer next
   line_too host kept words.Boot answer next by = boot_too host answer next.memory kept.content by
   line_too host kept (words.Tab lines) answer next by = none_too one other too by
-  line_too host kept (words.Exec command) answer next by = command_too one other too host command answer kept.memory.opened next.memory.opened by
+  line_too host kept (words.Exec command) answer next by = command_too one other too host (meant kept.memory.entries command) answer kept.memory.opened next.memory.opened by
 
 -- a stretch, told of itself
 pub too_itself : (one : Made) → IsToo one one

@@ -1,7 +1,7 @@
 -- What a command came to, told of the longer stretch that its reply ends.
 use Rattle.std.proofs.Common.{◌≡◌, ◌⊎◌, inl, inr, ℕ, true, List, ◌++◌, sym, refl, ◌∙◌, ap, subst, rules}
 use Rattle.mdv_base.specs.declared.refusal.Refusal.TheVariants as refusal
-use Rattle.mdv_engine_law.specs.Below.{BootEnd, Drives, Image, Opened, Refusal, KeptOutside, Table, nowhere, Tale, told, Command, Create, Print, Read, Write, Line}
+use Rattle.mdv_engine_law.specs.Below.{BootEnd, Drives, Image, Opened, Refusal, KeptOutside, Table, nowhere, Tale, told, Command, AddListed, AddPlaces, DropPlaces, Print, Read, Write, Line, meant}
 use Rattle.mdv_words.specs.declared.command.Command.TheVariants.{MakeStripe}
 use Rattle.mdv_words.specs.Line as words
 use Rattle.mdv_engine_law.specs.declared.answer.Answer.{Answer}
@@ -34,10 +34,10 @@ content_kept u v kept = sym same where
 
 -- what came of the calls of a stretch came of those of the longer one
 module _ (failed more : Outcomes) (cause : AreWithin failed more) (host : Host) (kept next : Kept) (answer : Answer) where
-  by_more : (e : BootEnd) (up : Drives) → (is_memory e ≡ true) ⊎ ((survey : Survey) × IsReadOf failed host kept.content up e survey × IsEndBy failed (λ hand table gone. WritesBy host.drives host.site.key kept.content next.content hand.identity hand.number hand.seats table gone) host.site survey e)
-      → (is_memory e ≡ true) ⊎ ((survey : Survey) × IsReadOf more host kept.content up e survey × IsEndBy more (λ hand table gone. WritesBy host.drives host.site.key kept.content next.content hand.identity hand.number hand.seats table gone) host.site survey e)
+  by_more : (e : BootEnd) (up : Drives) → (is_memory e ≡ true) ⊎ ((survey : Survey) × IsReadOf failed host kept.content up e survey × IsEndBy failed (λ hand table progress. WritesBy host.drives host.site.key kept.content next.content hand.identity hand.number hand.seats table progress) host.site survey e)
+      → (is_memory e ≡ true) ⊎ ((survey : Survey) × IsReadOf more host kept.content up e survey × IsEndBy more (λ hand table progress. WritesBy host.drives host.site.key kept.content next.content hand.identity hand.number hand.seats table progress) host.site survey e)
   by_more e up (inl memory) = inl memory
-  by_more e up (inr by) = inr (by.0, read_more failed more cause host kept.content up e by.0 by.1, end_more failed more cause (λ hand table gone. WritesBy host.drives host.site.key kept.content next.content hand.identity hand.number hand.seats table gone) (λ hand table gone. WritesBy host.drives host.site.key kept.content next.content hand.identity hand.number hand.seats table gone) (λ hand table gone wrote. wrote) host.site by.0 e by.2)
+  by_more e up (inr by) = inr (by.0, read_more failed more cause host kept.content up e by.0 by.1, end_more failed more cause (λ hand table progress. WritesBy host.drives host.site.key kept.content next.content hand.identity hand.number hand.seats table progress) (λ hand table progress. WritesBy host.drives host.site.key kept.content next.content hand.identity hand.number hand.seats table progress) (λ hand table progress wrote. wrote) host.site by.0 e by.2)
 
   pub rebooted_more : IsRebooted failed host kept answer next → IsRebooted more host kept answer next
   rebooted_more is = record {
@@ -60,17 +60,19 @@ module _ (failed more : Outcomes) (cause : AreWithin failed more) (host : Host) 
   })
 
   gives_up_more : (command : Command) (end : Ended) → GivesUp failed host kept command end next → GivesUp more host kept command end next
-  gives_up_more (Create slices force count blocks) (ended.Lost active listed) is = (let lost = is.lost in record {
+  gives_up_more (AddPlaces slices force count blocks) (ended.Lost active listed) is = (let lost = is.lost in record {
     lost = record { now = lost.now; tried = left_more failed more cause _ _ _ lost.tried; few = lost.few };
     calm = beside_more failed more cause _ is.calm;
     formed = is.formed;
     left = is.left;
     beside = is.beside;
   })
-  gives_up_more (Create slices force count blocks) ended.Spent is = absurd is
-  gives_up_more (Create slices force count blocks) ended.Memory is = absurd is
-  gives_up_more (Create slices force count blocks) (ended.NoQuorum readable needed) is = absurd is
-  gives_up_more (Create slices force count blocks) (ended.TwoDatabases a b) is = absurd is
+  gives_up_more (AddPlaces slices force count blocks) ended.Spent is = absurd is
+  gives_up_more (AddPlaces slices force count blocks) ended.Memory is = absurd is
+  gives_up_more (AddPlaces slices force count blocks) (ended.NoQuorum readable needed) is = absurd is
+  gives_up_more (AddPlaces slices force count blocks) (ended.TwoDatabases a b) is = absurd is
+  gives_up_more (AddListed number force) end is = absurd is
+  gives_up_more (DropPlaces slices force) end is = absurd is
   gives_up_more (MakeStripe volume slice) (ended.Lost active listed) is = (is.0, is.1, table_more is.0 _ active listed is.2)
   gives_up_more (MakeStripe volume slice) ended.Spent is = (calm_more failed more cause is.0, is.1, is.2, is.3, is.4)
   gives_up_more (MakeStripe volume slice) ended.Memory is = absurd is
@@ -81,14 +83,18 @@ module _ (failed more : Outcomes) (cause : AreWithin failed more) (host : Host) 
   gives_up_more (Print names) end is = absurd is
 
   fault_more : (command : Command) → Fault failed host kept command next → Fault more host kept command next
-  fault_more (Create slices force count blocks) is = record { failed = unmade_more failed more cause _ _ _ _ _ is.failed; memory = is.memory; content = is.content; beside = is.beside }
+  fault_more (AddPlaces slices force count blocks) is = record { failed = unmade_more failed more cause _ _ _ _ _ is.failed; memory = is.memory; content = is.content; beside = is.beside }
+  fault_more (AddListed number force) is = absurd is
+  fault_more (DropPlaces slices force) is = absurd is
   fault_more (MakeStripe volume slice) is = absurd is
   fault_more (Read volume at count) is = (is.0, on_more failed more cause is.0.drive is.1, is.2, is.3)
   fault_more (Write volume at block) is = (is.0, on_more failed more cause is.0.drive is.1, is.2, is.3, is.4)
   fault_more (Print names) is = absurd is
 
   effect_more : (command : Command) → Effect failed host kept command answer next → Effect more host kept command answer next
-  effect_more (Create slices force count blocks) is = (is.0, record { opened = is.1.opened; made = made_more failed more cause _ _ _ _ _ is.1.opened is.1.made; calm = beside_more failed more cause _ is.1.calm; memory = is.1.memory; formed = is.1.formed; content = is.1.content; beside = is.1.beside })
+  effect_more (AddPlaces slices force count blocks) is = (is.0, record { opened = is.1.opened; made = made_more failed more cause _ _ _ _ _ is.1.opened is.1.made; calm = beside_more failed more cause _ is.1.calm; memory = is.1.memory; formed = is.1.formed; content = is.1.content; beside = is.1.beside })
+  effect_more (AddListed number force) is = absurd is
+  effect_more (DropPlaces slices force) is = absurd is
   effect_more (MakeStripe volume slice) is =
       (is.0, is.1, is.2, record { opened = is.3.opened; committed = committed_more failed more cause is.1 is.3.opened _ is.3.committed; calm = beside_more failed more cause _ is.3.calm; memory = is.3.memory; content = is.3.content; beside = is.3.beside })
   effect_more (Read volume at count) is = (calm_more failed more cause is.0, is.1, is.2, is.3, is.4)
@@ -110,7 +116,7 @@ module _ (failed more : Outcomes) (cause : AreWithin failed more) (host : Host) 
   pub comes_more : (line : Line) → ComesTo failed host kept line answer next → ComesTo more host kept line answer next
   comes_more words.Boot is = rebooted_more is
   comes_more (words.Tab lines) is = keeps_more lines is
-  comes_more (words.Exec command) is = came_more command is
+  comes_more (words.Exec command) is = came_more (meant kept.memory.entries command) is
 
 module _ (failed more : Type 0) (piece : List ℕ) (cause : failed → more) where
   pub told_more : (answer : Answer) (r : Reply) → IsTold failed answer r piece → IsTold more answer r piece

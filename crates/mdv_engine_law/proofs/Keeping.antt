@@ -1,20 +1,24 @@
 -- What a line leaves in memory and on the drive, where it did what was asked.
 use Rattle.std.proofs.Common.{◌≡◌, ⊎_elim, inl, inr, ◌+◌, ◌-◌, ℕ, suc, List, [], ◌∷◌, length, slice_index_or, Some, refl, sym, ◌∙◌, ap, arith}
-use Rattle.mdv_engine_law.specs.Below.{Area, DriveBlock, Geometry, HasNoTable, Identity, IsOpenedAt, IsSettled, KeptOutside, Opened, Settling, SliceLine, Table, Tale, last, nowhere, seats_area, values_reply}
+use Rattle.mdv_engine_law.specs.Below.{Area, DriveBlock, Geometry, HasNoTable, Identity, IsOpenedAt, IsSettled, Key, KeptOutside, Opened, Settling, SliceLine, Table, Tale, last, nowhere, seats_area, values_reply}
 use Rattle.mdv_shelf.specs.Failing.{Outcomes}
 use Rattle.mdv_standing.specs.Creating.{first_mark}
 use Rattle.mdv_store.specs.Commit as commit
 use Rattle.mdv_store.specs.Create as create
 use Rattle.mdv_acts.specs.Asked.{drives_asked}
 use Rattle.mdv_store.specs.Opened.{shortage}
+use Rattle.mdv_standing.specs.Adopting.{drawn}
+use Rattle.mdv_store.specs.Progress.{Claimed, Progress, Rewritten, Settled}
 use Rattle.mdv_store.specs.Seats.{AreTheirs, drives_of}
+use Rattle.mdv_store.specs.Taking.{LeftHold, open_with, second_mark}
+use Rattle.mdv_table.specs.Plan.{settled}
 use Rattle.mdv_shelf.specs.Calls.{Shows}
 use Rattle.mdv_shelf.proofs.Settled.{covered}
 use Rattle.mdv_shelf.proofs.Everywhere.{last_image}
 use Rattle.mdv_engine_law.specs.declared.host.Host.{Host}
 use Rattle.mdv_engine_law.specs.Commands.{LeavesPlaces, LeavesTable}
 use Rattle.mdv_engine_law.specs.Hosts.{identity_of, key_of, opened_area, places_area}
-use Rattle.mdv_engine_law.specs.Line.{AreCalmBeside, AreFormedOn, Memory, IsSame, IsSameBeside, Stays, IsCreated, IsUncreated, IsCommitted, IsOpenOn, ArePut, MayBePut, blocks_of, contents, kept_at}
+use Rattle.mdv_engine_law.specs.Line.{AreCalmBeside, AreFormedOn, Memory, IsSame, IsSameBeside, LeftHoldOn, Stays, IsCreated, IsUncreated, IsCommitted, IsOpenOn, ArePut, MayBePut, blocks_of, contents, kept_at}
 use Rattle.mdv_engine_law.proofs.Within.{opened_kept}
 
 -- these blocks are what a read gives
@@ -53,6 +57,12 @@ open_on g o u is = record {
   each = λ r has. is.held.each r has (last u) (last_image u);
   shown = λ r has. (let s = is.shown r has in (s.slot, s.each (last u) (last_image u)));
 }
+
+-- the places that a boot's writes left hold what was written
+pub hold_on : (g : Geometry) (key : Key) (hand : _) (table : Table) (progress : Progress) (u : Tale) → LeftHold g key hand table progress u → LeftHoldOn g key hand.identity hand.number table progress (contents u)
+hold_on g key hand table (Claimed now) u held = λ r has. held.each r has (last u) (last_image u)
+hold_on g key hand table (Rewritten now) u is = open_on g (open_with key hand (drawn hand.number) table now) u is
+hold_on g key hand table (Settled last gone) u (is, over) = (open_on g (open_with key hand (second_mark hand.number) (settled table) last) u is, open_on g (open_with key hand (drawn hand.number) table gone) u over)
 
 -- each of the places asked has a replica of the new database
 formed_on : (host : Host) (identity : Identity) (lines : List SliceLine) (count blocks : ℕ) (u : Tale) → AreTheirs host.drives (key_of host) identity (create.seats_asked (key_of host) identity lines count blocks) u → AreFormedOn host identity lines count blocks (contents u)

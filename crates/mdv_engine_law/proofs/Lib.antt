@@ -35,3 +35,4 @@ pub mod Staying
 pub mod Opening
 pub mod Kept
 pub mod Volumes
+pub mod Listing

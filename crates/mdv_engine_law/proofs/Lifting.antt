@@ -1,9 +1,10 @@
 -- What goes on in a database goes on in the history.
 use Rattle.std.proofs.Common.{◌≡◌, inl, inr, List, [], ◌∷◌, Option, Some, None, map, refl, sym, ◌∙◌, ap, subst}
 use Rattle.mdv_databases.specs.Going.{GoOn, with_events}
+use Rattle.mdv_databases.proofs.Going.{anew_behind}
 use Rattle.mdv_engine_law.specs.Below.{Identity, KeptOutside, Key, Tale, Change, Log, History, Deed, Event, Table, Happens, history_after_all, site_area, site_of}
 use Rattle.mdv_store_law.specs.Log as log
-use Rattle.mdv_store_law.specs.Log.{ChangesAlone, IsAskable, Issue}
+use Rattle.mdv_store_law.specs.Log.{ChangesAlone, IsAskable, Issue, PlacesStay}
 use Rattle.mdv_store_law.specs.Machine.{AreAll, all_of}
 use Rattle.mdv_store_law.specs.Part.{IsPart}
 use Rattle.mdv_store_law.proofs.Issues.{asked_issued}
@@ -91,6 +92,12 @@ never_asked es table within is = let asked = asked_change es table is in never (
 
 -- What goes on in a key's database, where nothing is done outside the slices on which its boots look, and each table that a change makes is ready.
 module _ (host : Host) (asks : List Deed) (Then : List Event → History → Type 0) where
+  -- what a run may ask moves no place
+  stay_asked : (asked : List (Option Change)) → AreAll (IsAskable (IsOfRun host)) asked → AreAll (IsAskable PlacesStay) asked
+  stay_asked [] may = tt
+  stay_asked (None ∷ asked) may = (tt, stay_asked asked may.1)
+  stay_asked (Some change ∷ asked) may = (may.0, stay_asked asked may.1)
+
   pub lift_log : (key : Key) (identity : Identity) (asked : List (Option Change)) (After : Log → Type 0) (t m : Tale) → KeptOutside (site_area (site_of host.drives key)) t m → IsPart (map (deed_of key) asked) asks → AreAll (IsAskable (IsOfRun host)) asked
       → (h : History) → StandsAt host h t → (goes : GoOn host.drives h.databases key identity asked After m)
       → ((table : Table) → IsAsked goes.es table → IsTableReady host.drives h key t table)
@@ -98,7 +105,7 @@ module _ (host : Host) (asks : List Deed) (Then : List Event → History → Typ
       → Goes host asks [] Then m h
   lift_log key identity asked After t m kept within may h stands goes ready then =
       let later = are_later goes.es goes.come.issues in
-      let is : IsLifted host.drives h key goes.es m = databases_go host.drives h key identity goes.es t m stands goes.its later goes.course goes.stand kept ready in
+      let is : IsLifted host.drives h key goes.es m = databases_go host.drives h key identity goes.es t m stands goes.its later goes.course goes.stand (anew_behind host.drives h.databases key identity t stands.databases goes.its goes.es stands.anew goes.course (asked_issued PlacesStay asked [] goes.es goes.come (stay_asked asked may))) kept ready in
       let name = identity_in (current_of h.databases key) in
       let events = lifted key name goes.es in
       let issues : AreAll (IsIssue (IsOfRun host)) events = lifted_issues (IsOfRun host) key name goes.es (asked_issued (IsOfRun host) asked [] goes.es goes.come may) in

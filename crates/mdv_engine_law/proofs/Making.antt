@@ -1,10 +1,12 @@
 -- What a creation leaves of a host's history.
-use Rattle.std.proofs.Common.{◌≡◌, ◌+◌, ◌*◌, ◌<◌, ◌≤◌, ℕ, true, false, List, [], ◌∷◌, ◌++◌, Contains, Option, Some, None, IfSome, refl, sym, ◌∙◌, ap, subst, arith}
-use Rattle.mdv_databases.proofs.Creating.{begun_stand}
+use Rattle.std.proofs.Common.{◌≡◌, inl, ◌+◌, ◌*◌, ◌<◌, ◌≤◌, ℕ, true, false, List, [], ◌∷◌, ◌++◌, Contains, Option, Some, None, IfSome, refl, sym, ◌∙◌, ap, subst, arith}
+use Rattle.mdv_databases.proofs.Creating.{begun_anew, begun_stand}
+use Rattle.mdv_databases.proofs.Going.{log_anew}
 use Rattle.mdv_databases.proofs.Lists.{events_log}
 use Rattle.mdv_databases.proofs.Nothing.{nothing_told}
 use Rattle.mdv_databases.specs.Creating.{IsCreation, IsMadeIn, IsUnmadeIn}
 use Rattle.mdv_databases.specs.Going.{GoOn, with_events}
+use Rattle.mdv_store.specs.Blank.{IsBlank}
 use Rattle.mdv_engine_law.specs.Below.{AreWoken, Created, Creation, Database, Drives, Event, HasNoTable, History, Identity, IoFault, IsMapOf, IsNewestTellable, IsOpenIn, IsOpenedAt, Key, KeptOutside, Log, Map, Opened, Site, SliceLine, Tale, VolId, Volume, area_of_map, history_after, is_firm, log_of, site_area, told}
 use Rattle.mdv_store.specs.Commit.{AnyLog}
 use Rattle.mdv_shown.specs.Site.{size_on}
@@ -43,7 +45,7 @@ module _ (host : Host) (sizes : List ℕ) (ready : IsReady host sizes) (memory :
   may h known = record {
     sound = ready.sound;
     stand = known.stands.databases;
-    none = known.knows.nothing none clean;
+    free = λ d has keyed. inl ((known.stands.anew d has).lives, subst (λ (k : Key). IsBlank host.drives k d.identity t) (sym keyed) (known.knows.nothing none clean d.identity));
     fresh = own_fresh host memory.begun h known.its;
     sites = λ line has. subst (λ (s : Site). Contains s.lines line) ready.site (sites line has);
     within = λ line has. subst (λ (s : Site). line.at.start + line.at.blocks ≤ size_on s line) ready.site (ready.on_shelf.within line (sites line has));
@@ -53,7 +55,7 @@ module _ (host : Host) (sizes : List ℕ) (ready : IsReady host sizes) (memory :
 
   -- and nothing was told of the key's database, nor is its table written
   free : (h : History) → IsKnown host memory h t → is_firm (log_of h.databases (key_of host)) ≡ false
-  free h known = (nothing_told host.drives h.databases (key_of host) t known.stands.databases (known.knows.nothing none clean)).0
+  free h known = (nothing_told host.drives h.databases (key_of host) t known.stands.databases (known.knows.nothing none clean) (log_anew h.databases (key_of host) known.stands.anew).lives).0
 
   abbrev now : List Database → List Database
   now all = with_creation (key_of host) identity all
@@ -64,7 +66,8 @@ module _ (host : Host) (sizes : List ℕ) (ready : IsReady host sizes) (memory :
   making : (After : Log → Type 0) (Then : List Event → History → Type 0) (h : History) (known : IsKnown host memory h t) (on : GoOn host.drives (now h.databases) (key_of host) identity [] After m)
       → ((es : List Event) (g : History) → StandsAt host g m → g.up (key_of host) ≡ memory.up → g.databases ≡ with_events (key_of host) on.es (now h.databases) → Then es g) → Goes host (Created (key_of host) ∷ []) [] Then m h
   making After Then h known on then =
-      let newly = creations_go host.drives h (key_of host) identity t known.stands (record { fresh = (may h known).fresh; free = free h known }) (begun_stand host.drives h.databases (key_of host) identity lines count blocks t (may h known)) in
+      let newly = creations_go host.drives h (key_of host) identity t known.stands (record { fresh = (may h known).fresh; free = free h known }) (begun_stand host.drives h.databases (key_of host) identity lines count blocks t (may h known))
+      (begun_anew host.drives h.databases (key_of host) identity lines count blocks t (may h known) known.stands.anew) in
       goes_more host (Created (key_of host) ∷ []) [] (Created (key_of host) ∷ []) [] [] (λ es g. (es ≡ first ∷ []) × (g ≡ history_after h first)) Then t m h (part_itself (Created (key_of host) ∷ []))
       (happened host (Created (key_of host) ∷ []) (Created (key_of host) ∷ []) [] t h (first ∷ []) newly.happens (refl, tt) (λ es g. (es ≡ first ∷ []) × (g ≡ history_after h first)) (tt, tt) (part_itself (Created (key_of host) ∷ [])) (refl, refl))
       (λ es g there is. subst (λ (w : List Event). Goes host [] [] (λ more. Then (w ++ more)) m g) (sym is.0)
@@ -132,7 +135,7 @@ module _ (host : Host) (sizes : List ℕ) (ready : IsReady host sizes) (memory :
 
   -- it failed, and nothing is there
   pub unmade : (next : Memory) → next.up ≡ memory.up → memory.begun < next.begun → next.opened ≡ None → (HasNoTable host.drives (key_of host) t → HasNoTable host.drives (key_of host) m)
-      → ((all : List Database) → IsCreation host.drives all (key_of host) identity lines count blocks t → IsUnmadeIn host.drives (now all) (key_of host) identity m)
+      → ((all : List Database) → IsCreation host.drives all (key_of host) identity lines count blocks t → IsUnmadeIn host.drives (now all) (key_of host) identity t m)
       → CarriedTo host (ToMake (key_of host) lines count blocks) memory (Said (outcome.Refused IoFault)) next t m
   unmade next same_up begun closed nothing goes =
       let empty : (P : Opened → Type 0) → IfSome next.opened P = λ P. subst (λ (x : Option Opened). IfSome x P) (sym closed) tt in

@@ -3,7 +3,7 @@ use Rattle.std.proofs.Common.{◌≡◌, ◌∙◌, Some, None, refl, ap}
 use Rattle.mdv_shelf.specs.Failing.{Outcomes}
 use Rattle.mdv_words.specs.declared.command.Command.TheVariants.{MakeStripe}
 use Rattle.mdv_words.specs.Line as words
-use Rattle.mdv_engine_law.specs.Below.{Command, Create, Line, Opened, Print, Read, Write}
+use Rattle.mdv_engine_law.specs.Below.{Command, AddListed, AddPlaces, DropPlaces, Line, Opened, Print, Read, Write, meant}
 use Rattle.mdv_engine_law.specs.Answers.{accepted}
 use Rattle.mdv_engine_law.specs.Commands as came
 use Rattle.mdv_engine_law.specs.Commands.{CameTo, ComesTo, Effect, KeepsTab}
@@ -16,7 +16,9 @@ not_none memory o some none = cc (some, none)
 
 module _ (calls : Outcomes) (host : Host) (kept next : Kept) where
   effect_opens : (command : Command) → Effect calls host kept command accepted next → next.memory.opened ≡ None → ⊥
-  effect_opens (Create slices force count blocks) (same, made) none = not_none next.memory made.opened (ap (λ (m : Memory). m.opened) made.memory) none
+  effect_opens (AddPlaces slices force count blocks) (same, made) none = not_none next.memory made.opened (ap (λ (m : Memory). m.opened) made.memory) none
+  effect_opens (AddListed number force) is none = absurd is
+  effect_opens (DropPlaces slices force) is none = absurd is
   effect_opens (MakeStripe volume slice) (same, o, there, done) none = not_none next.memory done.opened (ap (λ (m : Memory). m.opened) done.memory) none
   effect_opens (Read volume at count) (calm, from, there, same, stays) none = cc (same)
   effect_opens (Write volume at block) (calm, place, there, same, memory, put) none =
@@ -40,4 +42,4 @@ module _ (calls : Outcomes) (host : Host) (kept next : Kept) where
   pub only_boot : (line : Line) → ComesTo calls host kept line accepted next → next.memory.opened ≡ None → line ≡ words.Boot
   only_boot words.Boot comes none = refl
   only_boot (words.Tab lines) comes none = absurd (tab_tells lines comes)
-  only_boot (words.Exec command) comes none = absurd (command_opens command comes none)
+  only_boot (words.Exec command) comes none = absurd (command_opens (meant kept.memory.entries command) comes none)

@@ -21,7 +21,7 @@ use Rattle.mdv_table.proofs.Pairs.{AllPairs-cons, AllPairs-first, AllPairs-rest}
 use Rattle.mdv_table.specs.Table.{IsKindOf, IsOfGeometry, IsPlaceOf}
 use Rattle.mdv_table.specs.Slices.{Overlaps}
 use Rattle.mdv_volumes.proofs.Clear.{set_aside}
-use Rattle.mdv_engine_law.specs.Below.{Create, Geometry, HasSlice, Identity, IsSound, Key, Place, Seat, Site, SliceLine, SliceName, Volume, site_of}
+use Rattle.mdv_engine_law.specs.Below.{AddPlaces, Geometry, HasSlice, Identity, IsSound, Key, Place, Seat, Site, SliceLine, SliceName, Volume, site_of}
 use Rattle.mdv_engine_law.specs.Commands.{IsAllowed}
 use Rattle.mdv_engine_law.specs.Hosts.{IsReady, key_of, lines_asked}
 use Rattle.mdv_engine_law.specs.Refusals.{Case}
@@ -140,7 +140,7 @@ placed g key identity sizes lines count blocks sound asked sites = record {
       }
 
 -- A creation that nothing refuses, of a script's line: some slices, and some replicas on each, of a size that they may have.
-module _ (case : Case) (sizes : List ℕ) (ready : IsReady case.host sizes) (slices : List SliceName) (force : Bool) (count blocks : ℕ) (free : IsAllowed case (Create slices force count blocks)) where
+module _ (case : Case) (sizes : List ℕ) (ready : IsReady case.host sizes) (slices : List SliceName) (force : Bool) (count blocks : ℕ) (free : IsAllowed case (AddPlaces slices force count blocks)) where
   abbrev lines : List SliceLine
   lines = lines_asked case.host slices
 

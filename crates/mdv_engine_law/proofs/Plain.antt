@@ -8,7 +8,7 @@ use Rattle.std.specs.List.{find, list_any}
 use Rattle.std.specs.Option.{is_none}
 use Rattle.std.specs.Prelude.{is_some, nat_lt}
 use Rattle.std.specs.Fmt.{digits, decimal}
-use Rattle.mdv_engine_law.specs.Below.{refusal_text, SliceName, VolId, Refusal, BadLine, NoDatabase, NeedForce, NoSuchVolume, NoSuchPool, Named, NameTaken, NoSuchSlice, SliceInUse, TooSmall, TooMany, WrongKind, WrongState, ReplicaFull, OutOfRange, IoFault, OutOfMemory, LineTooLong, Down, PlanChange, Opened, Command, Create, Print, Read, Write, Volume, lacks, one_reply, refused, replies_in, said_in, unsaid, with_reply, Deed, MakeStripe}
+use Rattle.mdv_engine_law.specs.Below.{refusal_text, SliceName, VolId, Refusal, BadLine, NoDatabase, NeedForce, NoSuchVolume, NoSuchPool, Named, NameTaken, NoSuchSlice, SliceInUse, TooSmall, TooMany, WrongKind, WrongState, ReplicaFull, OutOfRange, IoFault, OutOfMemory, LineTooLong, Down, PlanChange, Opened, Command, Print, Read, Write, Volume, lacks, one_reply, refused, replies_in, said_in, unsaid, with_reply, Deed, MakeStripe, Place, StateWord, AddListed, AddPlaces, DropPlaces}
 use Rattle.mdv_base.specs.Order.{order, where_so}
 use Rattle.mdv_base.proofs.Order.{first_holds}
 use Rattle.mdv_status.specs.Telling.{Said as SaidBytes}
@@ -21,8 +21,10 @@ use Rattle.mdv_engine_law.specs.declared.answer.Answer.TheVariants.{Said, Over}
 use Rattle.mdv_engine_law.specs.declared.answer.Ended.TheVariants as ended
 use Rattle.mdv_engine_law.specs.declared.answer.Outcome.TheVariants as outcome
 use Rattle.mdv_engine_law.specs.declared.host.Host.{Host}
-use Rattle.mdv_engine_law.specs.Line.{Ask, Nothing, ToBoot, ToDo, ToMake, ToSee, deeds, record_room}
-use Rattle.mdv_engine_law.specs.Refusals.{Case, bytes_after, held, held_of_blocks, held_of_change, held_of_more, held_of_print, held_of_read, held_of_replicas, held_past, names_no_volume, names_pool, has_number, is_doubled, is_missing, is_plain, is_short, is_taken, places_open, refusal_of, size_of}
+use Rattle.mdv_engine_law.specs.Line.{Ask, Nothing, ToBoot, ToDo, ToMake, ToMakeListed, ToSee, deeds, record_room}
+use Rattle.mdv_engine_law.specs.Refusals.{Case, bytes_after, held, held_of_blocks, are_all, held_of_change, held_of_drop, held_of_less, held_of_lists, held_of_more, held_of_others, in_state, rest_of, state_of_less, held_of_print, held_of_read, held_of_replicas, held_past, names_no_volume, names_pool, has_number, is_doubled, is_missing, is_plain, is_short, is_taken, places_open, refusal_of, size_of}
+use Rattle.mdv_engine_law.specs.Places.{bytes_with, list_more, list_of, room_with}
+use Rattle.mdv_base.specs.declared.state_word.StateWord.TheVariants.{Okay, Resyncing, Maintenance, LastErred, Initializing, Offline, Online, Absent, Inactive, Pending, Mediated, Owner, Available, InUse, Broken, TwoDatabases}
 use Rattle.mdv_name.specs.SliceIndex.{slice_at}
 use Rattle.mdv_table.specs.Below.{meets_db}
 use Rattle.mdv_table.specs.Change as table
@@ -141,12 +143,59 @@ print_plain (Some newest) names =
     let missing = list_any (names_no_volume newest.table.plan.volumes) names in
     All-append IsPlain (where_so missing NoSuchVolume) (where_so (list_any names_pool names) NoSuchPool) (where_plain missing NoSuchVolume (plainly NoSuchVolume refl refl)) (where_plain (list_any names_pool names) NoSuchPool (plainly NoSuchPool refl refl))
 
+lists_plain : (o : Opened) (list : List Place) → All IsPlain (held_of_lists o list)
+lists_plain o list = where_plain (nat_lt (room_with o list) (bytes_with o list)) (ReplicaFull (bytes_with o list) (room_with o list)) (numbers_plain (bytes_with o list) (room_with o list))
+
+others_plain : (opened : Option Opened) (slices : List SliceName) (count blocks : ℕ) → All IsPlain (held_of_others opened slices count blocks)
+others_plain None slices count blocks = All-nil IsPlain
+others_plain (Some o) slices count blocks = lists_plain o (list_more slices count blocks (list_of o))
+
+-- those of places that go
+word_plain : (word : StateWord) → IsPlain (WrongState word)
+unfolding digits
+word_plain Okay = plainly (WrongState Okay) refl refl
+word_plain Resyncing = plainly (WrongState Resyncing) refl refl
+word_plain Maintenance = plainly (WrongState Maintenance) refl refl
+word_plain LastErred = plainly (WrongState LastErred) refl refl
+word_plain Initializing = plainly (WrongState Initializing) refl refl
+word_plain Offline = plainly (WrongState Offline) refl refl
+word_plain Online = plainly (WrongState Online) refl refl
+word_plain Absent = plainly (WrongState Absent) refl refl
+word_plain Down = plainly (WrongState Down) refl refl
+word_plain Inactive = plainly (WrongState Inactive) refl refl
+word_plain Pending = plainly (WrongState Pending) refl refl
+word_plain Mediated = plainly (WrongState Mediated) refl refl
+word_plain Owner = plainly (WrongState Owner) refl refl
+word_plain Available = plainly (WrongState Available) refl refl
+word_plain InUse = plainly (WrongState InUse) refl refl
+word_plain Broken = plainly (WrongState Broken) refl refl
+word_plain TwoDatabases = plainly (WrongState TwoDatabases) refl refl
+
+state_plain : (state : Option StateWord) → All IsPlain (in_state state)
+state_plain None = All-nil IsPlain
+state_plain (Some word) = one_plain (WrongState word) (word_plain word)
+
+less_plain : (gone plain unforced : Bool) (state : Option StateWord) → All IsPlain (where_so gone NoSuchSlice ++ (where_so plain WrongKind ++ (in_state state ++ where_so unforced NeedForce)))
+unfolding digits
+less_plain gone plain unforced state =
+    let last = where_so unforced NeedForce in
+    and_plain gone NoSuchSlice (where_so plain WrongKind ++ (in_state state ++ last)) (plainly NoSuchSlice refl refl) (and_plain plain WrongKind (in_state state ++ last) (plainly WrongKind refl refl)
+    (All-append IsPlain (in_state state) last (state_plain state) (where_plain unforced NeedForce (plainly NeedForce refl refl))))
+
+drop_plain : (case : Case) (opened : Option Opened) (slices : List SliceName) (force : Bool) → All IsPlain (held_of_drop case opened slices force)
+drop_plain case None slices force = no_database_plain
+drop_plain case (Some o) slices force = more_plain (Some o) (held_of_less case o slices force ++ held_of_lists o (rest_of o slices)) (All-append IsPlain (held_of_less case o slices force) (held_of_lists o (rest_of o slices))
+    (less_plain (list_any (is_missing case.host) slices) (list_any (λ slice. is_plain (slice_at case.host.drives.slices slice)) slices) (are_all o slices && not force) (state_of_less case o slices))
+    (lists_plain o (rest_of o slices)))
+
 held_plain : (case : Case) (command : Command) → All IsPlain (held case command)
-held_plain case (Create slices force count blocks) =
+held_plain case (AddPlaces slices force count blocks) =
     let opened = is_some case.memory.opened in
-    more_plain case.memory.opened (held_of_replicas case slices force count blocks)
+    more_plain case.memory.opened (held_of_replicas case slices force count blocks ++ held_of_others case.memory.opened slices count blocks) (All-append IsPlain (held_of_replicas case slices force count blocks) (held_of_others case.memory.opened slices count blocks)
     (replicas_plain (list_any (is_missing case.host) slices) (list_any (λ slice. is_plain (slice_at case.host.drives.slices slice)) slices) (not opened && not case.memory.clean) (nat_lt 50 (length (places_open case.memory.opened) + length slices * count))
-    (not opened && not force) (list_any (is_taken case) slices || is_doubled slices) (list_any (is_short case.host count blocks) slices))
+    (not opened && not force) (list_any (is_taken case) slices || is_doubled slices) (list_any (is_short case.host count blocks) slices)) (others_plain case.memory.opened slices count blocks))
+held_plain case (AddListed number force) = one_plain BadLine bad_line_plain
+held_plain case (DropPlaces slices force) = drop_plain case case.memory.opened slices force
 held_plain case (command.MakeStripe volume slice) = change_plain case.host case.memory.opened volume slice
 held_plain case (Read volume at count) = read_plain case.memory.opened volume at count
 held_plain case (Write volume at block) = blocks_plain case.memory.opened volume (at + 1)
@@ -249,6 +298,7 @@ module _ (ask : Ask) where
     by Nothing = refl
     by ToBoot = refl
     by (ToMake key lines count blocks) = refl
+    by (ToMakeListed key number) = refl
     by (ToDo deed) = refl
     by (ToSee key volume at count) = inl (is, refl)
 
@@ -278,6 +328,7 @@ module _ (ask : Ask) where
     by Nothing = refl
     by ToBoot = refl
     by (ToMake key lines count blocks) = refl
+    by (ToMakeListed key number) = refl
     by (ToDo deed) = refl
     by (ToSee key volume at count) = inl ((r, refl), refl)
 
@@ -364,6 +415,7 @@ module _ (ask : Ask) where
     by Nothing acks = ([], refl, inl refl)
     by ToBoot acks = ([], refl, inl refl)
     by (ToMake key lines count blocks) acks = ([], refl, inl refl)
+    by (ToMakeListed key number) acks = ([], refl, inl refl)
     by (ToDo deed) acks = ([], refl, inl refl)
     by (ToSee key volume at count) (inl (refusal, none)) = ([], inl ((refusal.0, size, is ∙ ap (take size) refusal.1), refl), inl refl)
     by (ToSee key volume at count) (inr tells) = (done, inr (record { some = λ empty. absurd (cc (empty)); reply = reply; size = size; front = is; tells = tells }), inr (on, refl))

@@ -10,25 +10,25 @@ use Rattle.mdv_shelf.specs.Made.{made_of}
 use Rattle.mdv_shelf.specs.Shelves.{DriveFailures}
 use Rattle.mdv_shelf.specs.declared.shelf.Shelf.{Ghosts}
 use Rattle.mdv_look.proofs.Among.{is_one_of}
-use Rattle.mdv_store.proofs.Few.{reads_between}
+use Rattle.mdv_store.proofs.Few.{reads_between, reads_then}
 use Rattle.mdv_store.specs.BootCounts.{IsBootCounted, IsEndCounted}
 use Rattle.mdv_store.specs.Boot.{IfAdopted, IsEndBy, IsOnce, is_memory}
 use Rattle.mdv_store.specs.Booted.{IsBooted, IsReadAt, WroteFor}
 use Rattle.mdv_store.specs.Letters.{AreLettersOf}
 use Rattle.mdv_store.specs.Booting.{BootEnds, BootMoment, IsBootedTo, boot_area, has_written}
 use Rattle.mdv_look.specs.Quiet.{WritesNothing}
-use Rattle.mdv_store.specs.Taking.{RewriteMoment, Rewrites, drawn_open}
+use Rattle.mdv_store.specs.Progress.{Progress}
+use Rattle.mdv_store.specs.Taking.{LeftHold, RewriteMoment, Rewrites}
 use Rattle.mdv_store.specs.declared.booting.BootEnd.TheVariants as end
 use Rattle.mdv_store.specs.declared.booting.Booted.{Booted}
 use Rattle.mdv_survey.specs.declared.replica.Survey.{Survey}
-use Rattle.mdv_store.specs.Opened.{IsOpenedAt}
-use Rattle.mdv_engine_law.specs.Below.{BootEnd, DriveNo, Seat, Table, Tale, has_drive, last}
+use Rattle.mdv_engine_law.specs.Below.{BootEnd, DriveNo, Table, Tale, has_drive, last}
 use Rattle.mdv_engine_law.specs.Answers.{accepted}
 use Rattle.mdv_engine_law.specs.Efforts.{BootCalls, EndCalls, EndsByCalls, HandCalls, looks_of}
 use Rattle.mdv_engine_law.specs.Line.{IsLeftBy, IsReadOf, IsRebooted, IsUpBy, Memory, WritesBy, WritesTo, answered_by, booted_with, contents, kept_at, opened_by}
 use Rattle.mdv_engine_law.specs.declared.answer.Answer.{Answer}
 use Rattle.mdv_engine_law.specs.declared.host.Host.{Host}
-use Rattle.mdv_engine_law.proofs.Keeping.{open_on, same_beside}
+use Rattle.mdv_engine_law.proofs.Keeping.{hold_on, open_on, same_beside}
 use Rattle.mdv_engine_law.proofs.Taking.{end_wrote, hand_calls, looks_alone, memory_still}
 use Rattle.mdv_engine_law.proofs.Widening.{end_more, within_itself}
 
@@ -112,18 +112,21 @@ module _ {S : Type 0} (shelf : Ghosts S) (old new : S) (host : Host) (answer : B
 
     -- memory was wanting, or its end is by what was read, and the letters of the listed places
     abbrev WasEnded : Type 0
-    WasEnded = (is_memory answer.end ≡ true) ⊎ ((survey : Survey) × (at : IsReadAt shelf old new host.drives host.site answer survey) × IsEndBy calls (WroteFor shelf old at.looked new host.drives host.site) host.site survey answer.end × AreLettersOf host.site survey at.calm answer.letters)
+    WasEnded = (is_memory answer.end ≡ true) ⊎ ((survey : Survey) × (at : IsReadAt shelf old new host.drives host.site answer survey) × IsEndBy calls (WroteFor shelf old at.looked new host.drives host.site answer.clean) host.site survey answer.end × AreLettersOf host.site survey at.calm answer.letters)
 
     -- its calls, by what was read
-    ends_by_calls : (is_memory answer.end ≡ true) ⊎ EndsByCalls calls (made_of shelf old new) host (contents t) answer.up answer.end
+    ends_by_calls : (is_memory answer.end ≡ true) ⊎ EndsByCalls calls (made_of shelf old new) host (contents t) answer.up answer.clean answer.end
     ends_by_calls = by booted.ended where
-      by : WasEnded → (is_memory answer.end ≡ true) ⊎ EndsByCalls calls (made_of shelf old new) host (contents t) answer.up answer.end
+      by : WasEnded → (is_memory answer.end ≡ true) ⊎ EndsByCalls calls (made_of shelf old new) host (contents t) answer.up answer.clean answer.end
       by (inl memory) = inl memory
       by (inr (survey, at, end_by, letters)) = inr (record {
         survey = survey;
         read = read_of survey at (λ drive one_of out. (at.failed drive one_of out).1);
-        by_hand = end_more calls calls (within_itself calls) (WroteFor shelf old at.looked new host.drives host.site) (λ hand table gone. HandCalls (made_of shelf old new) (looks_of host answer.up at.calm) hand.seats table)
-            (λ hand table gone wrote. hand_calls shelf old at.looked new host.site.key (looks_of host answer.up at.calm) at.reads hand table wrote.rewrites) host.site survey answer.end end_by;
+        by_hand = end_more calls calls (within_itself calls) (WroteFor shelf old at.looked new host.drives host.site answer.clean) (λ hand table progress. HandCalls (made_of shelf old new) host (contents t) answer.up at.calm answer.clean hand.seats table progress)
+            (λ hand table progress wrote. record {
+              within = hand_calls shelf old at.looked new host.site.key (looks_of host answer.up at.calm) at.reads hand table answer.clean progress wrote.rewrites;
+              exactly = λ so. (let looks = at.exact so t told_old in (looks.0, looks.2, reads_then shelf old at.looked new _ _ _ looks.1 (wrote.rewrites.exact so)));
+            }) host.site survey answer.end end_by;
         still = λ unwritten. looks_alone shelf old at.looked new host.site.key (looks_of host answer.up at.calm) at.reads (at.still unwritten);
       })
 
@@ -131,7 +134,7 @@ module _ {S : Type 0} (shelf : Ghosts S) (old new : S) (host : Host) (answer : B
     wrote_of written = by booted.ended where
       by : WasEnded → (made_of shelf old new).wrote
       by (inl memory) = absurd (let still = memory_still answer.end memory in cc (still, written))
-      by (inr (survey, at, end_by, letters)) = end_wrote shelf old at.looked new host.site.key _ at.reads host.drives calls host.site survey answer.end end_by written
+      by (inr (survey, at, end_by, letters)) = end_wrote shelf old at.looked new host.site.key _ at.reads host.drives calls host.site answer.clean survey answer.end end_by written
 
     -- its calls, as a line counts them
     pub boot_calls : IsUnclean → IsBootCounted shelf old new host.drives host.site answer
@@ -151,34 +154,34 @@ module _ {S : Type 0} (shelf : Ghosts S) (old new : S) (host : Host) (answer : B
     }
 
     -- it wrote to the places in hand alone
-    wrote_to : (survey : Survey) (at : IsReadAt shelf old new host.drives host.site answer survey) (hand : _) (table : Table) → Rewrites shelf at.looked new host.site.key hand table → WritesTo (contents t) (contents u) hand.seats
-    wrote_to survey at hand table wrote drive block out =
+    wrote_to : (survey : Survey) (at : IsReadAt shelf old new host.drives host.site answer survey) (hand : _) (table : Table) (progress : Progress) → Rewrites shelf at.looked new host.site.key hand table answer.clean progress → WritesTo (contents t) (contents u) hand.seats
+    wrote_to survey at hand table progress wrote drive block out =
         let looks = moments_end WritesNothing (shelf.tale old) (shelf.tale at.looked) at.unwritten t told_old in
         let writes = moments_end (RewriteMoment host.site.key hand table) (shelf.tale at.looked) (shelf.tale new) wrote.moments looks.0 looks.1 in
         let same : writes.0 ≡ u = some_is (shelf.tale new) writes.0 u writes.1 told_new in
         ap (λ (x : Tale). last x drive block) (sym same) ∙ (writes.2.quiet.outside drive block out).last ∙ (looks.2.outside drive block refl).last
 
-    wrote_by : (survey : Survey) (at : IsReadAt shelf old new host.drives host.site answer survey) (hand : _) (table : Table) (gone : List Seat) → WroteFor shelf old at.looked new host.drives host.site hand table gone
-        → WritesBy host.drives host.site.key (contents t) (contents u) hand.identity hand.number hand.seats table gone
-    wrote_by survey at hand table gone wrote =
+    wrote_by : (survey : Survey) (at : IsReadAt shelf old new host.drives host.site answer survey) (hand : _) (table : Table) (progress : Progress) → WroteFor shelf old at.looked new host.drives host.site answer.clean hand table progress
+        → WritesBy host.drives host.site.key (contents t) (contents u) hand.identity hand.number hand.seats table progress
+    wrote_by survey at hand table progress wrote =
         let shows = wrote.shows t told_old in
         let same : shows.0 ≡ u = some_is (shelf.tale new) shows.0 u shows.1 told_new in
-        record { to = wrote_to survey at hand table wrote.rewrites; shows = open_on host.drives (drawn_open host.site.key hand table gone) u (subst (λ (x : Tale). IsOpenedAt host.drives (drawn_open host.site.key hand table gone) x) same shows.2) }
+        record { to = wrote_to survey at hand table progress wrote.rewrites; hold = hold_on host.drives host.site.key hand table progress u (subst (λ (x : Tale). LeftHold host.drives host.site.key hand table progress x) same shows.2) }
 
     -- its end, as a line tells it
-    module _ (unclean : IsUnclean) (away : (survey : Survey) (at : IsReadAt shelf old new host.drives host.site answer survey) → AreAway survey at) (moment : BootMoment host.drives host.site answer.end t u) (failed : ℕ → Type 0) (ends : BootEnds failed host.drives host.site answer t u) where
-      pub ended : (is_memory answer.end ≡ true) ⊎ ((survey : Survey) × IsReadOf calls host (contents t) answer.up answer.end survey × IsEndBy calls (λ hand table gone. WritesBy host.drives host.site.key (contents t) (contents u) hand.identity hand.number hand.seats table gone) host.site survey answer.end)
+    module _ (unclean : IsUnclean) (away : (survey : Survey) (at : IsReadAt shelf old new host.drives host.site answer survey) → AreAway survey at) (failed : ℕ → Type 0) (moment : BootMoment failed host.drives host.site answer.end t u) (ends : BootEnds failed host.drives host.site answer t u) where
+      pub ended : (is_memory answer.end ≡ true) ⊎ ((survey : Survey) × IsReadOf calls host (contents t) answer.up answer.end survey × IsEndBy calls (λ hand table progress. WritesBy host.drives host.site.key (contents t) (contents u) hand.identity hand.number hand.seats table progress) host.site survey answer.end)
       ended = by (is_memory answer.end) refl booted.ended where
         by : (b : Bool) → is_memory answer.end ≡ b → WasEnded
-            → (is_memory answer.end ≡ true) ⊎ ((survey : Survey) × IsReadOf calls host (contents t) answer.up answer.end survey × IsEndBy calls (λ hand table gone. WritesBy host.drives host.site.key (contents t) (contents u) hand.identity hand.number hand.seats table gone) host.site survey answer.end)
+            → (is_memory answer.end ≡ true) ⊎ ((survey : Survey) × IsReadOf calls host (contents t) answer.up answer.end survey × IsEndBy calls (λ hand table progress. WritesBy host.drives host.site.key (contents t) (contents u) hand.identity hand.number hand.seats table progress) host.site survey answer.end)
         by true is end_by = inl is
         by false is (inl memory) = inl memory
-        by false is (inr (survey, at, end_by, letters)) = inr (survey, read_of survey at (away survey at), end_more calls calls (within_itself calls) (WroteFor shelf old at.looked new host.drives host.site) (λ hand table gone. WritesBy host.drives host.site.key (contents t) (contents u) hand.identity hand.number hand.seats table gone) (wrote_by survey at) host.site survey answer.end end_by)
+        by false is (inr (survey, at, end_by, letters)) = inr (survey, read_of survey at (away survey at), end_more calls calls (within_itself calls) (WroteFor shelf old at.looked new host.drives host.site answer.clean) (λ hand table progress. WritesBy host.drives host.site.key (contents t) (contents u) hand.identity hand.number hand.seats table progress) (wrote_by survey at) host.site survey answer.end end_by)
 
       pub left : IsLeftBy host.drives answer.end (contents u)
       left = by answer.end ends.adopted where
-        by : (e : BootEnd) → IfAdopted e (λ o. IsBootedTo host.drives host.site o t u) → IsLeftBy host.drives e (contents u)
-        by (end.Adopted o) is = open_on host.drives o u is.opened
+        by : (e : BootEnd) → IfAdopted e (λ o. IsBootedTo failed host.drives host.site o t u) → IsLeftBy host.drives e (contents u)
+        by (end.Adopted o) is = open_on host.drives o u is.2.opened
         by end.Empty is = tt
         by (end.TwoDatabases a b) is = tt
         by (end.NoQuorum readable needed) is = tt
@@ -196,5 +199,5 @@ module _ {S : Type 0} (shelf : Ghosts S) (old new : S) (host : Host) (answer : B
         answer_is = said_is;
         memory = memory_is;
         content = left;
-        beside = same_beside (boot_area host.site (has_written answer.end)) t u moment.quiet.outside;
+        beside = same_beside (boot_area host.site (has_written answer.end)) t u moment.2.quiet.outside;
       }

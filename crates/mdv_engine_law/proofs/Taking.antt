@@ -1,5 +1,5 @@
 -- How many calls a boot makes that writes, and how many blocks it writes, by the places that it has in hand.
-use Rattle.std.proofs.Common.{◌≡◌, ◌≤◌, ◌+◌, ◌*◌, ◌-◌, ◌^◌, ℕ, zero, suc, true, false, length, min, refl, sym, subst, arith}
+use Rattle.std.proofs.Common.{◌≡◌, ◌≤◌, ◌+◌, ◌-◌, ◌^◌, ℕ, Bool, zero, suc, true, false, min, refl, sym, subst, arith}
 use Rattle.mdv_shelf.proofs.Between.{between_then, rose_at_least}
 use Rattle.mdv_shelf.specs.Between.{RoseByAtLeast}
 use Rattle.mdv_shelf.specs.Failing.{Outcomes}
@@ -10,14 +10,13 @@ use Rattle.mdv_store.proofs.Losing.{rose_then}
 use Rattle.mdv_store.specs.Boot.{IsEndBy, is_memory}
 use Rattle.mdv_store.specs.Booting.{has_written}
 use Rattle.mdv_store.specs.BootCounts.{blocks_at, calls_at}
+use Rattle.mdv_store.specs.Progress.{Progress}
 use Rattle.mdv_store.specs.Taking.{Rewrites}
-use Rattle.mdv_store.specs.Text.{blocks_for}
 use Rattle.mdv_store.specs.declared.booting.BootEnd.TheVariants as end
 use Rattle.mdv_survey.specs.Counts.{MadeFew, MadeReads}
 use Rattle.mdv_survey.specs.declared.replica.Survey.{Survey}
 use Rattle.mdv_store.specs.Booted.{WroteFor}
-use Rattle.mdv_engine_law.specs.Below.{BootEnd, Geometry, Key, Site, Table, active_of, record_text}
-use Rattle.mdv_engine_law.specs.Efforts.{HandCalls}
+use Rattle.mdv_engine_law.specs.Below.{BootEnd, Geometry, Key, Site, Table}
 
 -- what writes doesn't want memory
 pub memory_still : (e : BootEnd) → is_memory e ≡ true → has_written e ≡ false
@@ -45,19 +44,19 @@ module _ {S : Type 0} (shelf : Ghosts S) where
     looks_alone still = subst (λ (s : S). (made_of shelf old s).within 0 reads 0) (sym still) (reads_between shelf old looked looks.0 0 reads (omega arith) looks.1 looks.2)
 
     -- or the calls by which the places in hand were written
-    pub hand_calls : (hand : _) (table : Table) → Rewrites shelf looked new key hand table → HandCalls (made_of shelf old new) reads hand.seats table
-    hand_calls hand table wrote =
+    pub hand_calls : (hand : _) (table : Table) (calm : Bool) (progress : Progress) → Rewrites shelf looked new key hand table calm progress → (made_of shelf old new).within 1 (reads + calls_at hand.seats table) (blocks_at hand.seats table)
+    hand_calls hand table calm progress wrote =
         between_then shelf.calls shelf.written old looked new 0 reads 0 1 (calls_at hand.seats table) (blocks_at hand.seats table) 1 (reads + calls_at hand.seats table) (blocks_at hand.seats table)
         (omega arith) (omega arith) (omega arith) (reads_between shelf old looked looks.0 0 reads (omega arith) looks.1 looks.2) wrote.made
 
     began : RoseByAtLeast 1 (shelf.written looked) (shelf.written new) → (made_of shelf old new).wrote
     began rose = rose_then 0 1 1 (shelf.written old) (shelf.written looked) (shelf.written new) (omega arith) (reads_rose old looked looks.0 looks.2) rose
 
-    pub end_wrote : (g : Geometry) (failed : Outcomes) (site : Site) (survey : Survey) (e : BootEnd) → IsEndBy failed (WroteFor shelf old looked new g site) site survey e → has_written e ≡ true → (made_of shelf old new).wrote
-    end_wrote g failed site survey (end.Adopted o) is written = began is.written.wrote.rewrites.wrote
-    end_wrote g failed site survey end.Empty is written = absurd (cc (written))
-    end_wrote g failed site survey (end.TwoDatabases a b) is written = absurd (cc (written))
-    end_wrote g failed site survey (end.NoQuorum readable needed) is written = absurd (cc (written))
-    end_wrote g failed site survey (end.Lost active listed) is written = began is.written.wrote.rewrites.wrote
-    end_wrote g failed site survey end.Spent is written = absurd (cc (written))
-    end_wrote g failed site survey end.Memory is written = absurd (cc (written))
+    pub end_wrote : (g : Geometry) (failed : Outcomes) (site : Site) (clean : Bool) (survey : Survey) (e : BootEnd) → IsEndBy failed (WroteFor shelf old looked new g site clean) site survey e → has_written e ≡ true → (made_of shelf old new).wrote
+    end_wrote g failed site clean survey (end.Adopted o) is written = began is.written.wrote.rewrites.wrote
+    end_wrote g failed site clean survey end.Empty is written = absurd (cc (written))
+    end_wrote g failed site clean survey (end.TwoDatabases a b) is written = absurd (cc (written))
+    end_wrote g failed site clean survey (end.NoQuorum readable needed) is written = absurd (cc (written))
+    end_wrote g failed site clean survey (end.Lost active listed) is written = began is.written.wrote.rewrites.wrote
+    end_wrote g failed site clean survey end.Spent is written = absurd (cc (written))
+    end_wrote g failed site clean survey end.Memory is written = absurd (cc (written))

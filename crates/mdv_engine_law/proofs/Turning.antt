@@ -15,7 +15,7 @@ use Rattle.mdv_engine_law.specs.declared.answer.Outcome.{Outcome}
 use Rattle.mdv_engine_law.specs.declared.answer.Reply.{Reply}
 use Rattle.mdv_engine_law.specs.declared.host.Host.{Host}
 use Rattle.mdv_engine_law.specs.Hosts.{key_of}
-use Rattle.mdv_engine_law.specs.Line.{Ask, Nothing, ToBoot, ToDo, ToMake, ToSee, deeds, Memory}
+use Rattle.mdv_engine_law.specs.Line.{Ask, Nothing, ToBoot, ToDo, ToMake, ToMakeListed, ToSee, deeds, Memory}
 use Rattle.mdv_engine_law.specs.Replies.{AcksAnswer, AcksBy, IsPlain, IsPlainAnswer, IsPlainOutcome, outcome_text, IsAccepted, IsReply, IsReplied, IsLost, issuable, issuable_of, issued_by, ok_line, refusal_line, text_of}
 use Rattle.mdv_engine_law.specs.Standing.{Goes, IsBare, Reached, Knows, IsKnown, CarryMoment, CarriedTo, CanTellAll, IsKnownAfter, TellMoment, TurnMoment, Turned, OnlyReplied}
 use Rattle.mdv_engine_law.proofs.Going.{goes_none, goes_more, goes_weaker}
@@ -42,6 +42,7 @@ pub created_by : (key : Key) (ask : Ask) (reply : List ℕ) (done : List Deed) �
 created_by key Nothing reply done acks has = absurd (never_among done (Created key) acks has)
 created_by key ToBoot reply done acks has = absurd (never_among done (Created key) acks has)
 created_by key (ToMake other lines count blocks) reply done acks has = of_ok key (Created other) reply done acks has
+created_by key (ToMakeListed other number) reply done acks has = of_ok key (Created other) reply done acks has
 created_by key (ToDo deed) reply done acks has = of_ok key deed reply done acks has
 created_by key (ToSee other volume at count) reply done (inl (refused, none)) has = absurd (never_among done (Created key) none has)
 created_by key (ToSee other volume at count) reply done (inr tells) has = elim (first_or_behind (Saw other volume at tells.blocks) (Created key) [] (subst (λ (l : List Deed). Contains l (Created key)) tells.seen has)) [

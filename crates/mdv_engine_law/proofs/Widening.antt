@@ -2,14 +2,16 @@
 use Rattle.std.proofs.Common.{◌≡◌, ◌⊎◌, inl, inr, ℕ, Bool, true, false, List, Contains}
 use Rattle.std.specs.Bool.{MatchBool}
 use Rattle.mdv_base.proofs.Causes.{IsWithin}
-use Rattle.mdv_engine_law.specs.Below.{BootEnd, DriveNo, Drives, Identity, Key, Opened, Site, SliceLine, Table, Command, Create, Print, Read, Write}
+use Rattle.mdv_engine_law.specs.Below.{BootEnd, DriveNo, Drives, Identity, Key, Opened, Site, SliceLine, Table, Command, AddListed, AddPlaces, DropPlaces, Print, Read, Write}
 use Rattle.mdv_store.proofs.Passes.{left_as}
-use Rattle.mdv_store.specs.Boot.{IsEndBy, IsOnce, IsShortBy, IsWrittenTo, is_memory}
+use Rattle.mdv_store.specs.Boot.{IsEndBy, IsOnce, IsShortAt, IsShortBy, IsWrittenTo, is_memory}
 use Rattle.mdv_store.specs.Commit as commit
 use Rattle.mdv_store.specs.Create as create
+use Rattle.mdv_store.specs.Progress.{Claimed, Progress, Rewritten, Settled}
 use Rattle.mdv_store.specs.Seats.{AreLeft, drive_of}
 use Rattle.mdv_store.specs.declared.booting.BootEnd.TheVariants as end
 use Rattle.mdv_store.specs.declared.seats.Seat.{Seat}
+use Rattle.mdv_store.specs.declared.seats.Share.{Share}
 use Rattle.mdv_survey.specs.declared.replica.Newest.{Newest}
 use Rattle.mdv_survey.specs.declared.replica.Replica.{Replica}
 use Rattle.mdv_survey.specs.declared.replica.Survey.{Survey}
@@ -39,9 +41,9 @@ pub record IsBlamed (one other : Blame) : Type 0 where
   pub lost : (active listed : ℕ) → one.lost active listed → other.lost active listed
 
 -- what was written, told of what each leads to
-written_more : (One Other : _ → Table → List Seat → Type 0) → ((hand : _) (table : Table) (gone : List Seat) → One hand table gone → Other hand table gone) → (newest : Newest) (replica : Replica) (seats : List Seat) (number : ℕ) (gone : List Seat)
-    → IsWrittenTo One newest replica seats number gone → IsWrittenTo Other newest replica seats number gone
-written_more One Other so newest replica seats number gone is = record { hand = is.hand; identity_is = is.identity_is; number_is = is.number_is; seats_are = is.seats_are; wrote = so is.hand newest.table gone is.wrote }
+written_more : (One Other : _ → Table → Progress → Type 0) → ((hand : _) (table : Table) (progress : Progress) → One hand table progress → Other hand table progress) → (newest : Newest) (replica : Replica) (seats : List Seat) (number : ℕ) (progress : Progress)
+    → IsWrittenTo One newest replica seats number progress → IsWrittenTo Other newest replica seats number progress
+written_more One Other so newest replica seats number progress is = record { hand = is.hand; identity_is = is.identity_is; number_is = is.number_is; seats_are = is.seats_are; wrote = so is.hand newest.table progress is.wrote }
 
 -- a stretch, told of itself
 pub within_itself : (failed : Outcomes) → AreWithin failed failed
@@ -87,16 +89,21 @@ module _ (failed more : Outcomes) (cause : AreWithin failed more) where
   lost_commit_more old table active listed is = record { new = is.new; calm = beside_more _ is.calm; lost = now_more old is.new table is.lost; few = is.few }
 
   -- and a boot's end
-  short_more : (Took : Replica → Replica → Type 0) (key : Key) (lists : Lists) (seats : List Seat) (active listed : ℕ) → IsShortBy failed Took key lists seats active listed → IsShortBy more Took key lists seats active listed
-  short_more Took key lists seats active listed short = record { now = short.now; left = left_more Took seats short.now short.left; few = short.few }
+  short_more : (Took : Replica → Replica → Type 0) (key : Key) (lists : Lists) (seats now : List Seat) (share : Share) → IsShortBy failed Took key lists seats now share → IsShortBy more Took key lists seats now share
+  short_more Took key lists seats now share short = record { left = left_more Took seats now short.left; few = short.few }
 
-  pub end_more : (One Other : _ → Table → List Seat → Type 0) → ((hand : _) (table : Table) (gone : List Seat) → One hand table gone → Other hand table gone) → (site : Site) (survey : Survey) (e : BootEnd) → IsEndBy failed One site survey e → IsEndBy more Other site survey e
+  short_at_more : (key : Key) (number : ℕ) (table : Table) (seats last lacked : List Seat) (progress : Progress) (share : Share) → IsShortAt failed key number table seats last lacked progress share → IsShortAt more key number table seats last lacked progress share
+  short_at_more key number table seats last lacked (Claimed now) share short = short_more _ _ _ _ _ _ short
+  short_at_more key number table seats last lacked (Rewritten now) share short = short_more _ _ _ _ _ _ short
+  short_at_more key number table seats last lacked (Settled now gone) share (settles, short, over) = (settles, short_more _ _ _ _ _ _ short, left_more _ _ _ over)
+
+  pub end_more : (One Other : _ → Table → Progress → Type 0) → ((hand : _) (table : Table) (progress : Progress) → One hand table progress → Other hand table progress) → (site : Site) (survey : Survey) (e : BootEnd) → IsEndBy failed One site survey e → IsEndBy more Other site survey e
   end_more One Other so site survey (end.Adopted o) is = record { newest = is.newest; replica = is.replica; seats = is.seats; number = is.number; drawn = is.drawn; gone = is.gone; over = left_more _ _ _ is.over; written = written_more One Other so _ _ _ _ _ is.written; left = left_more _ _ _ is.left; enough = is.enough; is = is.is }
   end_more One Other so site survey end.Empty is = is
   end_more One Other so site survey (end.TwoDatabases a b) is = is
   end_more One Other so site survey (end.NoQuorum readable needed) is = is
   end_more One Other so site survey (end.Lost active listed) is =
-      record { newest = is.newest; replica = is.replica; seats = is.seats; number = is.number; drawn = is.drawn; written = written_more One Other so _ _ _ _ _ is.written; short = elim is.short [ inl first ↦ inl (short_more _ _ _ _ _ _ first) | inr again ↦ inr (again.0, short_more _ _ _ _ _ _ again.1) ] }
+      record { newest = is.newest; replica = is.replica; seats = is.seats; number = is.number; drawn = is.drawn; progress = is.progress; written = written_more One Other so _ _ _ _ _ is.written; short = short_at_more _ _ _ _ _ _ is.progress _ is.short }
   end_more One Other so site survey end.Spent is = is
   end_more One Other so site survey end.Memory is = is
 
@@ -105,7 +112,9 @@ module _ (failed more : Outcomes) (cause : AreWithin failed more) where
   blocks_more host memory volume at count of = record { place = of.place; there = of.there; failed = on_more of.place.drive of.failed }
 
   pub blamed_more : (host : Host) (memory : Memory) (command : Command) → IsBlamed (blame_of failed host memory command) (blame_of more host memory command)
-  blamed_more host memory (Create slices force count blocks) = record { done = beside_more _; none = calm_more; some = unmade_more _ _ _ _ _; lost = λ active listed is. (lost_more _ _ _ _ _ active listed is.0, beside_more _ is.1) }
+  blamed_more host memory (AddPlaces slices force count blocks) = record { done = beside_more _; none = calm_more; some = unmade_more _ _ _ _ _; lost = λ active listed is. (lost_more _ _ _ _ _ active listed is.0, beside_more _ is.1) }
+  blamed_more host memory (AddListed number force) = record { done = λ is. is; none = calm_more; some = λ is. is; lost = λ active listed is. is }
+  blamed_more host memory (DropPlaces slices force) = record { done = λ is. is; none = calm_more; some = λ is. is; lost = λ active listed is. is }
   blamed_more host memory (command.MakeStripe volume slice) = record { done = λ is. (is.0, is.1, beside_more _ is.2); none = calm_more; some = λ is. is; lost = λ active listed is. (is.0, is.1, lost_commit_more is.0 _ active listed is.2) }
   blamed_more host memory (Read volume at count) = record { done = calm_more; none = calm_more; some = blocks_more host memory volume at count; lost = λ active listed is. is }
   blamed_more host memory (Write volume at block) = record { done = calm_more; none = calm_more; some = blocks_more host memory volume at 1; lost = λ active listed is. is }

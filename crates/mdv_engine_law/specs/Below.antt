@@ -16,7 +16,7 @@ pub use Rattle.mdv_base.specs.declared.refusal.Refusal.TheVariants.{BadLine, IoF
 pub use Rattle.mdv_base.specs.declared.refusal.Refusal.TheVariants.{NoSuchPool, NoSuchVolume, OutOfMemory, OutOfRange, ReplicaFull, SliceInUse, TooSmall}
 pub use Rattle.mdv_base.specs.declared.refusal.Refusal.TheVariants.{TooMany, WrongKind, WrongState}
 pub use Rattle.mdv_base.specs.declared.refusal.Refusal.{Refusal}
-pub use Rattle.mdv_base.specs.declared.state_word.StateWord.TheVariants.{Down}
+pub use Rattle.mdv_base.specs.declared.state_word.StateWord.TheVariants.{Absent, Down, Inactive}
 pub use Rattle.mdv_base.specs.declared.state_word.StateWord.{StateWord}
 pub use Rattle.mdv_databases.specs.Going.{IsOpenIn}
 pub use Rattle.mdv_databases.specs.Lasting.{HasNoTable}
@@ -76,5 +76,6 @@ pub use Rattle.mdv_volumes.specs.History.{history_after, history_after_all}
 pub use Rattle.mdv_volumes.specs.HistoryLaws.{AreWoken, CanTell, IsUpon}
 pub use Rattle.mdv_volumes.specs.Tables.{IsMapOf}
 pub use Rattle.mdv_words.specs.Line.{Line}
-pub use Rattle.mdv_words.specs.declared.command.Command.TheVariants.{Create, Print, Read, Write}
+pub use Rattle.mdv_words.specs.Listed.{Replicas, listed_by, meant}
+pub use Rattle.mdv_words.specs.declared.command.Command.TheVariants.{AddListed, AddPlaces, DropPlaces, Print, Read, Write}
 pub use Rattle.mdv_words.specs.declared.command.Command.{Command}

@@ -1,6 +1,6 @@
 -- What a command comes to, and a line.
 use Rattle.std.specs.Prelude.{◌≡◌, ◌+◌, ◌≤◌, ◌^◌, ℕ, List, [], ◌∷◌, length, Some, None}
-use Rattle.mdv_engine_law.specs.Below.{DriveBlock, VolId, Refusal, BadLine, IoFault, OutOfMemory, TooMany, entries_reply, values_reply, Entry, IsTab, listing_of, printed_reply, MakeStripe, Command, Create, Opened, Read, SliceLine, Table, Write, Line}
+use Rattle.mdv_engine_law.specs.Below.{DriveBlock, VolId, Refusal, BadLine, IoFault, OutOfMemory, TooMany, entries_reply, values_reply, Entry, IsTab, listing_of, printed_reply, MakeStripe, Command, AddListed, AddPlaces, DropPlaces, Opened, Read, SliceLine, Table, Write, Line, meant}
 use Rattle.mdv_standing.specs.Creating.{first_mark}
 use Rattle.mdv_store.specs.Commit as commit
 use Rattle.mdv_store.specs.Create as create
@@ -33,9 +33,11 @@ abbrev pub IsAllowed : Case → Command → Type 0
 IsAllowed case command = refusal_of case command ≡ None
 
 -- What a command leaves that is done, and what it tells: a database that was made; the table after the change; what the drive has in the
--- volume's blocks; the block in its place; the open table, printed.
+-- volume's blocks; the block in its place; the open table, printed. That places go isn't done yet, nor is what an entry says that isn't kept.
 abbrev pub Effect : Outcomes → Host → Kept → Command → Answer → Kept → Type 0
-Effect calls host kept (Create slices force count blocks) answer next = (answer ≡ accepted) × IsCreated calls host (lines_asked host slices) count blocks kept next
+Effect calls host kept (AddPlaces slices force count blocks) answer next = (answer ≡ accepted) × IsCreated calls host (lines_asked host slices) count blocks kept next
+Effect calls host kept (AddListed number force) answer next = ⊥
+Effect calls host kept (DropPlaces slices force) answer next = ⊥
 Effect calls host kept (command.MakeStripe volume slice) answer next =
     (answer ≡ accepted) × (o : Opened) × (kept.memory.opened ≡ Some o) × IsCommitted calls host o (table_after host.drives (MakeStripe volume slice) o.table) kept next
 Effect calls host kept (Read volume at count) answer next =
@@ -61,12 +63,14 @@ pub record IsLostCommit (calls : Outcomes) (old : Opened) (table : Table) (activ
 -- Why a command is answered as it is, whatever is known of the drives' blocks: a transfer is done where no call failed, and tells one on the drive of its blocks; a creation tells one that failed in its formats, and ends the run where too few
 -- places took its table, as a change does, and neither has a call that failed on a drive beside those of its places; a print makes no call.
 abbrev pub blame_of : Outcomes → Host → Memory → Command → Blame
-blame_of calls host memory (Create slices force count blocks) = record {
+blame_of calls host memory (AddPlaces slices force count blocks) = record {
   done = AreCalmBeside (drives_asked (lines_asked host slices)) calls;
   none = AreCalm calls;
   some = create.HasFailed calls (key_of host) (identity_of host memory.begun) (lines_asked host slices) count blocks;
   lost = λ active listed. create.IsLost calls (key_of host) (identity_of host memory.begun) (lines_asked host slices) count blocks active listed × AreCalmBeside (drives_asked (lines_asked host slices)) calls;
 }
+blame_of calls host memory (AddListed number force) = record { done = ⊥; none = AreCalm calls; some = ⊥; lost = λ active listed. ⊥ }
+blame_of calls host memory (DropPlaces slices force) = record { done = ⊥; none = AreCalm calls; some = ⊥; lost = λ active listed. ⊥ }
 blame_of calls host memory (command.MakeStripe volume slice) = record {
   done = (o : Opened) × (memory.opened ≡ Some o) × AreCalmBeside (drives_of o.seats) calls;
   none = AreCalm calls;
@@ -79,7 +83,9 @@ blame_of calls host memory (command.Print names) = record { done = AreCalm calls
 
 -- and whether it may find the number of its database's tables spent: a change alone, which draws the next
 abbrev pub MaySpend : Command → Type 0
-MaySpend (Create slices force count blocks) = ⊥
+MaySpend (AddPlaces slices force count blocks) = ⊥
+MaySpend (AddListed number force) = ⊥
+MaySpend (DropPlaces slices force) = ⊥
 MaySpend (command.MakeStripe volume slice) = Unit {0}
 MaySpend (Read volume at count) = ⊥
 MaySpend (Write volume at block) = ⊥
@@ -88,7 +94,9 @@ MaySpend (command.Print names) = ⊥
 -- What is left where a call on a drive failed and the line tells it: one of a creation's places, or that of the blocks. A change that can't be
 -- committed ends the run instead.
 abbrev pub Fault : Outcomes → Host → Kept → Command → Kept → Type 0
-Fault calls host kept (Create slices force count blocks) next = IsUncreated calls host (lines_asked host slices) count blocks kept next
+Fault calls host kept (AddPlaces slices force count blocks) next = IsUncreated calls host (lines_asked host slices) count blocks kept next
+Fault calls host kept (AddListed number force) next = ⊥
+Fault calls host kept (DropPlaces slices force) next = ⊥
 Fault calls host kept (command.MakeStripe volume slice) next = ⊥
 Fault calls host kept (Read volume at count) next = (place : DriveBlock) × FailedOn place.drive calls × AreBlocksAt host kept.memory volume at count place × Stays kept next
 Fault calls host kept (Write volume at block) next = (place : DriveBlock) × FailedOn place.drive calls × AreBlocksAt host kept.memory volume at 1 place × (next.memory ≡ kept.memory) × MayBePut place (block ∷ []) kept.content next.content
@@ -96,7 +104,9 @@ Fault calls host kept (command.Print names) next = ⊥
 
 -- What is left where memory was wanting. A table is judged before it is copied, and how long its record is behind that; a write takes none.
 abbrev pub Wanting : Host → Kept → Command → Kept → Type 0
-Wanting host kept (Create slices force count blocks) next = IsAllowed (case_of host kept) (Create slices force count blocks) × IsUnbegun kept next
+Wanting host kept (AddPlaces slices force count blocks) next = IsAllowed (case_of host kept) (AddPlaces slices force count blocks) × IsUnbegun kept next
+Wanting host kept (AddListed number force) next = ⊥
+Wanting host kept (DropPlaces slices force) next = ⊥
 Wanting host kept (command.MakeStripe volume slice) next = IsUnopposed host kept.memory (MakeStripe volume slice) × Stays kept next
 Wanting host kept (Read volume at count) next = IsAllowed (case_of host kept) (Read volume at count) × Stays kept next
 Wanting host kept (Write volume at block) next = ⊥
@@ -118,7 +128,7 @@ pub record LeavesTable (calls : Outcomes) (host : Host) (o : Opened) (table : Ta
 
 -- Why the run is over with a command: too few places took the table, whose numbers are told, and each block outside them reads as it did; or the count would reach its limit, and nothing was done.
 abbrev pub GivesUp : Outcomes → Host → Kept → Command → Ended → Kept → Type 0
-GivesUp calls host kept (Create slices force count blocks) (ended.Lost active listed) next = LeavesPlaces calls host (lines_asked host slices) count blocks active listed kept next
+GivesUp calls host kept (AddPlaces slices force count blocks) (ended.Lost active listed) next = LeavesPlaces calls host (lines_asked host slices) count blocks active listed kept next
 GivesUp calls host kept (command.MakeStripe volume slice) (ended.Lost active listed) next =
     (o : Opened) × (kept.memory.opened ≡ Some o) × LeavesTable calls host o (table_after host.drives (MakeStripe volume slice) o.table) active listed kept next
 GivesUp calls host kept (command.MakeStripe volume slice) ended.Spent next = AreCalm calls × (o : Opened) × (kept.memory.opened ≡ Some o) × (2 ^ 63 ≤ o.mark.count + 1) × Stays kept next
@@ -146,8 +156,8 @@ pub data KeepsTab (calls : Outcomes) (kept : Kept) (lines : List ℕ) (answer : 
   unfit : AreCalm calls → (refusal : Refusal) → IsTabRefusal lines refusal → IsTurnedDown refusal kept answer next → KeepsTab calls kept lines answer next
   unread : AreCalm calls → answer ≡ refusing OutOfMemory → Stays kept next → KeepsTab calls kept lines answer next
 
--- what a line comes to, or a `tab` block
+-- what a line comes to, or a `tab` block; a command by what it means with the entries that are kept
 abbrev pub ComesTo : Outcomes → Host → Kept → Line → Answer → Kept → Type 0
 ComesTo calls host kept words.Boot answer next = IsRebooted calls host kept answer next
 ComesTo calls host kept (words.Tab lines) answer next = KeepsTab calls kept lines answer next
-ComesTo calls host kept (words.Exec command) answer next = CameTo calls host kept command answer next
+ComesTo calls host kept (words.Exec command) answer next = CameTo calls host kept (meant kept.memory.entries command) answer next

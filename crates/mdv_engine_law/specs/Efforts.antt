@@ -6,18 +6,19 @@ use Rattle.mdv_shelf.specs.Failing.{Outcomes}
 use Rattle.mdv_shelf.specs.Made.{Made, and_more}
 use Rattle.mdv_look.specs.Looking.{reads_by}
 use Rattle.mdv_store.specs.Boot.{IsEndBy, is_memory}
-use Rattle.mdv_store.specs.BootCounts.{IsAnewCounted, blocks_at, calls_at, most_blocks, most_calls, most_reads}
+use Rattle.mdv_store.specs.BootCounts.{IsAnewCounted, blocks_at, blocks_by, calls_at, calls_by, most_blocks, most_calls, most_reads}
 use Rattle.mdv_store.specs.Booting.{has_written}
 use Rattle.mdv_store.specs.Counts.{drives_lost}
 use Rattle.mdv_acts.specs.Asked.{blanked_asked}
 use Rattle.mdv_store.specs.Create.{seats_asked}
+use Rattle.mdv_store.specs.Progress.{Progress}
 use Rattle.mdv_store.specs.Text.{blocks_for}
 use Rattle.mdv_store.specs.declared.booting.BootEnd.TheVariants as end
 use Rattle.mdv_survey.specs.Counts.{AreLinesBy}
 use Rattle.mdv_survey.specs.declared.replica.Survey.{Survey}
 use Rattle.mdv_words.specs.declared.command.Command.TheVariants.{MakeStripe, Print}
 use Rattle.mdv_words.specs.Line as words
-use Rattle.mdv_engine_law.specs.Below.{BootEnd, Command, Create, Drives, IoFault, Line, Opened, OutOfMemory, Read, Seat, SliceLine, Table, Write, active_of, record_text}
+use Rattle.mdv_engine_law.specs.Below.{BootEnd, Command, AddListed, AddPlaces, DropPlaces, Drives, IoFault, Line, Opened, OutOfMemory, Read, Seat, SliceLine, Table, Write, active_of, meant, record_text}
 use Rattle.mdv_engine_law.specs.declared.answer.Answer.{Answer}
 use Rattle.mdv_engine_law.specs.declared.answer.Answer.TheVariants.{Said, Over}
 use Rattle.mdv_engine_law.specs.declared.answer.Ended.TheVariants as ended
@@ -49,7 +50,7 @@ pub record CreationCalls (made : Made) (lines : List SliceLine) (count blocks : 
 
 -- the calls of a creation that is done, and of a change, by what was open before and what is then
 abbrev pub MadeCallsOf : Made → Command → Host → Option Opened → Option Opened → Type 0
-MadeCallsOf made (Create slices force count blocks) host old (Some o) = CreationCalls made (lines_asked host slices) count blocks o
+MadeCallsOf made (AddPlaces slices force count blocks) host old (Some o) = CreationCalls made (lines_asked host slices) count blocks o
 MadeCallsOf made (MakeStripe volume slice) host (Some old) (Some o) = PassCalls made (blocks_for (length (record_text o.table))) old.seats o.seats
 MadeCallsOf made (Read volume at count) host old new = made.exactly 1 0
 MadeCallsOf made (Write volume at block) host old new = made.exactly 2 1
@@ -58,7 +59,9 @@ MadeCallsOf made other host old new = ⊥
 
 -- the calls of a command in which memory was wanting: a read has its blocks before the text of them is made, all else none
 abbrev pub wanting_calls : Command → ℕ
-wanting_calls (Create slices force count blocks) = 0
+wanting_calls (AddPlaces slices force count blocks) = 0
+wanting_calls (AddListed number force) = 0
+wanting_calls (DropPlaces slices force) = 0
 wanting_calls (MakeStripe volume slice) = 0
 wanting_calls (Read volume at count) = 1
 wanting_calls (Write volume at block) = 0
@@ -66,7 +69,9 @@ wanting_calls (Print names) = 0
 
 -- Where a call failed and it is told: a creation has failed in its formats; a change ends the run instead.
 abbrev pub FaultCalls : Made → Command → Host → Type 0
-FaultCalls made (Create slices force count blocks) host = made.within 1 (2 * blanked_asked (lines_asked host slices) count + 6 * places_on (lines_asked host slices) count) (blanked_asked (lines_asked host slices) count + 5 * places_on (lines_asked host slices) count)
+FaultCalls made (AddPlaces slices force count blocks) host = made.within 1 (2 * blanked_asked (lines_asked host slices) count + 6 * places_on (lines_asked host slices) count) (blanked_asked (lines_asked host slices) count + 5 * places_on (lines_asked host slices) count)
+FaultCalls made (AddListed number force) host = ⊥
+FaultCalls made (DropPlaces slices force) host = ⊥
 FaultCalls made (MakeStripe volume slice) host = ⊥
 FaultCalls made (Read volume at count) host = made.within 1 1 0
 FaultCalls made (Write volume at block) host = made.within 1 2 1
@@ -74,7 +79,7 @@ FaultCalls made (Print names) host = ⊥
 
 -- Where too few places took a table: a creation's formats were made, and a change made a call.
 abbrev pub LossCalls : Made → Command → Host → Option Opened → Type 0
-LossCalls made (Create slices force count blocks) host old =
+LossCalls made (AddPlaces slices force count blocks) host old =
     made.within (2 * blanked_asked (lines_asked host slices) count + 6 * places_on (lines_asked host slices) count + 1) (2 * blanked_asked (lines_asked host slices) count + 12 * places_on (lines_asked host slices) count) (blanked_asked (lines_asked host slices) count + 4103 * places_on (lines_asked host slices) count)
 LossCalls made (MakeStripe volume slice) host (Some o) = made.within 1 (6 * active_of o.seats) (4096 * active_of o.seats)
 LossCalls made other host old = ⊥
@@ -103,15 +108,17 @@ EndCalls made reads end.Memory = Unit {0}
 abbrev pub looks_of : Host → (up calm : Drives) → ℕ
 looks_of host up calm = 2 * length host.site.drives + reads_by host.site up calm
 
--- Behind so many calls of its looks at most two calls are made for a claim and six for the table at each of these places that was found, with a claim, two gates and the table's text; and where it has two lists six again at each of the new one; one at least.
-abbrev pub HandCalls : Made → ℕ → List Seat → Table → Type 0
-HandCalls made looks seats table = made.within 1 (looks + calls_at seats table) (blocks_at seats table)
+-- Behind the calls of its looks at most two calls are made for a claim and six for the table at each of these places that was found, with a claim, two gates and the table's text; and where it has two lists six again at each of the new one; one at least.
+-- Where none failed they were just so many, and those of the looks as many as they read.
+pub record HandCalls (made : Made) (host : Host) (content : Image) (up calm : Drives) (clean : Bool) (seats : List Seat) (table : Table) (progress : Progress) : Type 0 where
+  pub within : made.within 1 (looks_of host up calm + calls_at seats table) (blocks_at seats table)
+  pub exactly : clean ≡ true → (reads : ℕ) × AreLinesBy host.drives host.site up no_drives content host.site.lines reads × made.exactly (2 * length host.site.drives + reads + calls_by seats progress) (blocks_by seats table progress)
 
 -- Its end is by what its looks read; it made no more calls than these, and those by which it wrote to the places that it has in hand.
-pub record EndsByCalls (calls : Outcomes) (made : Made) (host : Host) (content : Image) (up : Drives) (end : BootEnd) : Type 0 where
+pub record EndsByCalls (calls : Outcomes) (made : Made) (host : Host) (content : Image) (up : Drives) (clean : Bool) (end : BootEnd) : Type 0 where
   pub survey : Survey
   pub read : IsReadOf calls host content up end survey
-  pub by_hand : IsEndBy calls (λ hand table gone. HandCalls made (looks_of host up read.calm) hand.seats table) host.site survey end
+  pub by_hand : IsEndBy calls (λ hand table progress. HandCalls made host content up read.calm clean hand.seats table progress) host.site survey end
   pub still : has_written end ≡ false → made.within 0 (looks_of host up read.calm) 0
 
 -- A boot reads a block of each of the host's drives and syncs it, and each head and each body of an open slot once, where no call failed; and then writes to each active place. Whatever failed, its looks make no more calls than so many looks could take as there are drives of which a read failed, and one; where it
@@ -124,7 +131,7 @@ pub record BootCalls (calls : Outcomes) (made : Made) (host : Host) (answer : An
   pub clean : Bool
   pub by : IsUpBy calls host end up clean
   pub tied : answer ≡ accepted → (memory.opened ≡ opened_by end) × (memory.up ≡ up) × (memory.clean ≡ clean)
-  pub by_hand : (is_memory end ≡ true) ⊎ EndsByCalls calls made host content up end
+  pub by_hand : (is_memory end ≡ true) ⊎ EndsByCalls calls made host content up clean end
   pub still : has_written end ≡ false → made.within 0 (2 * length host.site.drives + most_reads host.site) 0
   pub wrote : has_written end ≡ true → made.wrote
   pub exactly : clean ≡ true → (reads : ℕ) × AreLinesBy host.drives host.site up no_drives content host.site.lines reads × EndCalls made (2 * length host.site.drives + reads) end
@@ -133,7 +140,7 @@ pub record BootCalls (calls : Outcomes) (made : Made) (host : Host) (answer : An
 abbrev pub LineCalls : Outcomes → Made → Host → Kept → Line → Answer → Kept → Type 0
 LineCalls calls made host kept words.Boot answer next = BootCalls calls made host answer next.memory kept.content
 LineCalls calls made host kept (words.Tab lines) answer next = NoCalls made
-LineCalls calls made host kept (words.Exec command) answer next = CommandCalls made host command answer kept.memory.opened next.memory.opened
+LineCalls calls made host kept (words.Exec command) answer next = CommandCalls made host (meant kept.memory.entries command) answer kept.memory.opened next.memory.opened
 
 -- with the one call of its reply, where it has one
 abbrev pub replied_to : Answer → Made → Made

@@ -4,7 +4,7 @@ use Rattle.std.specs.List.{flat_map, list_any}
 use Rattle.mdv_home.specs.View.{own_view}
 use Rattle.mdv_plan.specs.Slices.{meets_db}
 use Rattle.mdv_name.specs.SliceIndex.{slice_at}
-use Rattle.mdv_engine_law.specs.Below.{Area, Geometry, Identity, IsGeometry, IsOnShelf, IsSound, Key, KeptOutside, Local, Opened, SliceAt, SliceLine, SliceName, Tale, covers, joined, nowhere, range, seats_area, site_area, site_of, sizes_of}
+use Rattle.mdv_engine_law.specs.Below.{Area, Geometry, Identity, IsGeometry, IsOnShelf, IsSound, Key, KeptOutside, Local, Opened, Replicas, SliceAt, SliceLine, SliceName, Tale, covers, joined, nowhere, range, seats_area, site_area, site_of, sizes_of}
 use Rattle.mdv_engine_law.specs.declared.host.Host.{Host}
 
 -- the key of the host's own database
@@ -22,6 +22,11 @@ lines_asked host slices = flat_map (λ slice. line_at slice (slice_at host.drive
 -- the blocks of so many replicas of so many blocks each, on each of these slices
 abbrev pub places_area : List SliceLine → ℕ → ℕ → Area
 places_area lines count blocks drive block = list_any (λ (line : SliceLine). range line.at.drive.0 (line.at.start + 16) (count * blocks) drive block) lines
+
+-- those that an entry says
+abbrev pub listed_area : Host → Option Replicas → Area
+listed_area host None = nowhere
+listed_area host (Some r) = places_area (lines_asked host r.slices) r.count r.blocks
 
 -- those of the active places of the open database, and none where no database is
 abbrev pub opened_area : Option Opened → Area

@@ -4,6 +4,7 @@ pub mod Answers
 pub mod Hosts
 pub mod Awake
 pub mod Line
+pub mod Places
 pub mod Refusals
 pub mod Commands
 pub mod Efforts

@@ -9,15 +9,17 @@ use Rattle.mdv_store.specs.Booting.{boot_area, has_written}
 use Rattle.mdv_store.specs.Commit as commit
 use Rattle.mdv_store.specs.Create as create
 use Rattle.mdv_acts.specs.Asked.{drives_asked}
+use Rattle.mdv_store.specs.Progress.{Claimed, Progress, Rewritten, Settled}
 use Rattle.mdv_store.specs.Seats.{drives_of}
 use Rattle.mdv_store.specs.declared.booting.BootEnd.TheVariants as end
 use Rattle.mdv_survey.specs.Replica.{at_of}
 use Rattle.mdv_survey.specs.Survey.{IsSurvey, IsSurveyOf}
 use Rattle.mdv_survey.specs.declared.replica.Replica.{Replica}
 use Rattle.mdv_survey.specs.declared.replica.Survey.{Survey}
+use Rattle.mdv_table.specs.Plan.{settled}
 use Rattle.mdv_words.specs.declared.command.Command.TheVariants as command
 use Rattle.mdv_words.specs.Line as words
-use Rattle.mdv_engine_law.specs.Below.{Area, BootEnd, Changed, Command, Create, Created, Deed, DriveBlock, DriveNo, Drives, Entry, Geometry, Head, Identity, Image, IsMapOf, IsNewestOf, IsOwn, Key, Line, MakeStripe, OfPlan, Opened, Read, Refusal, Seat, SliceLine, Slot, Spells, Table, Tale, VolId, Write, Wrote, covers, has_drive, last, no_drives, replicas_of, run_map, seats_area, site_of}
+use Rattle.mdv_engine_law.specs.Below.{Area, BootEnd, Changed, Command, Created, Deed, DriveBlock, DriveNo, Drives, Entry, Geometry, Head, Identity, Image, IsMapOf, IsNewestOf, IsOwn, Key, Line, MakeStripe, OfPlan, Opened, Read, Refusal, Seat, SliceLine, Slot, Spells, Table, Tale, VolId, Write, Wrote, covers, has_drive, last, no_drives, replicas_of, run_map, seats_area, site_of, AddListed, AddPlaces, DropPlaces}
 use Rattle.mdv_engine_law.specs.declared.answer.Answer.{Answer}
 use Rattle.mdv_engine_law.specs.declared.answer.Answer.TheVariants.{Over}
 use Rattle.mdv_engine_law.specs.declared.answer.Ended.TheVariants as ended
@@ -63,9 +65,13 @@ pub record Stays (kept next : Kept) : Type 0 where
   pub memory : next.memory ≡ kept.memory
   pub content : IsSame kept.content next.content
 
+-- each active place has its replica there
+abbrev pub AreThere : Geometry → Key → Identity → List Seat → Image → Type 0
+AreThere g key identity seats content = (r : Replica) → Contains (replicas_of seats) r → IsOwn (Spells g) (site_of g key) identity r.line r.number content r.first r.head
+
 -- each active place of the database has its replica there, which shows the table as its newest one under the mark
 pub record IsOpenOn (g : Geometry) (o : Opened) (content : Image) : Type 0 where
-  pub each : (r : Replica) → Contains (replicas_of o.seats) r → IsOwn (Spells g) (site_of g o.key) o.identity r.line r.number content r.first r.head
+  pub each : AreThere g o.key o.identity o.seats content
   pub shown : (r : Replica) → Contains (replicas_of o.seats) r → (slot : Slot) × IsNewestOf (Spells g) (at_of r) (content r.line.at.drive.0) r.head slot o.mark o.table
 
 -- no replica of the key shows a table
@@ -177,10 +183,21 @@ IsLeftBy g other content = Unit {0}
 abbrev pub WritesTo : Image → Image → List Seat → Type 0
 WritesTo old new seats = IsSameBeside (seats_area seats) old new
 
--- and so it was by a boot; these of them, which the new list of two lacks, show the table then under the number's first mark
-pub record WritesBy (g : Geometry) (key : Key) (old new : Image) (identity : Identity) (number : ℕ) (seats : List Seat) (table : Table) (gone : List Seat) : Type 0 where
+-- the database with the table under this mark of the number, at these places
+abbrev pub open_under : Key → Identity → (number count : ℕ) → Table → List Seat → Opened
+open_under key identity number count table seats = record { key = key; identity = identity; mark = record { boot = number; count = count }; table = table; seats = seats }
+
+-- The places that a boot's writes left hold what was written: the claim; or the table, under the number's first mark; or that with its new list alone, under the second one, and those that this list lacks still the first one.
+abbrev pub LeftHoldOn : Geometry → Key → Identity → ℕ → Table → Progress → Image → Type 0
+LeftHoldOn g key identity number table (Claimed now) content = AreThere g key identity now content
+LeftHoldOn g key identity number table (Rewritten now) content = IsOpenOn g (open_under key identity number 0 table now) content
+LeftHoldOn g key identity number table (Settled last gone) content =
+    IsOpenOn g (open_under key identity number 1 (settled table) last) content × IsOpenOn g (open_under key identity number 0 table gone) content
+
+-- and so it was by a boot; and the places that are left hold it
+pub record WritesBy (g : Geometry) (key : Key) (old new : Image) (identity : Identity) (number : ℕ) (seats : List Seat) (table : Table) (progress : Progress) : Type 0 where
   pub to : WritesTo old new seats
-  pub shows : IsOpenOn g (record { key = key; identity = identity; mark = record { boot = number; count = 0 }; table = table; seats = gone }) new
+  pub hold : LeftHoldOn g key identity number table progress new
 
 -- Which drives a boot brought up, and whether no call failed in it: of the host's drives all but some on which one failed, and no other; one on which it failed later is up. On each of them just one failed, or none, if memory wasn't wanting; and where none failed on any the boot is clean.
 pub record IsUpBy (calls : Outcomes) (host : Host) (end : BootEnd) (up : Drives) (clean : Bool) : Type 0 where
@@ -206,7 +223,7 @@ pub record IsRebooted (calls : Outcomes) (host : Host) (kept : Kept) (answer : A
   pub up : Drives
   pub clean : Bool
   pub up_by : IsUpBy calls host end up clean
-  pub by : (is_memory end ≡ true) ⊎ ((survey : Survey) × IsReadOf calls host kept.content up end survey × IsEndBy calls (λ hand table gone. WritesBy host.drives host.site.key kept.content next.content hand.identity hand.number hand.seats table gone) host.site survey end)
+  pub by : (is_memory end ≡ true) ⊎ ((survey : Survey) × IsReadOf calls host kept.content up end survey × IsEndBy calls (λ hand table progress. WritesBy host.drives host.site.key kept.content next.content hand.identity hand.number hand.seats table progress) host.site survey end)
   pub answer_is : answer ≡ answered_by end
   pub memory : answer ≡ accepted → next.memory ≡ booted_with (opened_by end) up clean kept.memory.begun
   pub content : IsLeftBy host.drives end next.content
@@ -216,18 +233,21 @@ pub record IsRebooted (calls : Outcomes) (host : Host) (kept : Kept) (answer : A
 abbrev pub IsTurnedDown : Refusal → Kept → Answer → Kept → Type 0
 IsTurnedDown refusal kept answer next = (answer ≡ refusing refusal) × Stays kept next
 
--- what a line asks: nothing; a boot, by which nothing is acknowledged; a database with so many replicas of so many blocks on each of these slices; another deed; or what so many blocks of a
--- volume hold, from that one on
+-- what a line asks: nothing; a boot, by which nothing is acknowledged; a database with so many replicas of so many blocks on each of these slices, or as the kept entry of that number says; another deed; or what
+-- so many blocks of a volume hold, from that one on
 pub data Ask : Type 0 where
   Nothing : Ask
   ToBoot : Ask
   ToMake : Key → List SliceLine → ℕ → ℕ → Ask
+  ToMakeListed : Key → ℕ → Ask
   ToDo : Deed → Ask
   ToSee : Key → VolId → ℕ → ℕ → Ask
 
--- what a command asks of the host's own database
+-- what a command asks of the host's own database; that places go asks nothing yet
 abbrev pub asked_by : Host → Command → Ask
-asked_by host (Create slices force count blocks) = ToMake (key_of host) (lines_asked host slices) count blocks
+asked_by host (AddPlaces slices force count blocks) = ToMake (key_of host) (lines_asked host slices) count blocks
+asked_by host (AddListed number force) = ToMakeListed (key_of host) number
+asked_by host (DropPlaces slices force) = Nothing
 asked_by host (command.MakeStripe volume slice) = ToDo (Changed (key_of host) (OfPlan (MakeStripe volume slice)))
 asked_by host (Read volume at count) = ToSee (key_of host) volume at count
 asked_by host (Write volume at block) = ToDo (Wrote (key_of host) volume at (block ∷ []))
@@ -244,5 +264,6 @@ abbrev pub deeds : Ask → List Deed
 deeds Nothing = []
 deeds ToBoot = []
 deeds (ToMake key lines count blocks) = Created key ∷ []
+deeds (ToMakeListed key number) = Created key ∷ []
 deeds (ToDo deed) = deed ∷ []
 deeds (ToSee key volume at count) = []

@@ -1,18 +1,20 @@
 -- Why a command is refused before anything is done: each cause by itself, and the first of them in the one order.
-use Rattle.std.specs.Prelude.{◌≡◌, ℕ, Bool, true, false, not, ◌==◌, ◌&&◌, ◌||◌, ◌+◌, ◌*◌, nat_lt, List, [], ◌∷◌, ◌++◌, length, Option, None, Some, is_some}
+use Rattle.std.specs.Prelude.{◌≡◌, ℕ, Bool, true, false, not, ◌==◌, ◌&&◌, ◌||◌, ◌+◌, ◌*◌, nat_lt, if◌then◌else◌, List, [], ◌∷◌, ◌++◌, length, Option, None, Some, is_some}
 use Rattle.std.specs.List.{find, list_any}
 use Rattle.mdv_base.specs.Order.{first_refusal, where_so}
-use Rattle.mdv_engine_law.specs.Below.{BadLine, Place, SliceName, VolId, Refusal, NoDatabase, NeedForce, Named, NoSuchVolume, NoSuchPool, NoSuchSlice, SliceInUse, TooSmall, TooMany, WrongKind, WrongState, OutOfRange, ReplicaFull, Down, SliceAt, record_text, PlanChange, MakeStripe, Volume, VolumeKind, Command, Create, Read, Write, Opened}
+use Rattle.mdv_engine_law.specs.Below.{BadLine, Place, SliceName, VolId, Refusal, NoDatabase, NeedForce, Named, NoSuchVolume, NoSuchPool, NoSuchSlice, SliceInUse, TooSmall, TooMany, WrongKind, WrongState, OutOfRange, ReplicaFull, Down, SliceAt, record_text, PlanChange, MakeStripe, Volume, VolumeKind, Command, Read, Write, Opened, Absent, Inactive, StateWord, Drives, has_drive, AddListed, AddPlaces, DropPlaces}
 use Rattle.mdv_name.specs.SliceIndex.{same_slice, slice_at}
 use Rattle.mdv_base.specs.declared.name.Named.TheVariants as named
 use Rattle.mdv_table.specs.Change as table
 use Rattle.mdv_plan.specs.Slices.{meets_db}
-use Rattle.mdv_table.specs.Plan.{places_of}
 use Rattle.mdv_table.specs.Volumes.{has_volume}
 use Rattle.mdv_table.specs.declared.volume.VolumeKind.TheVariants as kind
 use Rattle.mdv_words.specs.declared.command.Command.TheVariants as command
 use Rattle.mdv_engine_law.specs.declared.host.Host.{Host}
 use Rattle.mdv_engine_law.specs.Line.{Memory, record_room}
+use Rattle.mdv_engine_law.specs.Places.{bytes_with, is_empty, list_left, list_less, list_more, list_of, room_with}
+use Rattle.mdv_store.specs.Shares.{short_in}
+use Rattle.mdv_store.specs.declared.seats.Need.TheVariants.{Half}
 
 -- what a command is judged by: the host, and what its engine has in memory
 pub record Case : Type 0 where
@@ -32,7 +34,7 @@ blocks_at (Some at) = at.blocks
 -- the places that the open database has already
 abbrev pub places_open : Option Opened → List Place
 places_open None = []
-places_open (Some o) = places_of o.table.plan.lists
+places_open (Some o) = list_of o
 
 -- a replica of the open database lies on the slice
 abbrev pub has_replica : Option Opened → SliceName → Bool
@@ -66,13 +68,74 @@ held_of_replicas case slices force count blocks =
     ++ (where_so (list_any (is_taken case) slices || is_doubled slices) SliceInUse
     ++ where_so (list_any (is_short case.host count blocks) slices) TooSmall)))))
 
--- to a database that is open nothing can be added yet, where nothing else speaks against it
+-- a record of both lists that is too long, where this list comes
+abbrev pub held_of_lists : Opened → List Place → List Refusal
+held_of_lists o list = where_so (nat_lt (room_with o list) (bytes_with o list)) (ReplicaFull (bytes_with o list) (room_with o list))
+
+-- of so many places more on these slices
+abbrev pub held_of_others : Option Opened → List SliceName → ℕ → ℕ → List Refusal
+held_of_others None slices count blocks = []
+held_of_others (Some o) slices count blocks = held_of_lists o (list_more slices count blocks (list_of o))
+
+-- the places of a database that is open can't be changed yet, where nothing else speaks against it
 abbrev pub held_of_more : Option Opened → List Refusal → List Refusal
 held_of_more (Some o) [] = BadLine ∷ []
 held_of_more opened held = held
 
 abbrev pub held_of_creation : Case → List SliceName → Bool → ℕ → ℕ → List Refusal
-held_of_creation case slices force count blocks = held_of_more case.memory.opened (held_of_replicas case slices force count blocks)
+held_of_creation case slices force count blocks = held_of_more case.memory.opened (held_of_replicas case slices force count blocks ++ held_of_others case.memory.opened slices count blocks)
+
+-- no place of the open database lies on the slice
+abbrev pub is_without : Opened → SliceName → Bool
+is_without o slice = not (list_any (λ (p : Place). same_slice p.slice slice) (list_of o))
+
+-- whether the last boot brought the drive up on which the slice lies
+abbrev pub is_up_at : Drives → Option SliceAt → Bool
+is_up_at up None = false
+is_up_at up (Some at) = has_drive up at.drive
+
+abbrev pub is_down : Host → Drives → Place → Bool
+is_down host up p = not (is_up_at up (slice_at host.drives.slices p.slice))
+
+-- no place would be left
+abbrev pub are_all : Opened → List SliceName → Bool
+are_all o slices = is_empty (list_less slices (list_of o))
+
+-- the list that would come
+abbrev pub rest_of : Opened → List SliceName → List Place
+rest_of o slices = list_left slices (list_of o)
+
+-- What speaks against it by the state of places: a slice has none; of all places one whose drive the last boot didn't bring up; of the list that comes, which is the first place alone where all go, fewer than half
+-- is active.
+abbrev pub state_of_less : Case → Opened → List SliceName → Option StateWord
+state_of_less case o slices =
+    if list_any (is_without o) slices then Some Absent else
+    if are_all o slices && list_any (is_down case.host case.memory.up) (list_of o) then Some Down else
+    if is_some (short_in Half o.seats (rest_of o slices)) then Some Inactive else None
+
+abbrev pub in_state : Option StateWord → List Refusal
+in_state None = []
+in_state (Some word) = WrongState word ∷ []
+
+-- No replica any more on these slices: no such slice; one for other uses; the state of places; all places without force.
+abbrev pub held_of_less : Case → Opened → List SliceName → Bool → List Refusal
+held_of_less case o slices force =
+    where_so (list_any (is_missing case.host) slices) NoSuchSlice
+    ++ (where_so (list_any (λ slice. is_plain (slice_at case.host.drives.slices slice)) slices) WrongKind
+    ++ (in_state (state_of_less case o slices)
+    ++ where_so (are_all o slices && not force) NeedForce))
+
+-- what is told where nothing else speaks against it that this list comes beside that of the open database, or these places
+abbrev pub told_of_lists : Opened → List Place → Refusal
+told_of_lists o list = if nat_lt (room_with o list) (bytes_with o list) then ReplicaFull (bytes_with o list) (room_with o list) else BadLine
+
+abbrev pub told_of_others : Option Opened → List SliceName → ℕ → ℕ → Option Refusal
+told_of_others None slices count blocks = None
+told_of_others (Some o) slices count blocks = Some (told_of_lists o (list_more slices count blocks (list_of o)))
+
+abbrev pub held_of_drop : Case → Option Opened → List SliceName → Bool → List Refusal
+held_of_drop case None slices force = NoDatabase ∷ []
+held_of_drop case (Some o) slices force = held_of_more (Some o) (held_of_less case o slices force ++ held_of_lists o (rest_of o slices))
 
 -- how long the record of the table would be that the change makes
 abbrev pub bytes_after : Host → Opened → PlanChange → ℕ
@@ -137,9 +200,11 @@ print_refusal opened names = first_refusal (held_of_print opened names)
 abbrev pub read_refusal : Option Opened → VolId → ℕ → ℕ → Option Refusal
 read_refusal opened volume at count = first_refusal (held_of_read opened volume at count)
 
--- the refusals of a command whose causes hold
+-- The refusals of a command whose causes hold. Of an entry there is one alone, that no such one is kept: where one is, the command is another one (`meant`).
 abbrev pub held : Case → Command → List Refusal
-held case (Create slices force count blocks) = held_of_creation case slices force count blocks
+held case (AddPlaces slices force count blocks) = held_of_creation case slices force count blocks
+held case (AddListed number force) = BadLine ∷ []
+held case (DropPlaces slices force) = held_of_drop case case.memory.opened slices force
 held case (command.MakeStripe volume slice) = held_of_change case.host case.memory.opened (MakeStripe volume slice)
 held case (Read volume at count) = held_of_read case.memory.opened volume at count
 held case (Write volume at block) = held_of_blocks case.memory.opened volume (at + 1)

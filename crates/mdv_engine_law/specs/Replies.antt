@@ -14,7 +14,7 @@ use Rattle.mdv_engine_law.specs.declared.answer.Ended.TheVariants as ended
 use Rattle.mdv_engine_law.specs.declared.answer.Outcome.{Outcome}
 use Rattle.mdv_engine_law.specs.declared.answer.Outcome.TheVariants as outcome
 use Rattle.mdv_engine_law.specs.declared.answer.Reply.{Reply}
-use Rattle.mdv_engine_law.specs.Line.{Ask, Nothing, ToBoot, ToDo, ToMake, ToSee, deeds}
+use Rattle.mdv_engine_law.specs.Line.{Ask, Nothing, ToBoot, ToDo, ToMake, ToMakeListed, ToSee, deeds}
 use Rattle.mdv_engine_law.specs.declared.answer.Reply.TheVariants as reply
 
 abbrev pub refusal_line : Refusal → List ℕ
@@ -94,6 +94,7 @@ abbrev pub AcksBy : Ask → List ℕ → List Deed → Type 0
 AcksBy Nothing reply done = done ≡ []
 AcksBy ToBoot reply done = done ≡ []
 AcksBy (ToMake key lines count blocks) reply done = done ≡ (if bytes_eq reply ok_line then Created key ∷ [] else [])
+AcksBy (ToMakeListed key number) reply done = done ≡ (if bytes_eq reply ok_line then Created key ∷ [] else [])
 AcksBy (ToDo deed) reply done = done ≡ (if bytes_eq reply ok_line then deed ∷ [] else [])
 AcksBy (ToSee key volume at count) reply done = (IsRefusal reply × (done ≡ [])) ⊎ TellsValues key volume at count reply done
 
@@ -114,6 +115,7 @@ abbrev pub AcksFront : Ask → List ℕ → List Deed → Type 0
 AcksFront Nothing bytes done = done ≡ []
 AcksFront ToBoot bytes done = done ≡ []
 AcksFront (ToMake key lines count blocks) bytes done = done ≡ []
+AcksFront (ToMakeListed key number) bytes done = done ≡ []
 AcksFront (ToDo deed) bytes done = done ≡ []
 AcksFront (ToSee key volume at count) bytes done = (IsRefusalFront bytes × (done ≡ [])) ⊎ TellsFront key volume at count bytes done
 

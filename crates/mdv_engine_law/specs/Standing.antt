@@ -1,6 +1,6 @@
 -- How the drives stand with their history at each moment of a line.
 use Rattle.std.specs.Prelude.{◌≡◌, ◌⊎◌, ◌<◌, ℕ, Bool, ◌-◌, true, false, List, [], ◌∷◌, ◌++◌, length, slice_index_or, take, None, IfSome, Contains}
-use Rattle.mdv_engine_law.specs.Below.{Command, Create, Database, Write, DriveBlock, DriveNo, Drives, has_drive, IsOldOrNew, IsSettled, KeptOutside, covers, nowhere, range, Wrote, Tale, told, MayLeave, last, Line, Changed, VolId, Map, IsMapOf, area_of_map, HasNoTable, IsOpenIn, IsOpenedAt, site_area, History, Deed, Created, Event, history_after, Adds, AreWoken, CanTell, Issue, KeepsPlaces, OfChange, OfCreation, OfEnd, OfPlaces}
+use Rattle.mdv_engine_law.specs.Below.{Command, Database, Write, DriveBlock, DriveNo, Drives, has_drive, IsOldOrNew, IsSettled, KeptOutside, covers, nowhere, range, Wrote, Tale, told, MayLeave, last, Line, Changed, VolId, Map, IsMapOf, area_of_map, HasNoTable, IsOpenIn, IsOpenedAt, site_area, History, Deed, Created, Event, history_after, Adds, AreWoken, CanTell, Issue, KeepsPlaces, OfChange, OfCreation, OfEnd, OfPlaces, AddPlaces, listed_by}
 use Rattle.mdv_store_law.specs.Machine as machine
 use Rattle.mdv_shelf.specs.Calls.{OnDrive}
 use Rattle.mdv_shelf.specs.Made.{Made}
@@ -14,12 +14,12 @@ use Rattle.mdv_engine_law.specs.declared.host.Host.{Host}
 use Rattle.mdv_engine_law.specs.Answers.{IsMereRefusal}
 use Rattle.mdv_engine_law.specs.Awake.{Happening, BootBegins, is_in}
 use Rattle.mdv_shelf.specs.Failing.{Outcomes}
-use Rattle.mdv_engine_law.specs.Hosts.{StaysHome, identity_of, key_of, lines_asked, opened_area, places_area, plain_area}
+use Rattle.mdv_engine_law.specs.Hosts.{StaysHome, identity_of, key_of, lines_asked, listed_area, opened_area, places_area, plain_area}
 use Rattle.mdv_store.specs.Create.{seats_asked}
 use Rattle.mdv_store.specs.Seats.{AreTheirs}
 use Rattle.mdv_engine_law.specs.Commands.{ComesTo}
 use Rattle.mdv_engine_law.specs.Efforts.{LineCalls, replied_to}
-use Rattle.mdv_engine_law.specs.Line.{Ask, AreBlocksAt, Kept, Nothing, ToBoot, ToDo, ToMake, ToSee, Memory, IsSame, asked_by_line, deeds, contents, kept_at}
+use Rattle.mdv_engine_law.specs.Line.{Ask, AreBlocksAt, Kept, Nothing, ToBoot, ToDo, ToMake, ToMakeListed, ToSee, Memory, IsSame, asked_by_line, deeds, contents, kept_at}
 use Rattle.mdv_engine_law.specs.Replies.{Acks, AcksAnswer, AcksBy, IsReply, IsFront, IsTold, issuable, issuable_of, issued_by, text_of}
 
 -- the drives stand with the history
@@ -120,6 +120,7 @@ abbrev pub WritesOnly : Host → Ask → Memory → Tale → Tale → Type 0
 WritesOnly host Nothing memory t m = KeptOutside nowhere t m
 WritesOnly host ToBoot memory t m = KeptOutside (site_area host.site) t m
 WritesOnly host (ToMake key lines count blocks) memory t m = KeptOutside (site_area host.site) t m × KeptOutside (places_area lines count blocks) t m
+WritesOnly host (ToMakeListed key number) memory t m = KeptOutside (site_area host.site) t m × KeptOutside (listed_area host (listed_by memory.entries number)) t m
 WritesOnly host (ToDo (Changed key change)) memory t m = KeptOutside (opened_area memory.opened) t m
 WritesOnly host (ToDo (Wrote key volume at blocks)) memory t m = KeptOutside nowhere t m ⊎ ((place : DriveBlock) × AreBlocksAt host memory volume at (length blocks) place × ArePutBy place blocks t m)
 WritesOnly host (ToDo other) memory t m = KeptOutside nowhere t m
@@ -132,7 +133,7 @@ LineWrites host line memory t m = WritesOnly host (asked_by_line host line) memo
 -- What a command leaves that was told `ok`: of a write its block on the disk, with all that the drive was given before; and of a creation at each of its places, whatever a crash leaves, a replica of the new database.
 abbrev pub LeavesDone : Host → Memory → Command → Tale → Type 0
 LeavesDone host memory (Write volume at block) u = (place : DriveBlock) × AreBlocksAt host memory volume at 1 place × IsSettled place.drive place.block (block ∷ []) u
-LeavesDone host memory (Create slices force count blocks) u =
+LeavesDone host memory (AddPlaces slices force count blocks) u =
     AreTheirs host.drives (key_of host) (identity_of host memory.begun) (seats_asked (key_of host) (identity_of host memory.begun) (lines_asked host slices) count blocks) u
 LeavesDone host memory other u = Unit {0}
 

@@ -1,4 +1,5 @@
 use mdv_base::{Block, DriveName, Named, PoolId, SliceName, VolId, ZERO_BLOCK};
+use mdv_tab::{Entry, TabFault, read_tab};
 use mdv_words::*;
 use std::alloc::Global;
 
@@ -30,7 +31,9 @@ const TWICE: &[SliceName] = &[SLICE, SLICE];
 enum Asked {
     Boot,
     Tab(&'static [u8]),
-    Create(&'static [SliceName], bool, u8, u32),
+    AddPlaces(&'static [SliceName], bool, u8, u32),
+    AddListed(u8, bool),
+    DropPlaces(&'static [SliceName], bool),
     Stripe(u16),
     Read(u64, u64),
     Write(&'static [u8]),
@@ -43,45 +46,62 @@ const LINES: &[(&[u8], Asked)] = &[
     (b"tab\n", Asked::Tab(b"")),
     (b"tab\nd1 1 1 c0t1d2s7\n", Asked::Tab(b"d1 1 1 c0t1d2s7\n")),
     (b"tab\n\n\x80\nboot\n", Asked::Tab(b"\n\x80\nboot\n")),
-    (b"metadb -a c0t1d2s7", Asked::Create(ONE, false, 1, 8192)),
+    (b"metadb -a c0t1d2s7", Asked::AddPlaces(ONE, false, 1, 8192)),
     (
         b" metadb\t-a  /dev/dsk/c0t1d2s7 ",
-        Asked::Create(ONE, false, 1, 8192),
+        Asked::AddPlaces(ONE, false, 1, 8192),
     ),
-    (b"metadb -a -f c0t1d2s7", Asked::Create(ONE, true, 1, 8192)),
-    (b"metadb -f -a c0t1d2s7", Asked::Create(ONE, true, 1, 8192)),
-    (b"metadb -fa c0t1d2s7", Asked::Create(ONE, true, 1, 8192)),
+    (
+        b"metadb -a -f c0t1d2s7",
+        Asked::AddPlaces(ONE, true, 1, 8192),
+    ),
+    (
+        b"metadb -f -a c0t1d2s7",
+        Asked::AddPlaces(ONE, true, 1, 8192),
+    ),
+    (b"metadb -fa c0t1d2s7", Asked::AddPlaces(ONE, true, 1, 8192)),
     (
         b"metadb -a -f -l 16 c0t1d2s7",
-        Asked::Create(ONE, true, 1, 16),
+        Asked::AddPlaces(ONE, true, 1, 16),
     ),
     (
         b"metadb -l 8192 -a c0t1d2s7",
-        Asked::Create(ONE, false, 1, 8192),
+        Asked::AddPlaces(ONE, false, 1, 8192),
     ),
     (
         b"metadb -afl4096 c0t1d2s7",
-        Asked::Create(ONE, true, 1, 4096),
+        Asked::AddPlaces(ONE, true, 1, 4096),
     ),
     (
         b"metadb -a -c 1 c0t1d2s7",
-        Asked::Create(ONE, false, 1, 8192),
+        Asked::AddPlaces(ONE, false, 1, 8192),
     ),
     (
         b"metadb -a -f -c 50 -l 64 c0t1d2s7",
-        Asked::Create(ONE, true, 50, 64),
+        Asked::AddPlaces(ONE, true, 50, 64),
     ),
     (
         b"metadb -ac2 c0t1d2s7 c0t2d2s0",
-        Asked::Create(TWO, false, 2, 8192),
+        Asked::AddPlaces(TWO, false, 2, 8192),
     ),
     (
         b"metadb -a c0t1d2s7\t/dev/rdsk/c0t2d2s0 ",
-        Asked::Create(TWO, false, 1, 8192),
+        Asked::AddPlaces(TWO, false, 1, 8192),
     ),
     (
         b"metadb -a -f c0t1d2s7 c0t1d2s7",
-        Asked::Create(TWICE, true, 1, 8192),
+        Asked::AddPlaces(TWICE, true, 1, 8192),
+    ),
+    (b"metadb -a mddb01", Asked::AddListed(1, false)),
+    (b"metadb -f\t-a mddb99 ", Asked::AddListed(99, true)),
+    (b"metadb -d c0t1d2s7", Asked::DropPlaces(ONE, false)),
+    (
+        b"metadb -df c0t1d2s7 /dev/dsk/c0t2d2s0",
+        Asked::DropPlaces(TWO, true),
+    ),
+    (
+        b"metadb -f -d c0t1d2s7 c0t1d2s7",
+        Asked::DropPlaces(TWICE, true),
     ),
     (b"metainit d0 1 1 c0t1d2s7", Asked::Stripe(0)),
     (b"metainit -f d8191 1 1 c0t1d2s7", Asked::Stripe(8191)),
@@ -135,8 +155,13 @@ const BAD: &[&[u8]] = &[
     b"metadb -a -f -c 2 -l 64",
     b"metadb -a c0t1d2s7 mddb01",
     b"metadb -a c0t1d2s7 d0",
-    b"metadb -a mddb01",
-    b"metadb -d c0t1d2s7",
+    b"metadb -a mddb1",
+    b"metadb -a -c 2 mddb01",
+    b"metadb -a mddb01 mddb02",
+    b"metadb -d mddb01",
+    b"metadb -d",
+    b"metadb -d -c 1 c0t1d2s7",
+    b"metadb -a -d c0t1d2s7",
     b"metadb -a",
     b"metadb -a c0t1d2s8",
     b"metainit -a",
@@ -204,15 +229,21 @@ fn block_of(bytes: &[u8]) -> Block {
 fn is_command(command: &Command, asked: &Asked) -> bool {
     match (command, asked) {
         (
-            Command::Create {
+            Command::AddPlaces {
                 slices,
                 force,
                 count,
                 blocks,
             },
-            Asked::Create(named, forced, number, length),
+            Asked::AddPlaces(named, forced, number, length),
         ) => {
             slices.as_slice() == *named && force == forced && count == number && blocks == length
+        }
+        (Command::AddListed { number, force }, Asked::AddListed(entry, forced)) => {
+            number == entry && force == forced
+        }
+        (Command::DropPlaces { slices, force }, Asked::DropPlaces(named, forced)) => {
+            slices.as_slice() == *named && force == forced
         }
         (Command::MakeStripe { volume, slice }, Asked::Stripe(number)) => {
             volume.0 == *number && *slice == SLICE
@@ -293,4 +324,40 @@ fn reads_up_to_512_pairs(rt: HostRuntime) {
     for (digits, want) in DIGITS {
         assert!(rt; is_read(rt.alloc(), *digits) == *want, "{digits} digits");
     }
+}
+
+// What the first entry of that number says of these lines: its slices, and how many replicas of how many blocks on each.
+const ENTRIES: &[(u8, Option<(&[SliceName], u8, u32)>)] = &[
+    (0, None),
+    (1, Some((ONE, 1, 8192))),
+    (2, Some((TWO, 50, 8192))),
+    (3, Some((TWICE, 1, 16))),
+    (4, Some((ONE, 3, 4096))),
+    (5, None),
+];
+
+const BLOCK: &[u8] =
+    b"d1 1 1 c0t1d2s7\nmddb01 c0t1d2s7\nmddb02 -c 50 c0t1d2s7 c0t2d2s0\nmddb01 -c 2 c0t2d2s0\nmddb03 -l 16 c0t1d2s7 c0t1d2s7\nmddb04 -l 4096 -c 3 c0t1d2s7\nhsp005 c0t1d2s7\n";
+
+fn is_found(entries: &[Entry], number: u8, said: Option<(&[SliceName], u8, u32)>) -> bool {
+    match (replicas_listed(entries, number), said) {
+        (Some(listed), Some((slices, count, blocks))) => {
+            listed.slices == slices && listed.count == count && listed.blocks == blocks
+        }
+        (None, None) => true,
+        _ => false,
+    }
+}
+
+#[test]
+fn finds_entries_of_replicas(rt: HostRuntime) -> Result<(), TabFault> {
+    let entries = read_tab(rt.alloc(), BLOCK)?;
+    for (number, said) in ENTRIES {
+        assert!(rt;
+            is_found(entries.as_slice(), *number, *said),
+            "mddb0{number}"
+        );
+    }
+    entries_are_in_form();
+    Ok(())
 }

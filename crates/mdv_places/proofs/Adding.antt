@@ -3,7 +3,7 @@ use Rattle.std.proofs.Common.{◌≡◌, ◌⊎◌, inl, inr, ◌+◌, ◌*◌, 
 use Rattle.std.proofs.lemmas.List.{map-append}
 use Rattle.std.proofs.lemmas.List.Elements.{Contains-append_cases}
 use Rattle.std.specs.List.{cons_option, list_any}
-use Rattle.std.specs.Prelude.{◌||◌, Bool, flat_map}
+use Rattle.std.specs.Prelude.{◌||◌, Bool}
 use Rattle.mdv_acts.proofs.Members.{contains_behind, contains_first, first_or_behind}
 use Rattle.mdv_acts.specs.Asked.{AreAsked}
 use Rattle.mdv_store.specs.Create.{seats_on}
@@ -12,7 +12,7 @@ use Rattle.mdv_store.proofs.Sitting.{replica_of, seat_of}
 use Rattle.mdv_store.specs.Seats.{IsLaid, replica_area, spot_of}
 use Rattle.mdv_survey.specs.Newest.{HasNoneAbove}
 use Rattle.mdv_replica.specs.declared.replica.Slot.TheVariants.{First, Second}
-use Rattle.mdv_places.specs.Asked.{claimed, claims, places_from, places_on}
+use Rattle.mdv_places.specs.Asked.{claimed, claims, places_asked, places_from, places_on}
 use Rattle.mdv_places.specs.Below.{AreLaid, Identity, Key, Mark, Place, Replica, Seat, SliceLine, Spot, at_of, replicas_of, seats_area, seats_asked, spots_of}
 use Rattle.mdv_store.proofs.Passes.{unmapped}
 
@@ -20,28 +20,28 @@ abbrev pub place_of_seat : Seat → Place
 place_of_seat s = s.place
 
 module _ (key : Key) (identity : Identity) (count blocks : ℕ) where
-  on_places : (line : SliceLine) (k n : ℕ) → map place_of_seat (seats_on key identity line count blocks k n) ≡ places_from line blocks k n
+  on_places : (line : SliceLine) (k n : ℕ) → map place_of_seat (seats_on key identity line count blocks k n) ≡ places_from line.name blocks k n
   on_places line k zero = refl
   on_places line k (suc n) = ap (λ (l : List Place). (record { slice = line.name; start = 16 + k * blocks; blocks = blocks }) ∷ l) (on_places line (k + 1) n)
 
-  pub asked_places : (lines : List SliceLine) → map place_of_seat (seats_asked key identity lines count blocks) ≡ flat_map (places_on count blocks) lines
+  pub asked_places : (lines : List SliceLine) → map place_of_seat (seats_asked key identity lines count blocks) ≡ places_asked lines count blocks
   asked_places [] = refl
   asked_places (line ∷ lines) =
       map-append place_of_seat (seats_on key identity line count blocks 0 count) (seats_asked key identity lines count blocks)
-      ∙ ap (λ (l : List Place). l ++ map place_of_seat (seats_asked key identity lines count blocks)) (on_places line 0 count) ∙ ap (λ (l : List Place). places_on count blocks line ++ l) (asked_places lines)
+      ∙ ap (λ (l : List Place). l ++ map place_of_seat (seats_asked key identity lines count blocks)) (on_places line 0 count) ∙ ap (λ (l : List Place). places_on count blocks line.name ++ l) (asked_places lines)
 
 -- each lies on its slice
 module _ (count blocks : ℕ) where
-  from_slice : (line : SliceLine) (k n : ℕ) (p : Place) → Contains (places_from line blocks k n) p → p.slice ≡ line.name
+  from_slice : (line : SliceLine) (k n : ℕ) (p : Place) → Contains (places_from line.name blocks k n) p → p.slice ≡ line.name
   from_slice line k zero p has = absurd (omega (arith, has.1))
-  from_slice line k (suc n) p has = elim (first_or_behind (record { slice = line.name; start = 16 + k * blocks; blocks = blocks }) p (places_from line blocks (k + 1) n) has) [
+  from_slice line k (suc n) p has = elim (first_or_behind (record { slice = line.name; start = 16 + k * blocks; blocks = blocks }) p (places_from line.name blocks (k + 1) n) has) [
     | inl here ↦ ap (λ (q : Place). q.slice) (sym here)
     | inr behind ↦ from_slice line (k + 1) n p behind
   ]
 
-  pub added_slice : (lines : List SliceLine) (p : Place) → Contains (flat_map (places_on count blocks) lines) p → (line : SliceLine) × Contains lines line × (p.slice ≡ line.name)
+  pub added_slice : (lines : List SliceLine) (p : Place) → Contains (places_asked lines count blocks) p → (line : SliceLine) × Contains lines line × (p.slice ≡ line.name)
   added_slice [] p has = absurd (omega (arith, has.1))
-  added_slice (line ∷ lines) p has = elim (Contains-append_cases (places_on count blocks line) (flat_map (places_on count blocks) lines) p has) [
+  added_slice (line ∷ lines) p has = elim (Contains-append_cases (places_on count blocks line.name) (places_asked lines count blocks) p has) [
     | inl here ↦ (line, contains_first line lines, from_slice line 0 count p here)
     | inr behind ↦ (let rest = added_slice lines p behind in (rest.0, contains_behind line rest.0 lines rest.1, rest.2))
   ]

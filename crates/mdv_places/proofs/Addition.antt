@@ -3,7 +3,6 @@ use Rattle.std.proofs.Common.{◌≡◌, ◌⊎◌, inl, inr, ℕ, ◌+◌, ◌*
 use Rattle.std.proofs.lemmas.Bool.{or_right}
 use Rattle.std.proofs.lemmas.List.{map-append}
 use Rattle.std.proofs.lemmas.List.Folds.{Any-from_list_any}
-use Rattle.std.specs.Prelude.{flat_map}
 use Rattle.mdv_acts.proofs.Asked.{within_line}
 use Rattle.mdv_acts.specs.Asked.{AreAsked}
 use Rattle.mdv_replica.specs.Forms.{name_of_key}
@@ -40,7 +39,7 @@ use Rattle.mdv_store_law.specs.Log.{Version}
 use Rattle.mdv_table.specs.Plan.{first_of}
 use Rattle.mdv_votes.proofs.Meeting.{same_is}
 use Rattle.mdv_votes.specs.Spots.{is_in, is_named, same_spot}
-use Rattle.mdv_places.specs.Asked.{places_on}
+use Rattle.mdv_places.specs.Asked.{places_asked}
 use Rattle.mdv_places.specs.Below.{Core, Geometry, Identity, IsOpenedAt, Key, Lists, Log, Mark, One, Opened, Place, Replica, Seat, SliceLine, Spot, Table, Tale, Two, at_of, last_of, places_of, replicas_of, seats_area, seats_asked, shortage, site_of, spots_of}
 use Rattle.mdv_places.specs.Moments.{IsLogOf}
 use Rattle.mdv_places.proofs.Adding.{asked_places, place_of_seat}
@@ -66,7 +65,7 @@ module _ (sizes : List ℕ) (g : Geometry) (old : Opened) (lines : List SliceLin
   olds = last_of old.table.plan.lists
 
   abbrev more : List Place
-  more = flat_map (places_on count blocks) lines
+  more = places_asked lines count blocks
 
   abbrev added : List Seat
   added = seats_asked old.key old.identity lines count blocks

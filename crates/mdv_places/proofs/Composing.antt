@@ -27,7 +27,7 @@ use Rattle.mdv_places.specs.Below.{AreLeft, Change, Core, Event, Geometry, IsRea
 use Rattle.mdv_places.specs.Changing.{MayMove, both_of}
 use Rattle.mdv_places.specs.Going.{IsMoving, TracesBy}
 use Rattle.mdv_places.specs.Moments.{IsChangeOf, IsLogOf}
-use Rattle.mdv_places.specs.declared.asked.Move.{Move}
+use Rattle.mdv_places.specs.Asked.{Asks}
 use Rattle.mdv_places.proofs.Going.{goes_by, goes_less}
 use Rattle.mdv_places.proofs.Moving.{both_seats, is_second, one_list}
 use Rattle.mdv_places.proofs.Picking.{picked_held, picked_named, picked_seat, picked_some, picked_spots}
@@ -54,7 +54,7 @@ settled_tellable log mark next table made n change told =
       newest = told.newest;
     }
 
-module _ (sizes : List ℕ) (g : Geometry) (old : Opened) (asked : Move) (may : MayMove sizes g old asked) (checked : MayList old (lists_after asked old.table.plan.lists)) where
+module _ (sizes : List ℕ) (g : Geometry) (old : Opened) (asked : Asks) (may : MayMove sizes g old asked) (checked : MayList old (lists_after asked old.table.plan.lists)) where
   abbrev both : Opened
   both = both_of old asked
 

@@ -15,7 +15,7 @@ use Rattle.mdv_places.specs.Asked.{acts_moved, drives_added, dropped, list_after
 use Rattle.mdv_places.specs.Below.{AreLeft, Failures, Geometry, Ghosts, Opened, Place, PlaceAt, Replica, Seat, Share, Table, TakesSlot, active_of, last_of, next_mark, same_place, settled}
 use Rattle.mdv_places.specs.Changing.{both_of}
 use Rattle.mdv_places.specs.Counts.{first_count, last_count, move_blocks, move_calls}
-use Rattle.mdv_places.specs.declared.asked.Move.{Move}
+use Rattle.mdv_places.specs.Asked.{Asks}
 use Rattle.std.specs.List.{list_any}
 
 -- what a pass leaves of a list's places
@@ -42,7 +42,7 @@ module _ {S : Type 0} (shelf : Ghosts S) where
   acts_between [] a b same = between_none shelf.calls shelf.written a b 0 0 same
   acts_between (x ∷ xs) a b took = between_of shelf.calls shelf.written a b (calls_of (x ∷ xs)) (blocks_of (x ∷ xs)) (calls_of (x ∷ xs)) (calls_of (x ∷ xs)) (blocks_of (x ∷ xs)) (omega arith) (omega arith) (omega arith) took
 
-  module _ (from formed both last to : S) (g : Geometry) (o between now : Opened) (asked : Move) (gone : HaveGone shelf from formed (drives_added asked) (acts_moved o asked)) where
+  module _ (from formed both last to : S) (g : Geometry) (o between now : Opened) (asked : Asks) (gone : HaveGone shelf from formed (drives_added asked) (acts_moved o asked)) where
     -- till the record with both lists ended
     pub both_between : (result : _) → WasListed shelf formed both (both_of o asked) between result
         → MadeCallsBetween shelf from both (calls_of (acts_moved o asked)) (calls_of (acts_moved o asked) + 6 * first_count o asked) (blocks_of (acts_moved o asked) + (2 + blocks_for (text_size (both_of o asked).table)) * first_count o asked)

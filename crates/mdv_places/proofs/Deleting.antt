@@ -48,7 +48,7 @@ use Rattle.mdv_votes.specs.Spots.{is_in, is_named, same_spot}
 use Rattle.mdv_places.specs.Below.{Area, Core, Database, Event, Geometry, IsReadyWith, Lists, Log, One, Opened, Place, PlaceAt, Replica, RestStands, Seat, SliceAt, SliceLine, Spot, Table, Tale, at_of, last_of, range, replicas_of, seats_area, site_of, spots_of}
 use Rattle.mdv_places.specs.Ending.{AreWipes, EndEnds, EndGoes, EndMoment, IsSole, MayEnd, RestMayEnd}
 use Rattle.mdv_places.specs.Moments.{IsFront, IsLogOf}
-use Rattle.mdv_places.specs.declared.asked.Move.TheVariants as asks
+use Rattle.mdv_places.specs.Asked.{KeepsFirst}
 
 -- The log of a database that was deleted may say so.
 over_lives : Over ≡ Lives → ⊥
@@ -145,7 +145,7 @@ module _ (o : Opened) (s : IsSole o) where
     -- it is the first one of its slice
     first_one : r.number ≡ 0
     first_one =
-        let front = subst (λ (l : Lists). IsFront asks.First (last_of l)) s.only may.front in
+        let front = subst (λ (l : Lists). IsFront KeepsFirst (last_of l)) s.only may.front in
         number_none r.number r.first.blocks (ap (λ (p : Place). p.start) at ∙ front) found.located.lies.least
 
     has_first : Everywhere (λ image. HasFirst site image on r.first) t

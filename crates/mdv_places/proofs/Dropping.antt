@@ -4,7 +4,7 @@ use Rattle.mdv_acts.proofs.Members.{contains_behind, contains_first, first_or_be
 use Rattle.mdv_acts.specs.Wipes.{AreLaidOn, in_front, ordered_with}
 use Rattle.mdv_places.specs.Asked.{dropped, list_after}
 use Rattle.mdv_places.specs.Below.{Geometry, Place, beside, same_slice}
-use Rattle.mdv_places.specs.declared.asked.Move.{Move}
+use Rattle.mdv_places.specs.Asked.{Asks}
 use Rattle.mdv_places.proofs.Coming.{lacks, passes}
 
 -- what is put in front is one of those, or the new one
@@ -32,14 +32,14 @@ ordered_one done (p ∷ ps) q has = elim (ordered_one (in_front p done) ps q has
 ]
 
 -- and the list that comes lacks them
-pub dropped_lacks : (asked : Move) (places : List Place) (q : Place) → Contains (dropped asked places) q → Contains places q × (lacks (list_after asked places) q ≡ true)
+pub dropped_lacks : (asked : Asks) (places : List Place) (q : Place) → Contains (dropped asked places) q → Contains places q × (lacks (list_after asked places) q ≡ true)
 dropped_lacks asked places q has = elim (ordered_one [] (beside (list_after asked places) places) q has) [
   | inl none ↦ absurd (omega (arith, none.1))
   | inr one ↦ passes (lacks (list_after asked places)) places q one
 ]
 
-pub dropped_one : (asked : Move) (places : List Place) (q : Place) → Contains (dropped asked places) q → Contains places q
+pub dropped_one : (asked : Asks) (places : List Place) (q : Place) → Contains (dropped asked places) q → Contains places q
 dropped_one asked places q has = (dropped_lacks asked places q has).0
 
-pub dropped_laid : (sizes : List ℕ) (g : Geometry) (asked : Move) (places : List Place) → AreLaidOn sizes g places → AreLaidOn sizes g (dropped asked places)
+pub dropped_laid : (sizes : List ℕ) (g : Geometry) (asked : Asks) (places : List Place) → AreLaidOn sizes g places → AreLaidOn sizes g (dropped asked places)
 dropped_laid sizes g asked places laid p has = laid p (dropped_one asked places p has)

@@ -85,7 +85,7 @@ module _ (places : List PlaceAt) where
     | inr behind ↦ one_area a xs behind drive block (or_parts _ _ out).1
   ]
 
-  abbrev masters : Area
+  abbrev pub masters : Area
   masters drive block = list_any (λ (b : PlaceAt). master_area b drive block) places
 
   pub wipes_quiet : (u m : Tale) → AreTrying places u m → IsQuiet masters u m

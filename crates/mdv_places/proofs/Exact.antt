@@ -23,14 +23,14 @@ use Rattle.mdv_places.specs.Asked.{acts_moved, drives_added, dropped}
 use Rattle.mdv_places.specs.Below.{AreLeft, Failures, Geometry, Ghosts, One, Opened, Place, PlaceAt, Replica, Seat, Table, TakesSlot, active_of, drives_of, last_of, next_mark, replicas_of, settled}
 use Rattle.mdv_places.specs.Changing.{MayMove, both_of, drives_dropped, drives_moved}
 use Rattle.mdv_places.specs.Counts.{HaveNoFailure, first_count, last_count, move_blocks, move_calls}
-use Rattle.mdv_places.specs.declared.asked.Move.{Move}
+use Rattle.mdv_places.specs.Asked.{Asks}
 use Rattle.mdv_places.proofs.Counting.{found_count, left_in}
 use Rattle.mdv_places.proofs.Keeping.{on_drive}
 use Rattle.mdv_places.proofs.Losing.{IsLostAs, drive_in, drive_under, lost_calm, lost_then, no_both}
 use Rattle.mdv_places.proofs.Wiping.{has_failed}
 
 -- one that failed in a part failed in the whole: a count at its end doesn't rise
-failed_first : (l m n : Bool) (a b c : ℕ) → IsLostAs l m (failures_of a b) → IsLostAs m n (failures_of b c) → RoseOnce a b → RoseOnce a c
+pub failed_first : (l m n : Bool) (a b c : ℕ) → IsLostAs l m (failures_of a b) → IsLostAs m n (failures_of b c) → RoseOnce a b → RoseOnce a c
 failed_first l true n a b c first second rose = second.1 ∙ rose
 failed_first true false n a b c first second rose = absurd (no_both false first.0 refl)
 failed_first false false true a b c first second rose = subst (λ (k : ℕ). RoseOnce k c) first second
@@ -69,7 +69,7 @@ none_left failed Took old new never left = elim (cases_lt (active_of new) (activ
   | inr same ↦ (let most = left_most failed Took old new left in omega (arith, same, most))
 ]
 
-module _ {S : Type 0} (shelf : Ghosts S) (from formed both last to : S) (g : Geometry) (o between now : Opened) (asked : Move) (may : MayMove (shelf.sizes from) g o asked) (gone : HaveGone shelf from formed (drives_added asked) (acts_moved o asked))
+module _ {S : Type 0} (shelf : Ghosts S) (from formed both last to : S) (g : Geometry) (o between now : Opened) (asked : Asks) (may : MayMove (shelf.sizes from) g o asked) (gone : HaveGone shelf from formed (drives_added asked) (acts_moved o asked))
     (first : WasListed shelf formed both (both_of o asked) between (Ok tt)) (second : WasListed shelf both last (last_by between) now (Ok tt)) (one two left : Drives)
     (at_first : AreLostBy (DriveFailures shelf formed both) no_drives one) (at_second : AreLostBy (DriveFailures shelf both last) one two) (clean : Bool)
     (wiped : WereWiped shelf g last to (dropped asked (last_of o.table.plan.lists)) two left clean) (calm : HaveNoFailure shelf from to g o asked) where

@@ -4,7 +4,6 @@ use Rattle.std.proofs.lemmas.Bool.{false≢true, false_from_ne_true, or_cases, o
 use Rattle.std.proofs.lemmas.List.{append_cancel_left}
 use Rattle.std.proofs.lemmas.List.Elements.{Contains-append_right}
 use Rattle.std.proofs.lemmas.List.Folds.{Any-from_list_any, list_any-from_Any}
-use Rattle.std.specs.Prelude.{flat_map}
 use Rattle.mdv_acts.specs.Acts.{Act, AreDoing, AreDone, acts_asked}
 use Rattle.mdv_acts.specs.Asked.{AreAsked}
 use Rattle.mdv_look.specs.Quiet.{IsQuiet}
@@ -25,13 +24,13 @@ use Rattle.mdv_store.specs.Listing.{MayList}
 use Rattle.mdv_store.specs.Records.{Spells}
 use Rattle.mdv_store.specs.Seats.{AreHeld, AreNamed, replica_area, spot_of}
 use Rattle.mdv_votes.specs.Spots.{is_in, is_named}
-use Rattle.mdv_places.specs.Asked.{acts_moved, claims, list_after, lists_after, places_added, places_on, seats_added}
+use Rattle.mdv_places.specs.Asked.{acts_moved, claims, list_after, lists_after, places_added, places_asked, seats_added}
 use Rattle.mdv_places.specs.Below.{Core, Database, Event, Geometry, IsOpenedAt, Lists, One, Opened, Place, Replica, RestStands, Seat, SliceLine, Tale, Two, beside, last_of, replicas_of, seats_area, seats_asked, site_of, spots_of}
 use Rattle.mdv_places.specs.Changing.{MayMove, both_of}
 use Rattle.mdv_places.specs.Going.{IsMoving, TracesBy}
-use Rattle.mdv_places.specs.Moments.{IsForming, IsLogOf, MayGo, RestMay}
-use Rattle.mdv_places.specs.declared.asked.Move.{Move}
-use Rattle.mdv_places.specs.declared.asked.Move.TheVariants as asks
+use Rattle.mdv_places.specs.Moments.{IsForming, IsLogOf, MayShow, RestMay}
+use Rattle.mdv_places.specs.Asked.{Asks}
+use Rattle.mdv_places.specs.Asked.{Adds, Drops, KeepsFirst}
 use Rattle.mdv_places.proofs.Adding.{claims_area, either_replica}
 use Rattle.mdv_places.proofs.Addition.{IsAddition}
 use Rattle.mdv_places.proofs.Formed.{blank_each, goes_each, have_added, held_all, named_added, quiet_each, rest_each, stays_open}
@@ -40,17 +39,17 @@ use Rattle.mdv_places.proofs.Going.{goes_less}
 use Rattle.mdv_places.proofs.Moving.{both_places}
 
 -- each event of the votes is one of the formation
-abbrev pub AreFormed : Geometry → Opened → Move → List Event → Type 0
+abbrev pub AreFormed : Geometry → Opened → Asks → List Event → Type 0
 AreFormed g old asked es = (e : Event) → Contains es e → IsForming g old asked e
 
 -- the log goes on with the added places noted, and its worlds by blanks and formats, to such ones again
-abbrev pub FormGoes : Geometry → Opened → Move → Tale → Tale → Type 0
+abbrev pub FormGoes : Geometry → Opened → Asks → Tale → Tale → Type 0
 FormGoes g old asked t m =
     TracesBy (IsMoving asked) (Spells g) g (site_of g old.key) old.identity (IsLogOf g old) [] (IsReadyWith (spots_of old.seats)) (AreFormed g old asked) (IsReadyWith (spots_of old.seats)) (IsLogOf g old) t m
 
 -- By each moment, of one that stops too, only active and added places were touched; the database is open as it was; the log goes on with nothing asked; all others stand, where they may be taken; and
 -- those that show no table show none.
-pub record IsFormingAt (g : Geometry) (old : Opened) (asked : Move) (t m : Tale) : Type 0 where
+pub record IsFormingAt (g : Geometry) (old : Opened) (asked : Asks) (t m : Tale) : Type 0 where
   pub quiet : IsQuiet (seats_area (both_of old asked).seats) t m
   pub opened : IsOpenedAt g old m
   pub goes : FormGoes g old asked t m
@@ -58,7 +57,7 @@ pub record IsFormingAt (g : Geometry) (old : Opened) (asked : Move) (t m : Tale)
   pub blank : StayBlank g old.identity t m
 
 -- In the end each place of both lists that is active or added has its replica, whose place the table with both lists names; and so has each that only the new list has.
-pub record IsFormedTo (g : Geometry) (old : Opened) (asked : Move) (t u : Tale) : Type 0 where
+pub record IsFormedTo (g : Geometry) (old : Opened) (asked : Asks) (t u : Tale) : Type 0 where
   pub forming : IsFormingAt g old asked t u
   pub held : AreHeld g old.key old.identity (both_of old asked).seats u
   pub named : AreNamed (site_of g old.key) (both_of old asked).table (both_of old asked).seats
@@ -87,7 +86,7 @@ module _ (sizes : List ℕ) (g : Geometry) (old : Opened) (t : Tale) where
   Named lists r = is_named (lists_of_spots (site_of g old.key) lists) (spot_of r) ≡ true
 
   -- where nothing is formatted
-  still_forming : (asked : Move) → MayGo g old asked t → IsFormingAt g old asked t t
+  still_forming : (asked : Asks) → MayShow g old asked t → IsFormingAt g old asked t t
   still_forming asked go = record {
     quiet = quiet_same (seats_area (both_of old asked).seats) t;
     opened = go.opened;
@@ -103,16 +102,16 @@ module _ (sizes : List ℕ) (g : Geometry) (old : Opened) (t : Tale) where
   }
 
   -- the places that only the new list has are those that are added
-  beside_added : (asked : Move) → MayMove sizes g old asked → beside olds (list_after asked olds) ≡ places_added asked
+  beside_added : (asked : Asks) → MayMove sizes g old asked → beside olds (list_after asked olds) ≡ places_added asked
   beside_added asked may = append_cancel_left olds (beside olds (list_after asked olds)) (places_added asked) (both_places olds asked may.free)
 
   -- the table with both lists names the active places
-  still_named : (asked : Move) → MayMove sizes g old asked → MayGo g old asked t → (r : Replica) → Contains (replicas_of old.seats) r → Named (lists_after asked old.table.plan.lists) r
+  still_named : (asked : Asks) → MayMove sizes g old asked → MayShow g old asked t → (r : Replica) → Contains (replicas_of old.seats) r → Named (lists_after asked old.table.plan.lists) r
   still_named asked may go r has =
       let one : old.table.plan.lists ≡ One olds = may.one.1 ∙ ap One (sym (ap last_of may.one.1)) in
       first_named g old olds (list_after asked olds) r (subst (λ (l : Lists). Named l r) one (go.opened.named r has))
 
-  still_formed : (asked : Move) → MayMove sizes g old asked → MayGo g old asked t → seats_added old asked ≡ [] → places_added asked ≡ [] → IsFormedTo g old asked t t
+  still_formed : (asked : Asks) → MayMove sizes g old asked → MayShow g old asked t → seats_added old asked ≡ [] → places_added asked ≡ [] → IsFormedTo g old asked t t
   still_formed asked may go no_seats no_places =
       let same : old.seats ++ seats_added old asked ≡ old.seats = ap (λ (l : List Seat). old.seats ++ l) no_seats ∙ append-nil old.seats in
       record {
@@ -123,16 +122,16 @@ module _ (sizes : List ℕ) (g : Geometry) (old : Opened) (t : Tale) where
       }
 
 -- so many places are added on these slices
-record IsAddOf (g : Geometry) (old : Opened) (asked : Move) (lines : List SliceLine) (count blocks : ℕ) (t : Tale) : Type 0 where
+record IsAddOf (g : Geometry) (old : Opened) (asked : Asks) (lines : List SliceLine) (count blocks : ℕ) (t : Tale) : Type 0 where
   acts : acts_moved old asked ≡ acts_asked old.key old.identity old.mark.boot lines count blocks
   seats : seats_added old asked ≡ map (claims old.mark.boot) (seats_asked old.key old.identity lines count blocks)
-  places : places_added asked ≡ flat_map (places_on count blocks) lines
-  new : list_after asked (last_of old.table.plan.lists) ≡ last_of old.table.plan.lists ++ flat_map (places_on count blocks) lines
+  places : places_added asked ≡ places_asked lines count blocks
+  new : list_after asked (last_of old.table.plan.lists) ≡ last_of old.table.plan.lists ++ places_asked lines count blocks
   taken : (all : List Database) → RestMay g all old asked t → (line : SliceLine) → Contains lines line → RestMayBeTaken (Spells g) g all old.identity line t
 
-module _ (sizes : List ℕ) (g : Geometry) (old : Opened) (t : Tale) (asked : Move) (lines : List SliceLine) (count blocks : ℕ) (may : MayMove sizes g old asked) (go : MayGo g old asked t) (a : IsAddition sizes g old lines count blocks t) (is : IsAddOf g old asked lines count blocks t) where
+module _ (sizes : List ℕ) (g : Geometry) (old : Opened) (t : Tale) (asked : Asks) (lines : List SliceLine) (count blocks : ℕ) (may : MayMove sizes g old asked) (go : MayShow g old asked t) (a : IsAddition sizes g old lines count blocks t) (is : IsAddOf g old asked lines count blocks t) where
   abbrev more : List Place
-  more = flat_map (places_on count blocks) lines
+  more = places_asked lines count blocks
 
   abbrev added : List Seat
   added = seats_asked old.key old.identity lines count blocks
@@ -189,8 +188,8 @@ module _ (sizes : List ℕ) (g : Geometry) (old : Opened) (t : Tale) (asked : Mo
   }
 
 -- The formation of whatever change of places.
-module _ (sizes : List ℕ) (g : Geometry) (old : Opened) (asked : Move) (t : Tale) (may : MayMove sizes g old asked) (checked : MayList old (lists_after asked old.table.plan.lists)) (go : MayGo g old asked t) where
-  addition : {move : Move} {lines : List SliceLine} {count blocks : ℕ} → AreAsked sizes lines count blocks → MayMove sizes g old move → MayList old (lists_after move old.table.plan.lists) → IsOpenedAt g old t
+module _ (sizes : List ℕ) (g : Geometry) (old : Opened) (asked : Asks) (t : Tale) (may : MayMove sizes g old asked) (checked : MayList old (lists_after asked old.table.plan.lists)) (go : MayShow g old asked t) where
+  addition : {move : Asks} {lines : List SliceLine} {count blocks : ℕ} → AreAsked sizes lines count blocks → MayMove sizes g old move → MayList old (lists_after move old.table.plan.lists) → IsOpenedAt g old t
       → ((line : SliceLine) → Contains lines line → (p : Place) → Contains (last_of old.table.plan.lists) p → p.slice ≡ line.name → ⊥)
       → ((line : SliceLine) → Contains lines line → Contains (site_of g old.key).lines line × (line.at.start + line.at.blocks ≤ size_on (site_of g old.key) line)) → IsAddition sizes g old lines count blocks t
   addition within its list opened free sites = record {
@@ -209,17 +208,17 @@ module _ (sizes : List ℕ) (g : Geometry) (old : Opened) (asked : Move) (t : Ta
   pub forming_at : (m : Tale) → AreDoing (acts_moved old asked) t m → IsFormingAt g old asked t m
   forming_at = by asked may checked go
     where
-      by : (move : Move) → MayMove sizes g old move → MayList old (lists_after move old.table.plan.lists) → MayGo g old move t → (m : Tale) → AreDoing (acts_moved old move) t m → IsFormingAt g old move t m
-      by (asks.Add lines count blocks) may_move list may_go m is =
-          add_at sizes g old t (asks.Add lines count blocks) lines.now count blocks may_move may_go (addition may_move.within may_move list may_go.opened may_move.free may_go.sites) (record { acts = refl; seats = refl; places = refl; new = refl; taken = λ all rest. rest.taken }) m is
-      by (asks.Drop slices) may_move list may_go m is = subst (λ (w : Tale). IsFormingAt g old (asks.Drop slices) t w) (sym is) (still_forming sizes g old t (asks.Drop slices) may_go)
-      by asks.First may_move list may_go m is = subst (λ (w : Tale). IsFormingAt g old asks.First t w) (sym is) (still_forming sizes g old t asks.First may_go)
+      by : (move : Asks) → MayMove sizes g old move → MayList old (lists_after move old.table.plan.lists) → MayShow g old move t → (m : Tale) → AreDoing (acts_moved old move) t m → IsFormingAt g old move t m
+      by (Adds lines count blocks) may_move list may_go m is =
+          add_at sizes g old t (Adds lines count blocks) lines count blocks may_move may_go (addition may_move.within may_move list may_go.opened may_move.free may_go.sites) (record { acts = refl; seats = refl; places = refl; new = refl; taken = λ all rest. rest.taken }) m is
+      by (Drops slices) may_move list may_go m is = subst (λ (w : Tale). IsFormingAt g old (Drops slices) t w) (sym is) (still_forming sizes g old t (Drops slices) may_go)
+      by KeepsFirst may_move list may_go m is = subst (λ (w : Tale). IsFormingAt g old KeepsFirst t w) (sym is) (still_forming sizes g old t KeepsFirst may_go)
 
   pub formed_at : (u : Tale) → AreDone (acts_moved old asked) t u → IsFormedTo g old asked t u
   formed_at = by asked may checked go
     where
-      by : (move : Move) → MayMove sizes g old move → MayList old (lists_after move old.table.plan.lists) → MayGo g old move t → (u : Tale) → AreDone (acts_moved old move) t u → IsFormedTo g old move t u
-      by (asks.Add lines count blocks) may_move list may_go u is =
-          add_to sizes g old t (asks.Add lines count blocks) lines.now count blocks may_move may_go (addition may_move.within may_move list may_go.opened may_move.free may_go.sites) (record { acts = refl; seats = refl; places = refl; new = refl; taken = λ all rest. rest.taken }) u is
-      by (asks.Drop slices) may_move list may_go u is = subst (λ (w : Tale). IsFormedTo g old (asks.Drop slices) t w) (sym is) (still_formed sizes g old t (asks.Drop slices) may_move may_go refl refl)
-      by asks.First may_move list may_go u is = subst (λ (w : Tale). IsFormedTo g old asks.First t w) (sym is) (still_formed sizes g old t asks.First may_move may_go refl refl)
+      by : (move : Asks) → MayMove sizes g old move → MayList old (lists_after move old.table.plan.lists) → MayShow g old move t → (u : Tale) → AreDone (acts_moved old move) t u → IsFormedTo g old move t u
+      by (Adds lines count blocks) may_move list may_go u is =
+          add_to sizes g old t (Adds lines count blocks) lines count blocks may_move may_go (addition may_move.within may_move list may_go.opened may_move.free may_go.sites) (record { acts = refl; seats = refl; places = refl; new = refl; taken = λ all rest. rest.taken }) u is
+      by (Drops slices) may_move list may_go u is = subst (λ (w : Tale). IsFormedTo g old (Drops slices) t w) (sym is) (still_formed sizes g old t (Drops slices) may_move may_go refl refl)
+      by KeepsFirst may_move list may_go u is = subst (λ (w : Tale). IsFormedTo g old KeepsFirst t w) (sym is) (still_formed sizes g old t KeepsFirst may_move may_go refl refl)

@@ -3,7 +3,7 @@ use Rattle.std.proofs.Common.{◌≡◌, inl, inr, ℕ, ◌+◌, ◌*◌, ◌<�
 use Rattle.std.proofs.lemmas.Bool.{and_parts, false_from_ne_true}
 use Rattle.std.proofs.lemmas.List.Elements.{Contains-get_or}
 use Rattle.std.proofs.lemmas.List.Folds.{Any-from_list_any}
-use Rattle.std.specs.Prelude.{◌==◌, ◌&&◌, flat_map, slice_index_or}
+use Rattle.std.specs.Prelude.{◌==◌, ◌&&◌, slice_index_or}
 use Rattle.mdv_acts.specs.Acts.{Act, AreDoing, AreDone, acts_asked}
 use Rattle.mdv_base.specs.declared.place.Place.{Place}
 use Rattle.mdv_look.specs.Quiet.{IsQuiet}
@@ -42,11 +42,11 @@ use Rattle.mdv_store.specs.Seats.{AreHeld, spot_of}
 use Rattle.mdv_store_law.proofs.Logs.{is_log_after}
 use Rattle.mdv_store_law.specs.Log.{IsPlaceable, Placing, begins_in, log_after}
 use Rattle.mdv_votes.proofs.Meeting.{same_is}
-use Rattle.mdv_places.specs.Asked.{claims, places_added, places_on}
+use Rattle.mdv_places.specs.Asked.{claims, places_added, places_asked}
 use Rattle.mdv_places.specs.Below.{Core, Database, Event, Geometry, Identity, IsOpenedAt, Key, Log, Opened, Replica, RestStands, Seat, SliceLine, Spot, Tale, Two, last_of, replicas_of, seats_area, seats_asked, site_of, spots_of}
 use Rattle.mdv_places.specs.Going.{GoesTracedBy, IsMoving}
 use Rattle.mdv_places.specs.Moments.{IsLogOf}
-use Rattle.mdv_places.specs.declared.asked.Move.{Move}
+use Rattle.mdv_places.specs.Asked.{Asks}
 use Rattle.mdv_places.proofs.Adding.{added_slice, asked_places, claims_replica, claims_spots, either_replica, place_of_seat}
 use Rattle.mdv_places.proofs.Lists.{pairs_append}
 use Rattle.mdv_places.proofs.Addition.{IsAddition, added_apart, given, line_beside, lists_are, names_added, own_of, pairs}
@@ -67,7 +67,7 @@ module _ (sizes : List ℕ) (g : Geometry) (old : Opened) (lines : List SliceLin
   claim = old.mark.boot
 
   abbrev more : List Place
-  more = flat_map (places_on count blocks) lines
+  more = places_asked lines count blocks
 
   abbrev added : List Seat
   added = seats_asked key identity lines count blocks
@@ -154,7 +154,7 @@ module _ (sizes : List ℕ) (g : Geometry) (old : Opened) (lines : List SliceLin
           site Run (runs_known sizes g old lines count blocks t a log known covers) t (runs_here sizes g old lines count blocks t a log known covers) (λ m runs. runs)
           (λ u is runs. record { put = blanked_put g key identity lines count blocks claim (given sizes g old lines count blocks t a) a.asked.more (pairs sizes g old lines count blocks t a) t u is; traces = runs })
 
-      pub goes_each : (move : Move) → more ≡ places_added move → (m : Tale) → AreDoing acts t m → GoesTracedBy (IsMoving move) (Spells g) g site identity [] Ready Are Ready (IsLogOf g old) t m log
+      pub goes_each : (move : Asks) → more ≡ places_added move → (m : Tale) → AreDoing acts t m → GoesTracedBy (IsMoving move) (Spells g) g site identity [] Ready Are Ready (IsLogOf g old) t m log
       goes_each move same m is = record {
         es = Placing more ∷ [];
         course = (placeable, tt);

@@ -18,13 +18,13 @@ use Rattle.mdv_places.specs.Below.{Change, Database, Geometry, IsOpenedAt, IsRea
 use Rattle.mdv_store.specs.Below.{Site}
 use Rattle.mdv_places.specs.Going.{IsMoving, TracesBy}
 use Rattle.mdv_places.specs.Moments.{IsFront}
-use Rattle.mdv_places.specs.declared.asked.Move.{Move}
+use Rattle.mdv_places.specs.Asked.{Asks}
 use Rattle.mdv_places.proofs.Dropping.{dropped_one}
 use Rattle.mdv_places.proofs.Emptying.{AreDue, AreSpotted, AreWipes, spots_named, wipes_blank, wipes_own, wipes_rest, wipes_shown, wipes_trace}
 use Rattle.mdv_places.proofs.Spotting.{due, in_front, place_is, spotted}
 use Rattle.mdv_places.proofs.Staying.{HaveAll}
 
-module _ (g : Geometry) (sound : IsSound g) (o : Opened) (asked : Move) (was : List Place) (w : Tale) (have : Everywhere (HaveAll g o.key o.identity was) w) (front : IsFront asked was)
+module _ (g : Geometry) (sound : IsSound g) (o : Opened) (asked : Asks) (was : List Place) (w : Tale) (have : Everywhere (HaveAll g o.key o.identity was) w) (front : IsFront asked was)
     (at : List PlaceAt) (found : AreFoundAt g (dropped asked was) at) where
   abbrev site : Site
   site = site_of g o.key

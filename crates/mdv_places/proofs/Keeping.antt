@@ -19,8 +19,8 @@ use Rattle.mdv_store.specs.Writing.{text_size}
 use Rattle.mdv_places.specs.Asked.{AreAskedOn, acts_moved, claimed, claims, drives_added, seats_added}
 use Rattle.mdv_places.specs.Below.{DriveNo, Ghosts, Opened, Place, Replica, Seat, SliceLine, TakesSlot, drives_of, last_of, next_mark, replicas_of, seats_asked}
 use Rattle.mdv_places.specs.Changing.{both_of}
-use Rattle.mdv_places.specs.declared.asked.Move.{Move}
-use Rattle.mdv_places.specs.declared.asked.Move.TheVariants as asks
+use Rattle.mdv_places.specs.Asked.{Asks}
+use Rattle.mdv_places.specs.Asked.{Adds, Drops, KeepsFirst}
 use Rattle.mdv_places.proofs.Losing.{drive_under}
 
 -- a replica has one with the claim
@@ -29,23 +29,23 @@ claims_have number seats r has = (let s = seat_of seats r has in replica_of (map
 
 module _ (sizes : List ℕ) (o : Opened) where
   -- each slice that gets more has a replica that is added
-  added_on : (m : Move) → AreAskedOn sizes m → (drive : DriveNo) → Contains (drives_added m) drive → Contains (drives_of (seats_added o m)) drive
-  added_on (asks.Add lines count blocks) asked drive has =
-      let line = unmapped (λ (l : SliceLine). l.at.drive) lines.now drive has in
-      let one = replicas_have o.key o.identity count blocks lines.now line.0 0 line.1 (let more = asked.more in omega (arith, more)) in
+  added_on : (m : Asks) → AreAskedOn sizes m → (drive : DriveNo) → Contains (drives_added m) drive → Contains (drives_of (seats_added o m)) drive
+  added_on (Adds lines count blocks) asked drive has =
+      let line = unmapped (λ (l : SliceLine). l.at.drive) lines drive has in
+      let one = replicas_have o.key o.identity count blocks lines line.0 0 line.1 (let more = asked.more in omega (arith, more)) in
       let r = replica_on o.key o.identity line.0 count blocks 0 in
-      let its = claims_have o.mark.boot (seats_asked o.key o.identity lines.now count blocks) r one in
-      subst (Contains (drives_of (seats_added o (asks.Add lines count blocks)))) line.2 (mapped drive_under (replicas_of (seats_added o (asks.Add lines count blocks))) (record r { head = record r.head { claim = o.mark.boot } }) its)
-  added_on (asks.Drop slices) asked drive has = has
-  added_on asks.First asked drive has = has
+      let its = claims_have o.mark.boot (seats_asked o.key o.identity lines count blocks) r one in
+      subst (Contains (drives_of (seats_added o (Adds lines count blocks)))) line.2 (mapped drive_under (replicas_of (seats_added o (Adds lines count blocks))) (record r { head = record r.head { claim = o.mark.boot } }) its)
+  added_on (Drops slices) asked drive has = has
+  added_on KeepsFirst asked drive has = has
 
-  pub added_within : (m : Move) → AreAskedOn sizes m → (drive : DriveNo) → Contains (drives_added m) drive → Contains (drives_of (o.seats ++ seats_added o m)) drive
+  pub added_within : (m : Asks) → AreAskedOn sizes m → (drive : DriveNo) → Contains (drives_added m) drive → Contains (drives_of (o.seats ++ seats_added o m)) drive
   added_within m asked drive has =
       let r = unmapped drive_under (replicas_of (seats_added o m)) drive (added_on m asked drive has) in
       let s = seat_of (seats_added o m) r.0 r.1 in
       subst (Contains (drives_of (o.seats ++ seats_added o m))) r.2 (mapped drive_under (replicas_of (o.seats ++ seats_added o m)) r.0 (replica_of (o.seats ++ seats_added o m) s.0 r.0 (Contains-append_right o.seats (seats_added o m) s.0 s.1) s.2))
 
-module _ {S : Type 0} (shelf : Ghosts S) (from formed both last : S) (sizes : List ℕ) (o between now : Opened) (asked : Move) (may : AreAskedOn sizes asked) (gone : HaveGone shelf from formed (drives_added asked) (acts_moved o asked)) where
+module _ {S : Type 0} (shelf : Ghosts S) (from formed both last : S) (sizes : List ℕ) (o between now : Opened) (asked : Asks) (may : AreAskedOn sizes asked) (gone : HaveGone shelf from formed (drives_added asked) (acts_moved o asked)) where
   abbrev seats : List Seat
   seats = o.seats ++ seats_added o asked
 

@@ -1,8 +1,11 @@
 pub mod Adding
 pub mod Addition
 pub mod Answering
+pub mod Aside
 pub mod Beside
+pub mod Blanked
 pub mod Blanking
+pub mod Calling
 pub mod Coming
 pub mod Composing
 pub mod Counting
@@ -13,6 +16,7 @@ pub mod Exact
 pub mod Formation
 pub mod Formed
 pub mod Freeing
+pub mod Fronting
 pub mod Going
 pub mod Keeping
 pub mod Lists
@@ -23,6 +27,7 @@ pub mod Named
 pub mod Picking
 pub mod Preparing
 pub mod Recording
+pub mod Showing
 pub mod Spotting
 pub mod Staying
 pub mod Stretching

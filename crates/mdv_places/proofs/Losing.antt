@@ -1,5 +1,5 @@
 -- Which drives are lost behind a record, and behind several stretches of calls.
-use Rattle.std.proofs.Common.{◌≡◌, ◌≢◌, ◌⊎◌, inl, inr, ◌<◌, ◌≤◌, ◌+◌, ◌&&◌, ◌||◌, ℕ, zero, suc, Bool, true, false, List, [], ◌∷◌, ◌++◌, Contains, Option, None, Some, length, slice_index_or, refl, sym, ◌∙◌, ap, subst, arith}
+use Rattle.std.proofs.Common.{◌≡◌, ◌⊎◌, inl, inr, ◌<◌, ◌≤◌, ◌&&◌, ◌||◌, ℕ, zero, suc, Bool, true, false, List, [], ◌∷◌, ◌++◌, Contains, Option, None, Some, length, slice_index_or, refl, sym, ◌∙◌, ap, subst, arith}
 use Rattle.std.proofs.lemmas.Bool.{cases_lt}
 use Rattle.std.proofs.lemmas.List.Elements.{Contains-append_cases, Contains-append_left, Contains-push}
 use Rattle.std.specs.Bool.{MatchBool}
@@ -18,7 +18,7 @@ use Rattle.mdv_store.proofs.Sitting.{replica_of, seat_of}
 use Rattle.mdv_store.specs.Listing.{WasListed}
 use Rattle.mdv_store.specs.Writing.{text_size}
 use Rattle.mdv_places.specs.Below.{AreLaid, AreLeft, DriveNo, Failures, Ghosts, Opened, PlaceAt, Replica, Seat, Share, TakesSlot, drives_of, next_mark, replicas_of}
-use Rattle.mdv_places.specs.Losing.{AreApart, AreDrivesOf, AreLost, AreMissed, AreNumbered, HasJoined, is_lost}
+use Rattle.mdv_places.specs.Losing.{AreApart, AreDrivesOf, AreLost, AreMissed, AreNumbered, HasJoined}
 
 pub no_both : (b : Bool) → b ≡ true → b ≡ false → ⊥
 no_both b so not_so = cc (so, not_so)
@@ -94,20 +94,6 @@ module _ (seats : List Seat) (s : Seat) where
             | inr new ↦ other (sym new.2 ∙ ap drive_under (unsome r new.0 (sym is ∙ new.1)))
           ])
     ]
-
--- one drive more is looked at
-pub missed_none : (before tried up : Drives) → AreMissed 0 before tried up before
-missed_none before tried up = record { within = λ d below. absurd (omega (arith, below)); behind = λ d from. refl }
-
-pub missed_next : (count : ℕ) (before tried up mid now : Drives) (drive : DriveNo) → drive.0 ≡ count → AreMissed count before tried up mid → has_drive now drive ≡ is_lost mid tried up drive → ((other : DriveNo) → other ≢ drive → has_drive now other ≡ has_drive mid other)
-    → AreMissed (count + 1) before tried up now
-missed_next count before tried up mid now drive is so_far here others = record {
-  within = λ d below. elim (is_drive d drive) [
-    | inl same ↦ subst (λ (x : DriveNo). has_drive now x ≡ is_lost before tried up x) (sym same) (here ∙ ap (λ (b : Bool). b || (has_drive tried drive && not (has_drive up drive))) (so_far.behind drive (omega (arith, is))))
-    | inr other ↦ others d other ∙ so_far.within d (let differs : d.0 ≡ count → ⊥ = (λ e. other (λ i. record { 0 = (e ∙ sym is) i })) in omega (arith, below, differs))
-  ];
-  behind = λ d from. others d (λ e. (let same = ap (λ (x : DriveNo). x.0) e in omega (arith, same, is, from))) ∙ so_far.behind d (omega (arith, from));
-}
 
 -- by whether it was lost before, was tried, and is up
 lost_if : (was : Bool) (tried up : Bool) → was ≡ false → tried ≡ true → (was || (tried && not up)) ≡ not up

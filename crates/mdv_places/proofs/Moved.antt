@@ -1,7 +1,6 @@
 -- A change of places by each moment of it, and in the end.
 use Rattle.std.proofs.Common.{◌≡◌, inl, inr, ℕ, Bool, false, List, [], ◌++◌, Contains, Some, None, Ok, refl, sym, ◌∙◌, ap, subst, arith}
 use Rattle.std.proofs.lemmas.Bool.{or_parts}
-use Rattle.std.specs.Prelude.{flat_map}
 use Rattle.std.specs.List.{list_any}
 use Rattle.std.proofs.lemmas.List.Elements.{Contains-append_left, Contains-append_right}
 use Rattle.mdv_acts.specs.Acts.{AreDoing, AreDone}
@@ -28,12 +27,12 @@ use Rattle.mdv_store.proofs.Again.{none_all, none_of}
 use Rattle.mdv_store.proofs.Blanks.{stay_blank, still_blank}
 use Rattle.mdv_store.proofs.Doing.{doing_end}
 use Rattle.mdv_store.proofs.Sitting.{left_replica, replica_of, seat_of}
-use Rattle.mdv_places.specs.Asked.{AreAskedOn, acts_moved, dropped, list_after, lists_after, places_on, seats_added}
+use Rattle.mdv_places.specs.Asked.{AreAskedOn, acts_moved, dropped, list_after, lists_after, places_asked, seats_added}
 use Rattle.mdv_places.specs.Below.{Area, AreLeft, Change, Database, Geometry, IsOpenedAt, IsReadyWith, Lists, Mark, One, Opened, Place, PlaceAt, Replica, RestStands, Seat, SliceLine, TakesSlot, Tale, asks_of, last_of, next_mark, places_of, replicas_of, seats_area, seats_asked, settled, site_of, spots_of}
 use Rattle.mdv_places.specs.Changing.{MayMove, both_of}
-use Rattle.mdv_places.specs.Moments.{AreOfMove, IsChangeOf, IsLogOf, IsMoveEnd, MayGo, MoveGoes, MoveMoment, RestMay, StandsOpen, WereListed, area_moved, master_area}
-use Rattle.mdv_places.specs.declared.asked.Move.{Move}
-use Rattle.mdv_places.specs.declared.asked.Move.TheVariants as asks
+use Rattle.mdv_places.specs.Moments.{AreOfMove, IsChangeOf, IsLogOf, IsMoveEnd, MayGo, MayShow, MoveGoes, MoveMoment, RestMay, StandsOpen, WereListed, area_moved, master_area}
+use Rattle.mdv_places.specs.Asked.{Asks}
+use Rattle.mdv_places.specs.Asked.{Adds, Drops, KeepsFirst}
 use Rattle.mdv_places.proofs.Adding.{claims_area}
 use Rattle.mdv_places.proofs.Composing.{after_at, both_over, bs_are, both_recording, both_traces, last_at, last_over, last_recording, last_traces, ns_are}
 use Rattle.mdv_places.proofs.Dropping.{dropped_one}
@@ -48,8 +47,12 @@ use Rattle.mdv_places.proofs.Spotting.{dropped_at, listed_not}
 use Rattle.mdv_places.proofs.Staying.{HaveAll, have_open, have_passed, taken_passed}
 use Rattle.mdv_places.proofs.Stretching.{AreBoth, AreFormed, AreLast, both_alone, both_then, last_alone, last_wiped, move_formed, move_then, traces_then}
 
+-- a change that may go on may be shown
+may_show : (g : Geometry) (old : Opened) (asked : Asks) (t : Tale) → MayGo g old asked t → MayShow g old asked t
+may_show g old asked t go = record { opened = go.opened; of_geometry = go.of_geometry; sites = go.sites; front = go.front }
+
 -- Nothing was done.
-pub unbegun_moment : (g : Geometry) (old : Opened) (asked : Move) (t : Tale) → MoveMoment g old asked t t
+pub unbegun_moment : (g : Geometry) (old : Opened) (asked : Asks) (t : Tale) → MoveMoment g old asked t t
 unbegun_moment g old asked t = record {
   quiet = quiet_same (area_moved g old asked) t;
   only = inl (doing_here (acts_moved old asked) t);
@@ -65,7 +68,7 @@ unbegun_moment g old asked t = record {
   blank = λ go. stay_blank g old.identity t;
 }
 
-module _ (sizes : List ℕ) (g : Geometry) (old : Opened) (asked : Move) (may : MayMove sizes g old asked) (checked : MayList old (lists_after asked old.table.plan.lists)) (sound : IsSound g) (t : Tale) where
+module _ (sizes : List ℕ) (g : Geometry) (old : Opened) (asked : Asks) (may : MayMove sizes g old asked) (checked : MayList old (lists_after asked old.table.plan.lists)) (sound : IsSound g) (t : Tale) where
   abbrev both : Opened
   both = both_of old asked
 
@@ -93,22 +96,22 @@ module _ (sizes : List ℕ) (g : Geometry) (old : Opened) (asked : Move) (may : 
   -- nothing but the added places is formatted
   formed_quiet : (m : Tale) → AreDoing (acts_moved old asked) t m → IsQuiet (seats_area both.seats) t m
   formed_quiet = by asked may.within where
-    added_out : (move : Move) (drive block : ℕ) → seats_area (old.seats ++ seats_added old move) drive block ≡ false → seats_area (seats_added old move) drive block ≡ false
+    added_out : (move : Asks) (drive block : ℕ) → seats_area (old.seats ++ seats_added old move) drive block ≡ false → seats_area (seats_added old move) drive block ≡ false
     added_out move drive block out = none_all (λ (r : Replica). replica_area r drive block) (replicas_of (seats_added old move)) (λ r has.
         let s = seat_of (seats_added old move) r has in
         none_of (λ (x : Replica). replica_area x drive block) (replicas_of (old.seats ++ seats_added old move)) r out (replica_of (old.seats ++ seats_added old move) s.0 r (Contains-append_right old.seats (seats_added old move) s.0 s.1) s.2))
 
-    by : (move : Move) → AreAskedOn sizes move → (m : Tale) → AreDoing (acts_moved old move) t m → IsQuiet (seats_area (old.seats ++ seats_added old move)) t m
-    by (asks.Add lines count blocks) within m is = quiet_wider (seats_area (seats_asked old.key old.identity lines.now count blocks)) (seats_area (old.seats ++ seats_added old (asks.Add lines count blocks))) t m
-        (λ drive block out. sym (claims_area old.mark.boot (seats_asked old.key old.identity lines.now count blocks) drive block) ∙ added_out (asks.Add lines count blocks) drive block out)
-        (acts_quiet old.key old.identity lines.now count blocks old.mark.boot within.least within.more t m is)
-    by (asks.Drop slices) within m is = subst (IsQuiet (seats_area (old.seats ++ [])) t) (sym is) (quiet_same (seats_area (old.seats ++ [])) t)
-    by asks.First within m is = subst (IsQuiet (seats_area (old.seats ++ [])) t) (sym is) (quiet_same (seats_area (old.seats ++ [])) t)
+    by : (move : Asks) → AreAskedOn sizes move → (m : Tale) → AreDoing (acts_moved old move) t m → IsQuiet (seats_area (old.seats ++ seats_added old move)) t m
+    by (Adds lines count blocks) within m is = quiet_wider (seats_area (seats_asked old.key old.identity lines count blocks)) (seats_area (old.seats ++ seats_added old (Adds lines count blocks))) t m
+        (λ drive block out. sym (claims_area old.mark.boot (seats_asked old.key old.identity lines count blocks) drive block) ∙ added_out (Adds lines count blocks) drive block out)
+        (acts_quiet old.key old.identity lines count blocks old.mark.boot within.least within.more t m is)
+    by (Drops slices) within m is = subst (IsQuiet (seats_area (old.seats ++ [])) t) (sym is) (quiet_same (seats_area (old.seats ++ [])) t)
+    by KeepsFirst within m is = subst (IsQuiet (seats_area (old.seats ++ [])) t) (sym is) (quiet_same (seats_area (old.seats ++ [])) t)
 
   -- Places are formatted.
   module _ (m : Tale) (doing : AreDoing (acts_moved old asked) t m) where
     forms : MayGo g old asked t → IsFormingAt g old asked t m
-    forms go = forming_at sizes g old asked t may checked go m doing
+    forms go = forming_at sizes g old asked t may checked (may_show g old asked t go) m doing
 
     pub forming_moment : Moment m
     forming_moment = record {
@@ -132,7 +135,7 @@ module _ (sizes : List ℕ) (g : Geometry) (old : Opened) (asked : Move) (may : 
   -- The places were formatted.
   module _ (u : Tale) (done : AreDone (acts_moved old asked) t u) where
     formed : MayGo g old asked t → IsFormedTo g old asked t u
-    formed go = formed_at sizes g old asked t may checked go u done
+    formed go = formed_at sizes g old asked t may checked (may_show g old asked t go) u done
 
     formed_still : IsQuiet area t u
     formed_still = in_area u t (formed_quiet u (doing_end (acts_moved old asked) t u done))
@@ -158,11 +161,11 @@ module _ (sizes : List ℕ) (g : Geometry) (old : Opened) (asked : Move) (may : 
     taken_still : (all : List Database) → MayGo g old asked t → RestMay g all old asked t → (p : Place) (line : SliceLine) → Contains (dropped asked was) p → Contains (site_of g old.key).lines line → p.slice ≡ line.name
         → RestMayBeTaken (Spells g) g all old.identity line u
     taken_still all go rest p line gone looks same = by asked gone done (rest.dropped p line gone looks same) where
-      by : (move : Move) → Contains (dropped move was) p → AreDone (acts_moved old move) t u → RestMayBeTaken (Spells g) g all old.identity line t → RestMayBeTaken (Spells g) g all old.identity line u
-      by (asks.Add lines count blocks) out d taken = absurd (listed_not g sound old.key old.identity was u (have_still go) (asks.Add lines count blocks) p out
-          (Contains-append_left was (flat_map (places_on count blocks) lines.now) p (dropped_one (asks.Add lines count blocks) was p out)))
-      by (asks.Drop slices) out d taken = subst (RestMayBeTaken (Spells g) g all old.identity line) (sym d) taken
-      by asks.First out d taken = subst (RestMayBeTaken (Spells g) g all old.identity line) (sym d) taken
+      by : (move : Asks) → Contains (dropped move was) p → AreDone (acts_moved old move) t u → RestMayBeTaken (Spells g) g all old.identity line t → RestMayBeTaken (Spells g) g all old.identity line u
+      by (Adds lines count blocks) out d taken = absurd (listed_not g sound old.key old.identity was u (have_still go) (Adds lines count blocks) p out
+          (Contains-append_left was (places_asked lines count blocks) p (dropped_one (Adds lines count blocks) was p out)))
+      by (Drops slices) out d taken = subst (RestMayBeTaken (Spells g) g all old.identity line) (sym d) taken
+      by KeepsFirst out d taken = subst (RestMayBeTaken (Spells g) g all old.identity line) (sym d) taken
 
     -- The table with both lists is written.
     module _ (m : Tale) (writing : WritingMoment both.seats first_mark both.table u m) where

@@ -18,15 +18,15 @@ use Rattle.mdv_table.proofs.Pairs.{AllPairs-first}
 use Rattle.mdv_places.specs.Asked.{AreAskedOn, list_after, list_less, lists_after, places_added, seats_added}
 use Rattle.mdv_places.specs.Below.{AreLaid, Geometry, Ghosts, Lists, One, Opened, Place, Replica, Seat, TakesSlot, at_of, beside, last_of, next_mark, places_of, replicas_of, settled, with_lists}
 use Rattle.mdv_places.specs.Changing.{AreFree, MayMove, both_of}
-use Rattle.mdv_places.specs.declared.asked.Move.{Move}
-use Rattle.mdv_places.specs.declared.asked.Move.TheVariants as asks
+use Rattle.mdv_places.specs.Asked.{Asks}
+use Rattle.mdv_places.specs.Asked.{Adds, Drops, KeepsFirst}
 use Rattle.mdv_places.proofs.Adding.{added_slice, asked_places, claims_places, either_replica, more_above, more_at, more_laid, place_of_seat}
 use Rattle.mdv_places.proofs.Coming.{both_less, both_more, has_in, kept_passing, kept_self, none_kept, passes}
 
-pub added_places : (o : Opened) (asked : Move) → map place_of_seat (seats_added o asked) ≡ places_added asked
-added_places o (asks.Add lines count blocks) = claims_places o.mark.boot _ ∙ asked_places o.key o.identity count blocks lines.now
-added_places o (asks.Drop slices) = refl
-added_places o asks.First = refl
+pub added_places : (o : Opened) (asked : Asks) → map place_of_seat (seats_added o asked) ≡ places_added asked
+added_places o (Adds lines count blocks) = claims_places o.mark.boot _ ∙ asked_places o.key o.identity count blocks lines
+added_places o (Drops slices) = refl
+added_places o KeepsFirst = refl
 
 -- the first place is one of all
 first_within : (list : List Place) (p : Place) → Contains (take 1 list) p → Contains list p
@@ -37,11 +37,11 @@ first_within (x ∷ xs) p has = elim (first_or_behind x p [] has) [
 ]
 
 -- both lists, each place once, are those that there are, and those that are added
-pub both_places : (list : List Place) (asked : Move) → AreFree asked list → list ++ beside list (list_after asked list) ≡ list ++ places_added asked
-both_places list (asks.Add lines count blocks) free =
-    both_more list (places_added (asks.Add lines count blocks)) (λ p more has. (let one = added_slice count blocks lines.now p more in free one.0 one.1 p has one.2))
-both_places list (asks.Drop slices) free = both_less list (list_less slices.now list) (λ p has. (passes _ list p has).0) ∙ sym (append-nil list)
-both_places list asks.First free = both_less list (take 1 list) (first_within list) ∙ sym (append-nil list)
+pub both_places : (list : List Place) (asked : Asks) → AreFree asked list → list ++ beside list (list_after asked list) ≡ list ++ places_added asked
+both_places list (Adds lines count blocks) free =
+    both_more list (places_added (Adds lines count blocks)) (λ p more has. (let one = added_slice count blocks lines p more in free one.0 one.1 p has one.2))
+both_places list (Drops slices) free = both_less list (list_less slices list) (λ p has. (passes _ list p has).0) ∙ sym (append-nil list)
+both_places list KeepsFirst free = both_less list (take 1 list) (first_within list) ∙ sym (append-nil list)
 
 -- no other place is the first one
 apart_first : (x : Place) (xs : List Place) → AllPairs (λ (p q : Place). p ≡ q → ⊥) (x ∷ xs) → (p : Place) → Contains xs p → x ≡ p → ⊥
@@ -54,10 +54,10 @@ others_differ x xs differ = none_kept (has_in (x ∷ [])) xs (λ p has. not_so (
 ]))
 
 -- those of both lists that the new one has are just its places
-pub new_kept : (list : List Place) (asked : Move) → AllPairs (λ (p q : Place). p ≡ q → ⊥) list → AreFree asked list → filter (has_in (list_after asked list)) (list ++ beside list (list_after asked list)) ≡ list_after asked list
-new_kept list (asks.Add lines count blocks) differ free = ap (filter (has_in (list_after (asks.Add lines count blocks) list))) (both_places list (asks.Add lines count blocks) free) ∙ kept_self (list ++ places_added (asks.Add lines count blocks))
-new_kept list (asks.Drop slices) differ free = ap (filter (has_in (list_less slices.now list))) (both_places list (asks.Drop slices) free ∙ append-nil list) ∙ kept_passing _ list
-new_kept list asks.First differ free = ap (filter (has_in (take 1 list))) (both_places list asks.First free ∙ append-nil list) ∙ one list differ where
+pub new_kept : (list : List Place) (asked : Asks) → AllPairs (λ (p q : Place). p ≡ q → ⊥) list → AreFree asked list → filter (has_in (list_after asked list)) (list ++ beside list (list_after asked list)) ≡ list_after asked list
+new_kept list (Adds lines count blocks) differ free = ap (filter (has_in (list_after (Adds lines count blocks) list))) (both_places list (Adds lines count blocks) free) ∙ kept_self (list ++ places_added (Adds lines count blocks))
+new_kept list (Drops slices) differ free = ap (filter (has_in (list_less slices list))) (both_places list (Drops slices) free ∙ append-nil list) ∙ kept_passing _ list
+new_kept list KeepsFirst differ free = ap (filter (has_in (take 1 list))) (both_places list KeepsFirst free ∙ append-nil list) ∙ one list differ where
   one : (l : List Place) → AllPairs (λ (p q : Place). p ≡ q → ⊥) l → filter (has_in (take 1 l)) l ≡ take 1 l
   one [] none = refl
   one (x ∷ xs) apart = ap (λ (b : Bool). cond b (x ∷ filter (has_in (x ∷ [])) xs) (filter (has_in (x ∷ [])) xs)) ((among-true (x ∷ []) x).1 (contains_first x [])) ∙ ap (λ (l : List Place). x ∷ l) (others_differ x xs apart)
@@ -70,7 +70,7 @@ seats_places list (s ∷ ss) = by (has_in list s.place) (seats_places list ss) w
   by true rest = ap (λ (l : List Place). s.place ∷ l) rest
   by false rest = rest
 
-module _ (sizes : List ℕ) (g : Geometry) (o : Opened) (asked : Move) (may : MayMove sizes g o asked) (checked : MayList o (lists_after asked o.table.plan.lists)) where
+module _ (sizes : List ℕ) (g : Geometry) (o : Opened) (asked : Asks) (may : MayMove sizes g o asked) (checked : MayList o (lists_after asked o.table.plan.lists)) where
   abbrev old : List Place
   old = last_of o.table.plan.lists
 
@@ -91,24 +91,24 @@ module _ (sizes : List ℕ) (g : Geometry) (o : Opened) (asked : Move) (may : Ma
   -- those that are added
   added_at : (s : Seat) (r : Replica) → Contains (seats_added o asked) s → s.replica ≡ Some r → (at_of r).place ≡ s.place
   added_at = by asked may.within where
-    by : (m : Move) → AreAskedOn sizes m → (s : Seat) (r : Replica) → Contains (seats_added o m) s → s.replica ≡ Some r → (at_of r).place ≡ s.place
-    by (asks.Add lines count blocks) a s r has is = more_at o.key o.identity count blocks lines.now o.mark.boot sizes a s r has is
-    by (asks.Drop slices) a s r has is = absurd (omega (arith, has.1))
-    by asks.First a s r has is = absurd (omega (arith, has.1))
+    by : (m : Asks) → AreAskedOn sizes m → (s : Seat) (r : Replica) → Contains (seats_added o m) s → s.replica ≡ Some r → (at_of r).place ≡ s.place
+    by (Adds lines count blocks) a s r has is = more_at o.key o.identity count blocks lines o.mark.boot sizes a s r has is
+    by (Drops slices) a s r has is = absurd (omega (arith, has.1))
+    by KeepsFirst a s r has is = absurd (omega (arith, has.1))
 
   added_above : (r : Replica) → Contains (replicas_of (seats_added o asked)) r → HasNoneAbove o.mark r.head
   added_above = by asked where
-    by : (m : Move) → (r : Replica) → Contains (replicas_of (seats_added o m)) r → HasNoneAbove o.mark r.head
-    by (asks.Add lines count blocks) r has = more_above o.key o.identity count blocks lines.now o.mark.boot o.mark r has
-    by (asks.Drop slices) r has = absurd (omega (arith, has.1))
-    by asks.First r has = absurd (omega (arith, has.1))
+    by : (m : Asks) → (r : Replica) → Contains (replicas_of (seats_added o m)) r → HasNoneAbove o.mark r.head
+    by (Adds lines count blocks) r has = more_above o.key o.identity count blocks lines o.mark.boot o.mark r has
+    by (Drops slices) r has = absurd (omega (arith, has.1))
+    by KeepsFirst r has = absurd (omega (arith, has.1))
 
   added_laid : AreLaid sizes (seats_added o asked)
   added_laid = by asked may.within where
-    by : (m : Move) → AreAskedOn sizes m → AreLaid sizes (seats_added o m)
-    by (asks.Add lines count blocks) a r has = more_laid o.key o.identity count blocks lines.now o.mark.boot sizes a r has
-    by (asks.Drop slices) a r has = absurd (omega (arith, has.1))
-    by asks.First a r has = absurd (omega (arith, has.1))
+    by : (m : Asks) → AreAskedOn sizes m → AreLaid sizes (seats_added o m)
+    by (Adds lines count blocks) a r has = more_laid o.key o.identity count blocks lines o.mark.boot sizes a r has
+    by (Drops slices) a r has = absurd (omega (arith, has.1))
+    by KeepsFirst a r has = absurd (omega (arith, has.1))
 
   -- a replica of all is one that there was, or one that is added
   either : (r : Replica) → Contains (replicas_of (o.seats ++ seats_added o asked)) r → Contains (replicas_of o.seats) r ⊎ Contains (replicas_of (seats_added o asked)) r
@@ -125,14 +125,14 @@ module _ (sizes : List ℕ) (g : Geometry) (o : Opened) (asked : Move) (may : Ma
     counted : length o.seats ≡ length old
     counted = sym (length-map o.seats place_of_seat) ∙ ap length seat_places
 
-    by : (m : Move) → length (list_after m old) ≤ 50 → length (o.seats ++ seats_added o m) ≤ 100
-    by (asks.Add lines count blocks) few =
-        let all = length-append o.seats (seats_added o (asks.Add lines count blocks)) in
-        let more : length (seats_added o (asks.Add lines count blocks)) ≡ length (places_added (asks.Add lines count blocks)) = sym (length-map (seats_added o (asks.Add lines count blocks)) place_of_seat) ∙ ap length (added_places o (asks.Add lines count blocks)) in
+    by : (m : Asks) → length (list_after m old) ≤ 50 → length (o.seats ++ seats_added o m) ≤ 100
+    by (Adds lines count blocks) few =
+        let all = length-append o.seats (seats_added o (Adds lines count blocks)) in
+        let more : length (seats_added o (Adds lines count blocks)) ≡ length (places_added (Adds lines count blocks)) = sym (length-map (seats_added o (Adds lines count blocks)) place_of_seat) ∙ ap length (added_places o (Adds lines count blocks)) in
         let same = counted in
-        omega (arith, all, more, same, few, length-append old (places_added (asks.Add lines count blocks)))
-    by (asks.Drop slices) few = (let all = length-append o.seats [] in let most = checked.seats.few in omega (arith, all, most))
-    by asks.First few = (let all = length-append o.seats [] in let most = checked.seats.few in omega (arith, all, most))
+        omega (arith, all, more, same, few, length-append old (places_added (Adds lines count blocks)))
+    by (Drops slices) few = (let all = length-append o.seats [] in let most = checked.seats.few in omega (arith, all, most))
+    by KeepsFirst few = (let all = length-append o.seats [] in let most = checked.seats.few in omega (arith, all, most))
 
   pub both_seats : AreSeatsOf (with_lists o.table lists) (o.seats ++ seats_added o asked)
   both_seats = record {

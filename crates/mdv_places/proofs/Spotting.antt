@@ -2,7 +2,7 @@
 use Rattle.std.proofs.Common.{◌≡◌, inl, inr, ◌+◌, ◌*◌, ◌<◌, true, List, [], ◌∷◌, take, filter_map, Contains, Option, Some, refl, sym, ◌∙◌, ap, subst, arith}
 use Rattle.std.proofs.lemmas.Bool.{cases_lt, false≢true}
 use Rattle.std.proofs.lemmas.List.Elements.{Contains-append_left}
-use Rattle.std.specs.Prelude.{flat_map, not}
+use Rattle.std.specs.Prelude.{not}
 use Rattle.std.specs.List.{cons_option, list_any}
 use Rattle.mdv_acts.proofs.Members.{contains_behind, contains_first, first_or_behind}
 use Rattle.mdv_acts.specs.Wipes.{AreFoundAt, IsFoundAt, place_in}
@@ -22,11 +22,11 @@ use Rattle.mdv_standing.proofs.Named.{of_filter}
 use Rattle.mdv_store.specs.Below.{Everywhere, Geometry, Identity, Image, Key, Site, Tale, site_of}
 use Rattle.mdv_store.specs.Records.{Spells}
 use Rattle.mdv_table.proofs.Beside.{among-true}
-use Rattle.mdv_places.specs.Asked.{dropped, is_on, list_after, places_on}
+use Rattle.mdv_places.specs.Asked.{dropped, is_on, list_after, places_asked}
 use Rattle.mdv_places.specs.Below.{Opened, Place, PlaceAt, SliceAt, SliceLine, SliceName, last_of, same_slice, slice_at}
 use Rattle.mdv_places.specs.Moments.{IsFront, found_at, places_dropped}
-use Rattle.mdv_places.specs.declared.asked.Move.{Move}
-use Rattle.mdv_places.specs.declared.asked.Move.TheVariants as asks
+use Rattle.mdv_places.specs.Asked.{Asks}
+use Rattle.mdv_places.specs.Asked.{Adds, Drops, KeepsFirst}
 use Rattle.mdv_places.proofs.Coming.{keeps, passes}
 use Rattle.mdv_places.proofs.Dropping.{dropped_lacks}
 use Rattle.mdv_places.proofs.Emptying.{AreDue, AreSpotted, IsSpotted}
@@ -53,7 +53,7 @@ found_are g sound (p ∷ ps) (b ∷ rest) found =
     ap (λ (o : Option SliceAt). cons_option (found_at p o) (filter_map (λ (q : Place). found_at q (slice_at g.slices q.slice)) ps)) is
     ∙ ap (λ (l : List PlaceAt). place_in one.0 p ∷ l) (found_are g sound ps rest found.1) ∙ ap (λ (x : PlaceAt). x ∷ rest) (sym one.2)
 
-pub dropped_at : (g : Geometry) (o : Opened) (asked : Move) → IsSound g → (at : List PlaceAt) → AreFoundAt g (dropped asked (last_of o.table.plan.lists)) at → places_dropped g o asked ≡ at
+pub dropped_at : (g : Geometry) (o : Opened) (asked : Asks) → IsSound g → (at : List PlaceAt) → AreFoundAt g (dropped asked (last_of o.table.plan.lists)) at → places_dropped g o asked ≡ at
 dropped_at g o asked sound at found = found_are g sound (dropped asked (last_of o.table.plan.lists)) at found
 
 module _ (g : Geometry) (sound : IsSound g) (key : Key) where
@@ -123,17 +123,17 @@ module _ (g : Geometry) (sound : IsSound g) (key : Key) where
 
   -- none of the list that comes lies on the slice of a dropped one, but in front of it
   module _ (identity : Identity) (list : List Place) (t : Tale) (have : Everywhere (HaveAll g key identity list) t) where
-    pub listed_not : (asked : Move) (p : Place) → Contains (dropped asked list) p → Contains (list_after asked list) p → ⊥
+    pub listed_not : (asked : Asks) (p : Place) → Contains (dropped asked list) p → Contains (list_after asked list) p → ⊥
     listed_not asked p gone has = false≢true (sym (ap not ((among-true (list_after asked list) p).1 has)) ∙ (dropped_lacks asked list p gone).1)
 
-    pub in_front : (asked : Move) → IsFront asked list → (p q : Place) → Contains (dropped asked list) p → Contains (list_after asked list) q → q.slice ≡ p.slice → q.start < p.start
-    in_front (asks.Add lines count blocks) front p q gone has same = absurd (listed_not (asks.Add lines count blocks) p gone (Contains-append_left list (flat_map (places_on count blocks) lines.now) p (dropped_lacks (asks.Add lines count blocks) list p gone).0))
-    in_front (asks.Drop slices) front p q gone has same =
-        let test = λ (x : Place). not (is_on slices.now x) in
-        let off : test p ≡ true = subst (λ (s : SliceName). not (list_any (same_slice s) slices.now) ≡ true) same (passes test list q has).1 in
-        absurd (listed_not (asks.Drop slices) p gone (keeps test list p (dropped_lacks (asks.Drop slices) list p gone).0 off))
-    in_front asks.First front p q gone has same = by list refl front has where
-      by : (l : List Place) → list ≡ l → IsFront asks.First l → Contains (take 1 l) q → q.start < p.start
+    pub in_front : (asked : Asks) → IsFront asked list → (p q : Place) → Contains (dropped asked list) p → Contains (list_after asked list) q → q.slice ≡ p.slice → q.start < p.start
+    in_front (Adds lines count blocks) front p q gone has same = absurd (listed_not (Adds lines count blocks) p gone (Contains-append_left list (places_asked lines count blocks) p (dropped_lacks (Adds lines count blocks) list p gone).0))
+    in_front (Drops slices) front p q gone has same =
+        let test = λ (x : Place). not (is_on slices x) in
+        let off : test p ≡ true = subst (λ (s : SliceName). not (list_any (same_slice s) slices) ≡ true) same (passes test list q has).1 in
+        absurd (listed_not (Drops slices) p gone (keeps test list p (dropped_lacks (Drops slices) list p gone).0 off))
+    in_front KeepsFirst front p q gone has same = by list refl front has where
+      by : (l : List Place) → list ≡ l → IsFront KeepsFirst l → Contains (take 1 l) q → q.start < p.start
       by [] is at in_it = absurd (omega (arith, in_it.1))
       by (x ∷ xs) is at in_it = elim (first_or_behind x q [] in_it) [
         | inr none ↦ absurd (omega (arith, none.1))
@@ -141,7 +141,7 @@ module _ (g : Geometry) (sound : IsSound g) (key : Key) where
             let its : q.start ≡ 16 = ap (λ (y : Place). y.start) (sym here) ∙ at in
             let image = last t in
             let is_it = last_image t in
-            let hp = have image is_it p (dropped_lacks asks.First list p gone).0 in
+            let hp = have image is_it p (dropped_lacks KeepsFirst list p gone).0 in
             let hq = have image is_it q (subst (λ (m : List Place). Contains m q) (sym is) (subst (Contains (x ∷ xs)) here (contains_first x xs))) in
             let start : p.start ≡ 16 + hp.number * hp.first.blocks = ap (λ (y : Place). y.start) hp.is in
             elim (cases_lt 16 p.start) [
@@ -149,6 +149,6 @@ module _ (g : Geometry) (sound : IsSound g) (key : Key) where
               | inr less ↦
                   let same_start : p.start ≡ 16 = omega (arith, less, start) in
                   let one = both_first identity p q image hp hq (sym same) same_start its in
-                  absurd (listed_not asks.First p gone (subst (Contains (take 1 list)) (sym one) has))
+                  absurd (listed_not KeepsFirst p gone (subst (Contains (take 1 list)) (sym one) has))
             ]
       ]

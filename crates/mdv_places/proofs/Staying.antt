@@ -21,13 +21,14 @@ use Rattle.mdv_store_law.specs.Log.{IsNotOlder, IsRising, Version}
 use Rattle.mdv_store.specs.Below.{Database, Everywhere, Geometry, Identity, Image, IsOwn, Key, Mark, Replica, Slot, Table, Tale, at_of, places_of, site_of}
 use Rattle.mdv_store.specs.Passing.{IsPassing, Passed, slotting}
 use Rattle.mdv_store.specs.Records.{Spells}
-use Rattle.mdv_store.specs.Seats.{AreHeld, replicas_of}
+use Rattle.mdv_store.specs.Seats.{AreHeld, AreTheirs, replicas_of}
 use Rattle.mdv_store.specs.Slots.{AreBodies}
 use Rattle.mdv_store.specs.declared.seats.Seat.{Seat}
 use Rattle.mdv_store.proofs.Blanks.{blank_slots}
 use Rattle.mdv_store.proofs.Passing.{due_part, has_first, stands}
 use Rattle.mdv_store.proofs.Rows.{part_has}
 use Rattle.mdv_store.proofs.Slotting.{goes_on, slot_theirs}
+use Rattle.mdv_store.proofs.Staying.{stays_there}
 use Rattle.mdv_places.specs.Below.{Opened, Place, SliceLine}
 use Rattle.mdv_places.specs.Moments.{StandsOpen}
 
@@ -118,3 +119,9 @@ module _ (g : Geometry) (sound : IsSound g) (key : Key) (identity : Identity) (s
   pub taken_passed : (databases : List Database) (line : SliceLine) (m : Tale) → IsPassing (slotting mark bytes body) all t m → RestMayBeTaken (Spells g) g databases identity line t → RestMayBeTaken (Spells g) g databases identity line m
   taken_passed databases line = pass_keeps (λ image. (d : Database) → IsRest databases identity d → MayBeTaken (Spells g) g line image d)
       (λ r old new mine slot is change taken d rest. taken_filled g sound key identity r old new mine slot mark bytes body is change d rest.1 line (taken d rest))
+
+  -- replicas of the database that are there, under one head or another
+  pub theirs_passed : (others : List Seat) (m : Tale) → IsPassing (slotting mark bytes body) all t m → AreTheirs g key identity others t → AreTheirs g key identity others m
+  theirs_passed others m passing start q has =
+      pass_keeps (λ image. (head : Head) × IsOwn (Spells g) (site_of g key) identity q.line q.number image q.first head)
+      (λ r old new mine slot is change there. stays_there g key identity sound r old new mine slot mark bytes body is change q there) m passing (start q has)

@@ -15,7 +15,7 @@ use Rattle.mdv_store.specs.Below.{Site}
 use Rattle.mdv_places.specs.Changing.{both_of}
 use Rattle.mdv_places.specs.Going.{IsMoving, TracesBy}
 use Rattle.mdv_places.specs.Moments.{AreOfMove, IsForming}
-use Rattle.mdv_places.specs.declared.asked.Move.{Move}
+use Rattle.mdv_places.specs.Asked.{Asks}
 use Rattle.mdv_places.proofs.Emptying.{AreWipes, no_wipes}
 use Rattle.mdv_places.proofs.Recording.{AreRecorded}
 
@@ -30,7 +30,7 @@ module _ (Which : Issue → Type 0) (Spells : List ℕ → Table → Type 0) (g 
       (λ next so. second next so.1 so.0)
 
 -- a change of places may issue whatever changes there are
-pub is_moving : (asked : Move) (issue : Issue) → ChangesAlone issue → IsMoving asked issue
+pub is_moving : (asked : Asks) (issue : Issue) → ChangesAlone issue → IsMoving asked issue
 is_moving asked (OfCreation identity) is = is
 is_moving asked (OfChange change) is = is
 is_moving asked (OfPlaces places) is = absurd is
@@ -45,7 +45,7 @@ fewer_places site table some all es part (p, one_of, run) = (
       (part_more (map (λ (q : Spot). Slotted q Filled) some) (map (λ (q : Spot). Slotted q Filled) all) (Told ∷ []) (Told ∷ []) (part_mapped (λ (q : Spot). Slotted q Filled) some all part) (part_itself (Told ∷ []))) run,
 )
 
-module _ (g : Geometry) (old : Opened) (asked : Move) where
+module _ (g : Geometry) (old : Opened) (asked : Asks) where
   abbrev site : Site
   site = site_of g old.key
 

@@ -1,7 +1,6 @@
 -- Masters are blanked, and places are formatted that are added: how the worlds of the database go on, whose newest version lists none of them.
 use Rattle.std.proofs.Common.{◌≡◌, ◌⊎◌, inl, inr, ℕ, ◌+◌, ◌*◌, ◌<◌, ◌≤◌, List, [], ◌∷◌, ◌++◌, map, Contains, refl, sym, subst, arith}
 use Rattle.std.proofs.lemmas.List.Elements.{Contains-append_cases}
-use Rattle.std.specs.Prelude.{flat_map}
 use Rattle.mdv_acts.proofs.Members.{first_or_behind}
 use Rattle.mdv_acts.specs.Acts.{IsDoing, form_on}
 use Rattle.mdv_quorum.specs.declared.event.Event.TheVariants.{Formatted, Lists as NextLists, Wiped}
@@ -43,7 +42,7 @@ use Rattle.mdv_store.specs.Records.{Spells}
 use Rattle.mdv_store.specs.Seats.{spot_of}
 use Rattle.mdv_store_law.specs.Log.{Placing, Version, log_after}
 use Rattle.mdv_acts.proofs.Asked.{within_line}
-use Rattle.mdv_places.specs.Asked.{claims, places_on}
+use Rattle.mdv_places.specs.Asked.{claims, places_asked}
 use Rattle.mdv_places.specs.Below.{Core, Event, Geometry, Identity, Key, Log, Opened, Place, SliceLine, Spot, Tale, Two, last_of, replicas_of, seats_asked, site_of, spots_of}
 use Rattle.mdv_places.specs.Moments.{IsLogOf}
 use Rattle.mdv_places.proofs.Adding.{asked_places, claims_spots, place_of_seat}
@@ -66,7 +65,7 @@ module _ (sizes : List ℕ) (g : Geometry) (old : Opened) (lines : List SliceLin
   olds = last_of old.table.plan.lists
 
   abbrev more : List Place
-  more = flat_map (places_on count blocks) lines
+  more = places_asked lines count blocks
 
   abbrev added : List Spot
   added = spots_of (map (claims claim) (seats_asked key identity lines count blocks))

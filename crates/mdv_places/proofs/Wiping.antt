@@ -17,7 +17,7 @@ use Rattle.mdv_store.proofs.Passes.{mapped, unmapped}
 use Rattle.mdv_places.specs.Asked.{dropped, seats_added}
 use Rattle.mdv_places.specs.Below.{DriveNo, Geometry, Ghosts, IsSound, Opened, Place, PlaceAt, SliceAt, drives_of, last_of, slice_at}
 use Rattle.mdv_places.specs.Changing.{AreCalm, HasFailed, drives_dropped, drives_moved, drives_under}
-use Rattle.mdv_places.specs.declared.asked.Move.{Move}
+use Rattle.mdv_places.specs.Asked.{Asks}
 use Rattle.mdv_places.proofs.Coming.{keeps, passes}
 use Rattle.mdv_places.proofs.Losing.{free_calm, lost_failed, lost_then, no_both}
 
@@ -55,7 +55,7 @@ found_drives g sound (p ∷ ps) (a ∷ rest) found =
 
 module _ {S : Type 0} (shelf : Ghosts S) where
   -- a drive that isn't lost behind a wipe wasn't before, and no call on it failed
-  step_free : (old new : S) (a : PlaceAt) (lost now : Drives) (wiped : Bool) → IsTried shelf old new a lost now wiped → (d : DriveNo) → has_drive now d ≡ false → (has_drive lost d ≡ false) × (DriveFailures shelf old new d.0).none
+  pub step_free : (old new : S) (a : PlaceAt) (lost now : Drives) (wiped : Bool) → IsTried shelf old new a lost now wiped → (d : DriveNo) → has_drive now d ≡ false → (has_drive lost d ≡ false) × (DriveFailures shelf old new d.0).none
   step_free old new a lost now true tried d is = (sym (ap (λ (ds : Drives). has_drive ds d) tried.2) ∙ is, tried.1.calm d.0)
   step_free old new a lost now false (inl past) d is = (sym (ap (λ (ds : Drives). has_drive ds d) past.2) ∙ is, ap (λ (s : S). shelf.faults s (OnDrive d.0)) past.1)
   step_free old new a lost now false (inr failed) d is = (sym (failed.2.others d (λ e. other e)) ∙ is, failed.1.elsewhere d (λ e. other (e ∙ its failed.1.drive failed.1.one_of))) where
@@ -107,7 +107,7 @@ module _ {S : Type 0} (shelf : Ghosts S) where
       free_first m ds false tried so = absurd (no_both false so refl)
 
 -- The wipes behind the records.
-module _ {S : Type 0} (shelf : Ghosts S) (from last to : S) (g : Geometry) (o now : Opened) (asked : Move) (sound : IsSound g) (lost left : Drives) (failed : AreLostBy (DriveFailures shelf from last) no_drives lost) (clean : Bool)
+module _ {S : Type 0} (shelf : Ghosts S) (from last to : S) (g : Geometry) (o now : Opened) (asked : Asks) (sound : IsSound g) (lost left : Drives) (failed : AreLostBy (DriveFailures shelf from last) no_drives lost) (clean : Bool)
     (wiped : WereWiped shelf g last to (dropped asked (last_of o.table.plan.lists)) lost left clean) where
   dropped_on : drives_dropped g o asked ≡ drives_at wiped.at
   dropped_on = found_drives g sound (dropped asked (last_of o.table.plan.lists)) wiped.at wiped.found

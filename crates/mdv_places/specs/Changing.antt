@@ -9,9 +9,9 @@ use Rattle.mdv_store.specs.Listing.{MayList, MayNotList, WasListed, last_by, lis
 use Rattle.mdv_store.specs.declared.store.CommitFault.{CommitFault}
 use Rattle.mdv_store.specs.declared.store.CommitFault.TheVariants as unwritten
 use Rattle.mdv_places.specs.Asked.{AreAskedOn, acts_moved, drives_added, dropped, list_after, lists_after, seats_added}
-use Rattle.mdv_places.specs.Below.{AreLaid, DriveNo, Geometry, Ghosts, IsSound, Lists, One, Opened, Place, Share, SliceAt, SliceLine, drives_of, last_of, shortage, slice_at}
-use Rattle.mdv_places.specs.declared.asked.Move.{Move}
-use Rattle.mdv_places.specs.declared.asked.Move.TheVariants as asks
+use Rattle.mdv_places.specs.Below.{DriveNo, Failures, Geometry, Ghosts, IsSound, Lists, One, Opened, Place, Share, SliceAt, SliceLine, drives_of, last_of, shortage, slice_at}
+use Rattle.mdv_places.specs.Asked.{Asks}
+use Rattle.mdv_places.specs.Asked.{Adds, Drops, KeepsFirst}
 use Rattle.mdv_places.specs.declared.changing.PlacesFault.{PlacesFault}
 use Rattle.mdv_places.specs.declared.changing.PlacesFault.TheVariants as unmoved
 use Rattle.mdv_places.specs.declared.forming.Hand.{Hand}
@@ -26,14 +26,14 @@ fault_of (unwritten.TooLong fault) = unmoved.TooLong fault
 fault_of unwritten.Spent = unmoved.Spent
 
 -- none of these places lies on a slice that gets more
-abbrev pub AreFree : Move → List Place → Type 0
-AreFree (asks.Add lines count blocks) places = (line : SliceLine) → Contains lines.now line → (p : Place) → Contains places p → p.slice ≡ line.name → ⊥
-AreFree (asks.Drop slices) places = Unit {0}
-AreFree asks.First places = Unit {0}
+abbrev pub AreFree : Asks → List Place → Type 0
+AreFree (Adds lines count blocks) places = (line : SliceLine) → Contains lines line → (p : Place) → Contains places p → p.slice ≡ line.name → ⊥
+AreFree (Drops slices) places = Unit {0}
+AreFree KeepsFirst places = Unit {0}
 
 -- An open database may be asked that: it has one list, of different places, each on a slice of the table of drives and within its drive; the places that are added are some of
 -- drives of the shelf, on slices that have none yet; the list that comes isn't empty, nor has more than fifty places; and a set of drives holds all of the shelf.
-pub record MayMove (sizes : List ℕ) (g : Geometry) (o : Opened) (asked : Move) : Type 0 where
+pub record MayMove (sizes : List ℕ) (g : Geometry) (o : Opened) (asked : Asks) : Type 0 where
   pub sound : IsSound g
   pub drives : length sizes ≤ 256
   pub one : (list : List Place) × (o.table.plan.lists ≡ One list)
@@ -45,14 +45,14 @@ pub record MayMove (sizes : List ℕ) (g : Geometry) (o : Opened) (asked : Move)
   pub few : length (list_after asked (last_of o.table.plan.lists)) ≤ 50
 
 -- the open database as both lists are about to be written
-abbrev pub both_of : Opened → Move → Opened
+abbrev pub both_of : Opened → Asks → Opened
 both_of o asked = listed_by o (lists_after asked o.table.plan.lists) (o.seats ++ seats_added o asked)
 
 -- The memory that a change takes: the seats of both lists, where places are added; and room for the texts that come, where some are dropped.
-abbrev pub IsPrepared : Opened → Lists → Move → Hand → Type 0
-IsPrepared o lists (asks.Add lines count blocks) hand = (hand.seats ≡ Some (o.seats ++ seats_added o (asks.Add lines count blocks))) × (hand.room ≡ None)
-IsPrepared o lists (asks.Drop slices) hand = (hand.seats ≡ None) × MatchOption hand.room ⊥ (λ room. vec_len room ≡ list_room lists)
-IsPrepared o lists asks.First hand = (hand.seats ≡ None) × (hand.room ≡ None)
+abbrev pub IsPrepared : Opened → Lists → Asks → Hand → Type 0
+IsPrepared o lists (Adds lines count blocks) hand = (hand.seats ≡ Some (o.seats ++ seats_added o (Adds lines count blocks))) × (hand.room ≡ None)
+IsPrepared o lists (Drops slices) hand = (hand.seats ≡ None) × MatchOption hand.room ⊥ (λ room. vec_len room ≡ list_room lists)
+IsPrepared o lists KeepsFirst hand = (hand.seats ≡ None) × (hand.room ≡ None)
 
 -- where they lie by the table of drives
 abbrev drive_at : Option SliceAt → Option DriveNo
@@ -63,25 +63,32 @@ abbrev pub drives_under : Geometry → List Place → List DriveNo
 drives_under g places = filter_map (λ (p : Place). drive_at (slice_at g.slices p.slice)) places
 
 -- the drives of the dropped places
-abbrev pub drives_dropped : Geometry → Opened → Move → List DriveNo
+abbrev pub drives_dropped : Geometry → Opened → Asks → List DriveNo
 drives_dropped g o asked = drives_under g (dropped asked (last_of o.table.plan.lists))
 
 -- the drives on which a call may be made: those of the active places and of the added ones, and those of the dropped ones
-abbrev pub drives_moved : Geometry → Opened → Move → List DriveNo
+abbrev pub drives_moved : Geometry → Opened → Asks → List DriveNo
 drives_moved g o asked = drives_of (o.seats ++ seats_added o asked) ++ drives_dropped g o asked
 
-module _ {S : Type 0} (shelf : Ghosts S) (from to : S) (g : Geometry) (old new : Opened) (asked : Move) where
+-- on none of these drives a call failed; on one of them one did
+abbrev pub AreCalmOn : List DriveNo → (ℕ → Failures) → Type 0
+AreCalmOn drives calls = (drive : DriveNo) → Contains drives drive → (calls drive.0).none
+
+abbrev pub HasFailedOn : List DriveNo → (ℕ → Failures) → Type 0
+HasFailedOn drives calls = (drive : DriveNo) × Contains drives drive × (calls drive.0).some
+
+module _ {S : Type 0} (shelf : Ghosts S) (from to : S) (g : Geometry) (old new : Opened) (asked : Asks) where
   -- the places that are added were formatted, no call failed meanwhile
   abbrev WereFormed : S → Type 0
   WereFormed formed = HaveGone shelf from formed (drives_added asked) (acts_moved old asked)
 
   -- on no drive of a dropped place a call failed, from the first format to the last wipe
   abbrev pub AreCalm : Type 0
-  AreCalm = (drive : DriveNo) → Contains (drives_dropped g old asked) drive → (DriveFailures shelf from to drive.0).none
+  AreCalm = AreCalmOn (drives_dropped g old asked) (DriveFailures shelf from to)
 
   -- on one of them one did
   abbrev pub HasFailed : Type 0
-  HasFailed = (drive : DriveNo) × Contains (drives_dropped g old asked) drive × (DriveFailures shelf from to drive.0).some
+  HasFailed = HasFailedOn (drives_dropped g old asked) (DriveFailures shelf from to)
 
   -- The places that are added were formatted; the table was written with both lists, and with the new one alone, and enough of each took it; then each dropped place
   -- was tried, in their order, but those on drives on which a call had failed by then: `lost` when the wipes began, and `now` behind them. The
@@ -129,9 +136,4 @@ module _ {S : Type 0} (shelf : Ghosts S) (from to : S) (g : Geometry) (old new :
   CameOfMove (Err (unmoved.TooLong fault)) = IsStill × MayNotList old (lists_after asked old.table.plan.lists) (unwritten.TooLong fault)
   CameOfMove (Err (unmoved.Lost active listed)) = WasLost (record { active = active; listed = listed })
   CameOfMove (Err unmoved.Spent) = IsStill × MayNotList old (lists_after asked old.table.plan.lists) unwritten.Spent
-  CameOfMove (Err unmoved.Memory) = IsStill × MayList old (lists_after asked old.table.plan.lists) × (asked ≢ asks.First)
-
-  -- What came of a change of places; and the replicas at the places that are active then lie where the next table may be written.
-  pub record MoveAnswer (result : Result Bool PlacesFault) : Type 0 where
-    pub came : CameOfMove result
-    pub laid : AreLaid (shelf.sizes to) new.seats
+  CameOfMove (Err unmoved.Memory) = IsStill × MayList old (lists_after asked old.table.plan.lists) × (asked ≢ KeepsFirst)

@@ -8,11 +8,11 @@ use Rattle.mdv_store.specs.Writing.{text_size}
 use Rattle.mdv_places.specs.Asked.{acts_moved, dropped, list_after}
 use Rattle.mdv_places.specs.Below.{DriveNo, Geometry, Ghosts, Opened, active_of, last_of, settled}
 use Rattle.mdv_places.specs.Changing.{both_of, drives_moved}
-use Rattle.mdv_places.specs.declared.asked.Move.{Move}
+use Rattle.mdv_places.specs.Asked.{Asks}
 use Rattle.mdv_places.specs.declared.changing.PlacesFault.{PlacesFault}
 use Rattle.mdv_places.specs.declared.changing.PlacesFault.TheVariants as unmoved
 
-module _ (o : Opened) (asked : Move) where
+module _ (o : Opened) (asked : Asks) where
   -- how many places are written with both lists, how many with the new one alone, and how many are wiped
   abbrev pub first_count : ℕ
   first_count = active_of (both_of o asked).seats
@@ -31,11 +31,11 @@ module _ (o : Opened) (asked : Move) where
   move_blocks = blocks_of (acts_moved o asked) + (2 + blocks_for (text_size (both_of o asked).table)) * first_count + (2 + blocks_for (text_size (settled (both_of o asked).table))) * last_count + dropped_count
 
 -- no call failed on the drives of the change: no count of failures rose, and none stands at its type's end
-abbrev pub HaveNoFailure : {S : Type 0} → Ghosts S → S → S → Geometry → Opened → Move → Type 0
+abbrev pub HaveNoFailure : {S : Type 0} → Ghosts S → S → S → Geometry → Opened → Asks → Type 0
 HaveNoFailure shelf from to g o asked = (drive : DriveNo) → Contains (drives_moved g o asked) drive → (DriveFailures shelf from to drive.0).some → ⊥
 
 -- just these calls where none fails, and no more of both where one does; none where nothing was done
-abbrev pub IsMoveCounted : {S : Type 0} → Ghosts S → S → S → Geometry → Opened → Move → Result Bool PlacesFault → Type 0
+abbrev pub IsMoveCounted : {S : Type 0} → Ghosts S → S → S → Geometry → Opened → Asks → Result Bool PlacesFault → Type 0
 IsMoveCounted shelf from to g o asked (Ok clean) =
     (HaveNoFailure shelf from to g o asked → MadeCalls shelf from to (move_calls o asked) (move_blocks o asked)) × MadeCallsBetween shelf from to (calls_of (acts_moved o asked)) (move_calls o asked) (move_blocks o asked)
 IsMoveCounted shelf from to g o asked (Err unmoved.Failed) = MadeCallsBetween shelf from to 1 (calls_of (acts_moved o asked)) (blocks_of (acts_moved o asked))

@@ -1,5 +1,5 @@
 -- How a database with one place ends.
-use Rattle.std.specs.Prelude.{◌≡◌, List, [], ◌∷◌, Contains, Some, Result, Ok, Err}
+use Rattle.std.specs.Prelude.{◌≡◌, ℕ, List, [], ◌∷◌, Contains, Some, Result, Ok, Err}
 use Rattle.mdv_acts.specs.Acts.{AreDoing, AreDone, Blanks, HaveGone, HaveStopped}
 use Rattle.mdv_base.specs.declared.drive.Failed.{Failed}
 use Rattle.mdv_look.specs.Quiet.{IsQuiet}
@@ -12,8 +12,8 @@ use Rattle.mdv_store.specs.Commit.{AnyWorld}
 use Rattle.mdv_store.specs.Records.{Spells}
 use Rattle.mdv_store_law.specs.Log.{EndAlone, Ends, Over}
 use Rattle.mdv_places.specs.Moments.{IsFront, IsLogOf}
-use Rattle.mdv_places.specs.declared.asked.Move.TheVariants as asks
-use Rattle.mdv_places.specs.Below.{Core, Database, Event, Geometry, Ghosts, IsOpenedAt, IsReadyWith, Log, One, Opened, Place, Replica, RestStands, Spot, Tale, at_of, last_of, seats_area, site_of, spots_of}
+use Rattle.mdv_places.specs.Asked.{KeepsFirst}
+use Rattle.mdv_places.specs.Below.{Core, Database, DriveNo, Event, Failures, Geometry, Ghosts, IsOpenedAt, IsReadyWith, Log, One, Opened, Place, Replica, RestStands, Spot, Tale, at_of, last_of, seats_area, site_of, spots_of}
 
 -- The database has one place, and it is active.
 pub record IsSole (o : Opened) : Type 0 where
@@ -39,7 +39,7 @@ EndGoes g o Then After t m =
 -- What an end starts from: the database is open, and its place is the first of its slice, so that the slice shows nothing once its master is blank.
 pub record MayEnd (g : Geometry) (o : Opened) (t : Tale) : Type 0 where
   pub opened : IsOpenedAt g o t
-  pub front : IsFront asks.First (last_of o.table.plan.lists)
+  pub front : IsFront KeepsFirst (last_of o.table.plan.lists)
 
 -- The rest stands, and may be taken on the place's slice: what lies behind the place there isn't found any more.
 pub record RestMayEnd (g : Geometry) (all : List Database) (o : Opened) (t : Tale) : Type 0 where
@@ -58,3 +58,14 @@ pub record EndMoment (o : Opened) (t m : Tale) : Type 0 where
 pub record EndEnds (o : Opened) (t u : Tale) : Type 0 where
   pub gone : (g : Geometry) → MayEnd g o t → EndGoes g o IsDeleted (λ log. log.fate ≡ Over) t u
   pub only : (s : IsSole o) → AreDone (Blanks (at_of s.replica) ∷ []) t u
+
+-- A call failed on the place's drive, and none on any other.
+pub record HasFailedThere (calls : ℕ → Failures) (o : Opened) : Type 0 where
+  pub sole : IsSole o
+  pub here : (calls sole.replica.line.at.drive.0).some
+  pub elsewhere : (other : DriveNo) → (other ≡ sole.replica.line.at.drive → ⊥) → (calls other.0).none
+
+-- What came of it, by how the calls on each drive came out: none failed, or that.
+abbrev pub IsEndedBy : (ℕ → Failures) → Opened → Result (Unit {0}) Failed → Type 0
+IsEndedBy calls o (Ok done) = (drive : ℕ) → (calls drive).none
+IsEndedBy calls o (Err fault) = HasFailedThere calls o

@@ -2,8 +2,8 @@
 pub use Rattle.mdv_standing.specs.Tracing.{GoesTracedBy, TracesBy}
 use Rattle.mdv_store_law.specs.Log.{ChangesAndPlaces, Issue}
 use Rattle.mdv_places.specs.Asked.{places_added}
-use Rattle.mdv_places.specs.declared.asked.Move.{Move}
+use Rattle.mdv_places.specs.Asked.{Asks}
 
 -- changes, and formats of the places that are added
-abbrev pub IsMoving : Move → Issue → Type 0
+abbrev pub IsMoving : Asks → Issue → Type 0
 IsMoving asked = ChangesAndPlaces (places_added asked)

@@ -6,4 +6,5 @@ pub mod Counts
 pub mod Going
 pub mod Moments
 pub mod Ending
-pub mod Named
+pub mod Outcomes
+pub mod Answer

@@ -2,7 +2,7 @@
 ghost use Rattle.std.specs.Prelude.{◌≡◌, ◌<◌, ◌≤◌, ◌+◌, ◌*◌, ◌^◌, ◌++◌, flat_map, length, take};
 ghost use Rattle.std.specs.List.{list_any};
 ghost use Rattle.mdv_table.specs.Plan.{beside, same_place};
-ghost use Rattle.mdv_places.specs.Asked.{IsShort, is_on as spec_is_on, list_after as spec_list_after, list_less as spec_list_less, places_on};
+ghost use Rattle.mdv_places.specs.Asked.{IsShort, asked_of, is_on as spec_is_on, list_after as spec_list_after, list_less as spec_list_less, places_on};
 
 use mdv_base::{Place, Places, SliceName};
 use mdv_name::SliceLine;
@@ -28,9 +28,9 @@ pub enum Move<'a> {
 // The list that comes.
 pub(crate) fn list_after(places: &[Place], asked: &Move) -> Places
     requires old { length places.now ≤ 50 }
-    requires few { length (spec_list_after asked.now places.now) ≤ 50 }
-    requires short { IsShort asked.now }
-    ensures { result ≡ spec_list_after asked.now places.now }
+    requires few { length (spec_list_after (asked_of asked.now) places.now) ≤ 50 }
+    requires short { IsShort (asked_of asked.now) }
+    ensures { result ≡ spec_list_after (asked_of asked.now) places.now }
 {
     match asked {
         Move::Add {
@@ -56,10 +56,10 @@ pub(crate) fn copy_of(places: &[Place]) -> Places
 }
 
 fn list_more(places: &[Place], lines: &[SliceLine], count: u8, blocks: u32) -> Places
-    requires few { length (places.now ++ flat_map (places_on count blocks) lines.now) ≤ 50 }
+    requires few { length (places.now ++ flat_map (λ (line : SliceLine). places_on count blocks line.name) lines.now) ≤ 50 }
     requires count { count ≤ 50 }
     requires blocks { blocks ≤ 8192 }
-    ensures { result ≡ places.now ++ flat_map (places_on count blocks) lines.now }
+    ensures { result ≡ places.now ++ flat_map (λ (line : SliceLine). places_on count blocks line.name) lines.now }
 {
     let mut list = copy_of(places);
     for line in lines {
@@ -69,10 +69,10 @@ fn list_more(places: &[Place], lines: &[SliceLine], count: u8, blocks: u32) -> P
 }
 
 fn add_places(list: &mut Places, line: SliceLine, count: u8, blocks: u32)
-    requires few { length (list.old ++ places_on count blocks line) ≤ 50 }
+    requires few { length (list.old ++ places_on count blocks line.name) ≤ 50 }
     requires count { count ≤ 50 }
     requires blocks { blocks ≤ 8192 }
-    ensures { list.new ≡ list.old ++ places_on count blocks line }
+    ensures { list.new ≡ list.old ++ places_on count blocks line.name }
 {
     for number in 0..count {
         list.push(place_on(line, blocks, number));

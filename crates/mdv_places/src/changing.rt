@@ -3,7 +3,9 @@ ghost use Rattle.std.specs.Prelude.{◌≡◌, length};
 ghost use Rattle.mdv_shelf.specs.Drives.{KeptAmong};
 ghost use Rattle.mdv_shelf.specs.Shelves.{AtEachTale, AtEnd};
 ghost use Rattle.mdv_store.specs.Seats.{AreLaid};
-ghost use Rattle.mdv_places.specs.Changing.{MayMove, MoveAnswer, drives_moved};
+ghost use Rattle.mdv_places.specs.Asked.{asked_of};
+ghost use Rattle.mdv_places.specs.Answer.{MoveAnswer};
+ghost use Rattle.mdv_places.specs.Changing.{MayMove, drives_moved};
 ghost use Rattle.mdv_places.specs.Counts.{IsMoveCounted};
 ghost use Rattle.mdv_places.specs.Moments.{MoveEnds, MoveMoment};
 
@@ -95,12 +97,12 @@ pub fn change_places<S: Shelf>(
     asked: &Move,
 ) -> Result<bool, PlacesFault>
     requires laid { AreLaid (S.sizes shelf.old) store.old.seats }
-    requires asked { MayMove (S.sizes shelf.old) geometry.now store.old asked.now }
-    ensures answer { MoveAnswer S.Shelf shelf.old shelf.new geometry.now store.old store.new asked.now result }
-    ensures moments { AtEachTale S.Shelf (MoveMoment geometry.now store.old asked.now) shelf.old shelf.new }
-    ensures end { AtEnd S.Shelf (MoveEnds geometry.now store.old store.new asked.now result) shelf.old shelf.new }
-    ensures counted { IsMoveCounted S.Shelf shelf.old shelf.new geometry.now store.old asked.now result }
-    ensures kept { KeptAmong S.Shelf shelf.old shelf.new (drives_moved geometry.now store.old asked.now) }
+    requires asked { MayMove (S.sizes shelf.old) geometry.now store.old (asked_of asked.now) }
+    ensures answer { MoveAnswer S.Shelf shelf.old shelf.new geometry.now store.old store.new (asked_of asked.now) result }
+    ensures moments { AtEachTale S.Shelf (MoveMoment geometry.now store.old (asked_of asked.now)) shelf.old shelf.new }
+    ensures end { AtEnd S.Shelf (MoveEnds geometry.now store.old store.new (asked_of asked.now) result) shelf.old shelf.new }
+    ensures counted { IsMoveCounted S.Shelf shelf.old shelf.new geometry.now store.old (asked_of asked.now) result }
+    ensures kept { KeptAmong S.Shelf shelf.old shelf.new (drives_moved geometry.now store.old (asked_of asked.now)) }
 {
     let was = copy_of(store.table().plan.lists.last());
     let next = list_after(was.as_slice(), asked);

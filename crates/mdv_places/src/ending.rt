@@ -1,8 +1,8 @@
 // How a database with one place ends.
 ghost use Rattle.std.specs.Prelude.{OnOk};
-ghost use Rattle.mdv_shelf.specs.Shelves.{AtEachTale, AtEnd};
+ghost use Rattle.mdv_shelf.specs.Shelves.{AtEachTale, AtEnd, DriveFailures};
 ghost use Rattle.mdv_store.specs.Seats.{AreLaid};
-ghost use Rattle.mdv_places.specs.Ending.{EndEnds, EndMoment, HasEnded, IsSole};
+ghost use Rattle.mdv_places.specs.Ending.{EndEnds, EndMoment, HasEnded, IsEndedBy, IsSole};
 
 use mdv_base::Failed;
 use mdv_replica::wipe;
@@ -16,6 +16,7 @@ pub fn end<S: Shelf>(store: Store, shelf: &mut S) -> Result<(), Failed>
     requires sole { IsSole store }
     ensures answer { HasEnded S.Shelf shelf.old shelf.new store result }
     ensures moments { AtEachTale S.Shelf (EndMoment store) shelf.old shelf.new }
+    ensures by { IsEndedBy (DriveFailures S.Shelf shelf.old shelf.new) store result }
     ensures end { OnOk result (AtEnd S.Shelf (EndEnds store) shelf.old shelf.new) }
 {
     let seat = store.seats()[0];

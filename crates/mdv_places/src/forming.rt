@@ -3,7 +3,7 @@ ghost use Rattle.std.specs.Prelude.{◌≡◌, ◌≢◌, ◌≤◌, ◌<◌, �
 ghost use Rattle.mdv_acts.specs.Acts.{HaveGone, HaveStopped, acts_asked};
 ghost use Rattle.mdv_acts.specs.Asked.{AreAsked, drives_asked};
 ghost use Rattle.mdv_store.specs.Create.{seats_asked as spec_seats_asked};
-ghost use Rattle.mdv_places.specs.Asked.{AreAskedOn, IsShort, acts_moved, claimed as spec_claimed, claims, drives_added};
+ghost use Rattle.mdv_places.specs.Asked.{AreAskedOn, IsShort, KeepsFirst, acts_moved, asked_of, claimed as spec_claimed, claims, drives_added};
 ghost use Rattle.mdv_places.specs.Changing.{IsPrepared};
 
 use crate::asked::Move;
@@ -32,9 +32,9 @@ pub(crate) fn prepare(
     lists: &Lists,
     asked: &Move,
 ) -> Result<Hand, AllocError>
-    requires { IsShort asked.now }
-    ensures made { IfOk result (IsPrepared store.now lists.now asked.now) }
-    ensures wanting { OnErr result (asked.now ≢ Move.First) }
+    requires { IsShort (asked_of asked.now) }
+    ensures made { IfOk result (IsPrepared store.now lists.now (asked_of asked.now)) }
+    ensures wanting { OnErr result (asked_of asked.now ≢ KeepsFirst) }
 {
     let mut hand = Hand {
         seats: None,
@@ -97,9 +97,9 @@ fn claimed(replica: Option<Replica>, claim: u64) -> Option<Replica>
 // Where places are added masters are blanked, as before a creation, and each of the places is formatted under the number of the last boot.
 pub(crate) fn form<S: Shelf>(shelf: &mut S, store: &Store, asked: &Move) -> Result<(), Failed>
     requires boot { store.now.mark.boot < 2 ^ 63 }
-    requires asked { AreAskedOn (S.sizes shelf.old) asked.now }
-    ensures gone { OnOk result (HaveGone S.Shelf shelf.old shelf.new (drives_added asked.now) (acts_moved store.now asked.now)) }
-    ensures stopped { OnErr result (HaveStopped S.Shelf shelf.old shelf.new (drives_added asked.now) (acts_moved store.now asked.now)) }
+    requires asked { AreAskedOn (S.sizes shelf.old) (asked_of asked.now) }
+    ensures gone { OnOk result (HaveGone S.Shelf shelf.old shelf.new (drives_added (asked_of asked.now)) (acts_moved store.now (asked_of asked.now))) }
+    ensures stopped { OnErr result (HaveStopped S.Shelf shelf.old shelf.new (drives_added (asked_of asked.now)) (acts_moved store.now (asked_of asked.now))) }
 {
     match asked {
         Move::Add {

@@ -12,5 +12,6 @@ mod Changed
 mod Steps
 pub mod Events
 pub mod Stands
+pub mod Deleted
 mod Rising
 mod Limits

@@ -8,7 +8,7 @@ use Rattle.mdv_engine_law.specs.declared.answer.Outcome.TheVariants as outcome
 use Rattle.mdv_engine_law.specs.declared.answer.Reply.TheVariants as reply
 use Rattle.mdv_engine_law.specs.Line.{Nothing, Ask, asked_by}
 use Rattle.std.proofs.Common.{◌≡◌, Option, Some, None, inl, inr, ℕ, ◌<◌, List, [], length, take, refl, sym, ◌∙◌, subst, arith}
-use Rattle.mdv_run.specs.Below.{OutOfMemory, TooMany, Answer, IsAnswered, Kept, LinesMoment, Script, line, tab_text, told, Tale, Spelled, Boot, IsLine, Reply, IsReplied, IsTold, IsTurnedDown, FailedOnSite, Host, IsLostOnSite, Memory, Engine, Executed, Knows, StaysHome, Turned, RanTo, key_of, kept_at}
+use Rattle.mdv_run.specs.Below.{OutOfMemory, TooMany, Answer, IsAnswered, Kept, LinesMoment, meant, Script, line, tab_text, told, Tale, Spelled, Boot, IsLine, Reply, IsReplied, IsTold, IsTurnedDown, FailedOnSite, Host, IsLostOnSite, Memory, Engine, Executed, Knows, StaysHome, Turned, RanTo, key_of, kept_at}
 use Rattle.mdv_run.specs.Promise.{IsUncut, IsWorkOf, LineStays, LineStaysAs, LinesStay}
 use Rattle.mdv_run.specs.Turns.{LineAnswered}
 use Rattle.mdv_words.specs.Line as words
@@ -113,7 +113,7 @@ said_still failed said given (inr cut) still = subst IsStillEnd cut.0 still
 
 -- a line that was carried out is answered
 pub line_executed : (text : List ℕ) (spelled : Spelled) → IsLine text spelled → (outcomes : Outcomes) (replies : Type 0) (made : Made) (host : Host) (old new : Memory) (given : Reply) (t u : Tale) → Executed outcomes replies made host spelled old new given t u → LineWrites host spelled old t u
-    → (IsQuietRefusal given → KeptOutside nowhere t u) → (IsStillEnd given → KeptOutside nowhere t u) → (spelled ≡ Boot → new.opened ≡ None → KeptOutside nowhere t u) → (given ≡ reply.Ok → (command : Command) → spelled ≡ words.Exec command → LeavesDone host old command u) → (given ≡ reply.Ok → spelled ≡ Boot → AreSynced host outcomes u) → LineAnswered outcomes replies made host text old new given t u
+    → (IsQuietRefusal given → KeptOutside nowhere t u) → (IsStillEnd given → KeptOutside nowhere t u) → (spelled ≡ Boot → new.opened ≡ None → KeptOutside nowhere t u) → (given ≡ reply.Ok → (command : Command) → spelled ≡ words.Exec command → LeavesDone host old (meant old.entries command) u) → (given ≡ reply.Ok → spelled ≡ Boot → AreSynced host outcomes u) → LineAnswered outcomes replies made host text old new given t u
 line_executed text spelled is outcomes replies made host old new given t u done writes unwritten still empty leaves synced = record {
   answer = done.answer;
   done = inr (inl (spelled, is, done.carried));

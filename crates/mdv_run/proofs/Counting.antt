@@ -1,5 +1,5 @@
 -- How the calls of a run's turns add up.
-use Rattle.std.proofs.Common.{◌≡◌, ◌≤◌, ◌+◌, inl, inr, ℕ, Bool, List, Option, None, Some, IfSome, sym, ◌∙◌, ap, subst, arith}
+use Rattle.std.proofs.Common.{◌≡◌, ◌⊎◌, ◌≤◌, ◌+◌, ◌*◌, inl, inr, ℕ, Bool, true, false, if◌then◌else◌, ◌++◌, [], ◌∷◌, length, List, Option, None, Some, IfSome, sym, ◌∙◌, ap, subst, arith}
 use Rattle.mdv_shelf.specs.Calls.{RoseByAtMost}
 use Rattle.mdv_shelf.specs.Shelves.{MadeCalls}
 use Rattle.mdv_shelf.specs.declared.shelf.Shelf.{Ghosts}
@@ -12,8 +12,19 @@ use Rattle.mdv_engine_law.specs.declared.answer.Answer.TheVariants.{Over as Ends
 use Rattle.mdv_engine_law.specs.declared.answer.Ended.{Ended}
 use Rattle.mdv_engine_law.specs.declared.answer.Reply.{Reply}
 use Rattle.mdv_engine_law.specs.declared.answer.Reply.TheVariants as reply
+use Rattle.mdv_engine.specs.Ends.{IsFew}
 use Rattle.mdv_engine.specs.Engine.{IsHeldBy}
-use Rattle.mdv_run.specs.Below.{Command, Create, Host, IsLine, IsWell, Read, Script, Spelled, Write, line, too_long}
+use Rattle.std.proofs.Math.Nat.{mul-le-mul_right}
+use Rattle.std.specs.Prelude.{nat_lt}
+use Rattle.mdv_acts.specs.Asked.{blanked_asked}
+use Rattle.mdv_base.specs.declared.drive.SliceName.{SliceName}
+use Rattle.mdv_base.specs.declared.name.VolId.{VolId}
+use Rattle.mdv_engine_law.specs.Hosts.{line_at, lines_asked}
+use Rattle.mdv_name.specs.SliceIndex.{slice_at}
+use Rattle.mdv_name.specs.declared.slice_lines.SliceAt.{SliceAt}
+use Rattle.mdv_name.specs.declared.slice_lines.SliceLine.{SliceLine}
+use Rattle.mdv_words.specs.Listed.{as_listed}
+use Rattle.mdv_run.specs.Below.{Command, AddListed, AddPlaces, DropPlaces, Host, IsLine, IsWell, Read, Script, Spelled, Write, line, listed_by, meant, Replicas, too_long}
 use Rattle.mdv_run.specs.Calls.{CallsLeft, ScriptCalls, TextCalls, TurnTook, boot_calls, command_calls, line_calls}
 use Rattle.mdv_run.specs.Turns.{turn_of}
 use Rattle.mdv_run_law.specs.Run.{IsNoCommand}
@@ -99,16 +110,52 @@ module _ (host other : Host) (same : other ≡ host) (first mid last : Option �
   took_over before so_far turn = at_most_more so_far.made so_far.rest n first mid last so_far.within so_far.took
       (turn so_far.script so_far.is_left so_far.rest (subst (λ (h : Host). ScriptCalls h so_far.script so_far.rest) (sym same) so_far.for_rest))
 
+-- the slices that are there are no more than those that are named
+lines_few : (host : Host) (slices : List SliceName) → length (lines_asked host slices) ≤ length slices
+lines_few host [] = omega arith
+lines_few host (slice ∷ slices) = by (lines_few host slices) (slice_at host.drives.slices slice) where
+  by : length (lines_asked host slices) ≤ length slices → (at : Option SliceAt) → length (line_at slice at ++ lines_asked host slices) ≤ length (slice ∷ slices)
+  by rest None = omega (arith, rest)
+  by rest (Some at) = omega (arith, rest)
+
+blanked_few : (lines : List SliceLine) (count : ℕ) → blanked_asked lines count ≤ length lines * count
+blanked_few lines count = by (nat_lt 1 count) where
+  by : (more : Bool) → (if more then length lines * count else 0) ≤ length lines * count
+  by true = omega arith
+  by false = omega arith
+
+-- an entry's places are fifty at most
+listed_most : (host : Host) (opened : Option Opened) (r : Replicas) → length r.slices * r.count ≤ 50 → calls_of host opened (AddPlaces r.slices true r.count r.blocks) ≤ 14 * 50
+listed_most host opened r few =
+    let lines = lines_asked host r.slices in
+    let rows : length lines * r.count ≤ length r.slices * r.count = mul-le-mul_right r.count (lines_few host r.slices) in
+    let blanked = blanked_few lines r.count in
+    omega (arith, few, rows, blanked)
+
 -- a command, where the open database is one of the host's
-pub exec_calls : (host : Host) (memory : Memory) → IsWell host memory → (command : Command) (old new : Option ℕ) → RoseByAtMost (1 + calls_of host memory.opened command) old new → RoseByAtMost (1 + command_calls host command) old new
-exec_calls host memory well command old new took = wider old new (1 + calls_of host memory.opened command) (1 + command_calls host command) (let most = command_most host memory.opened well.database command in omega (arith, most)) took where
-  command_most : (host : Host) (opened : Option Opened) → IfSome opened (IsHeldBy host) → (command : Command) → calls_of host opened command ≤ command_calls host command
-  command_most host opened held (Create slices force count blocks) = omega arith
-  command_most host None held (asked.MakeStripe volume slice) = omega arith
-  command_most host (Some o) held (asked.MakeStripe volume slice) = (let few = held.few in let active = active_most o.seats in omega (arith, few, active))
-  command_most host opened held (Read volume at count) = omega arith
-  command_most host opened held (Write volume at block) = omega arith
-  command_most host opened held (asked.Print names) = omega arith
+pub exec_calls : (host : Host) (memory : Memory) → IsWell host memory → (command : Command) (old new : Option ℕ) → RoseByAtMost (1 + calls_of host memory.opened (meant memory.entries command)) old new → RoseByAtMost 2 old new ⊎ IsFew (meant memory.entries command)
+    → RoseByAtMost (1 + command_calls host command) old new
+exec_calls host memory well command old new took few = by command took few where
+  wide : (calls most : ℕ) → calls ≤ most → RoseByAtMost (1 + calls) old new → RoseByAtMost (1 + most) old new
+  wide calls most less took = wider old new (1 + calls) (1 + most) (omega (arith, less)) took
+
+  stripe : (opened : Option Opened) → IfSome opened (IsHeldBy host) → (volume : VolId) (slice : SliceName) → calls_of host opened (asked.MakeStripe volume slice) ≤ 6 * 50
+  stripe None held volume slice = omega arith
+  stripe (Some o) held volume slice = (let few = held.few in let active = active_most o.seats in omega (arith, few, active))
+
+  listed : (number : ℕ) (force : Bool) (said : Option Replicas) → RoseByAtMost (1 + calls_of host memory.opened (as_listed number force said)) old new → RoseByAtMost 2 old new ⊎ IsFew (as_listed number force said) → RoseByAtMost (1 + 14 * 50) old new
+  listed number force said took (inl two) = wide 1 (14 * 50) (omega arith) two
+  listed number force (Some r) took (inr few) = wide (calls_of host memory.opened (AddPlaces r.slices force r.count r.blocks)) (14 * 50) (listed_most host memory.opened r few) took
+  listed number force None took (inr few) = wide 0 (14 * 50) (omega arith) took
+
+  by : (command : Command) → RoseByAtMost (1 + calls_of host memory.opened (meant memory.entries command)) old new → RoseByAtMost 2 old new ⊎ IsFew (meant memory.entries command) → RoseByAtMost (1 + command_calls host command) old new
+  by (AddPlaces slices force count blocks) took few = took
+  by (AddListed number force) took few = listed number force (listed_by memory.entries number) took few
+  by (DropPlaces slices force) took few = took
+  by (asked.MakeStripe volume slice) took few = wide (calls_of host memory.opened (asked.MakeStripe volume slice)) (6 * 50) (stripe memory.opened well.database volume slice) took
+  by (Read volume at count) took few = took
+  by (Write volume at block) took few = took
+  by (asked.Print names) took few = took
 
 -- a boot
 module _ {S : Type 0} (shelf : Ghosts S) (host : Host) where

@@ -4,7 +4,7 @@ use Rattle.mdv_shelf.specs.Calls.{RoseByAtMost}
 use Rattle.mdv_engine_law.specs.Efforts.{places_on}
 use Rattle.mdv_engine_law.specs.Hosts.{lines_asked}
 use Rattle.mdv_items.specs.declared.gather.GatherFault.{GatherFault}
-use Rattle.mdv_run.specs.Below.{Boot, Command, Create, Host, IsItem, IsLine, Read, Script, Spelled, Write, at_end, line, spent, too_long}
+use Rattle.mdv_run.specs.Below.{Boot, Command, AddListed, AddPlaces, DropPlaces, Host, IsItem, IsLine, Read, Script, Spelled, Write, at_end, line, spent, too_long}
 use Rattle.mdv_run_law.specs.Run.{IsNoCommand}
 use Rattle.mdv_store.specs.BootCounts.{most_calls, most_reads}
 use Rattle.mdv_acts.specs.Asked.{blanked_asked}
@@ -17,10 +17,12 @@ use Rattle.mdv_run.specs.declared.session.Turn.TheVariants.{On, Over}
 abbrev pub boot_calls : Host → ℕ
 boot_calls host = 2 * length host.site.drives + most_reads host.site + most_calls
 
--- What a command takes: a creation twelve for each place, and two more for each that is blanked before; a change six for each of a hundred places; a read one, a write two, and a print none.
+-- What a command takes: a creation twelve for each place, and two more for each that is blanked before, where it names an entry of fifty places at most; a change six for each of fifty places; a read one, a write two, and a print none.
 abbrev pub command_calls : Host → Command → ℕ
-command_calls host (Create slices force count blocks) = 2 * blanked_asked (lines_asked host slices) count + 12 * places_on (lines_asked host slices) count
-command_calls host (command.MakeStripe volume slice) = 6 * 100
+command_calls host (AddPlaces slices force count blocks) = 2 * blanked_asked (lines_asked host slices) count + 12 * places_on (lines_asked host slices) count
+command_calls host (AddListed number force) = 14 * 50
+command_calls host (DropPlaces slices force) = 0
+command_calls host (command.MakeStripe volume slice) = 6 * 50
 command_calls host (Read volume at count) = 1
 command_calls host (Write volume at block) = 2
 command_calls host (command.Print names) = 0

@@ -201,6 +201,6 @@ module _ (host : Host) where
       es = Boots (key_of host) [] ∷ [];
       course = ((tt, tt), tt);
       come = only_booted (Boots (key_of host) [] ∷ []) [] (record { tells = refl; issues = (tt, tt); begins = tt }) (contains_first (Boots (key_of host) []) []);
-      stands = record { databases = stands.databases; laid = stands.laid; apart = stands.apart; volumes = stands.volumes };
+      stands = record { databases = stands.databases; anew = stands.anew; laid = stands.laid; apart = stands.apart; volumes = stands.volumes };
       after = tt;
     })

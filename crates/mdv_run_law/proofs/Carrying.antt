@@ -1,9 +1,18 @@
 -- Where nothing failed and memory wasn't wanting, a line comes to one answer.
-use Rattle.std.proofs.Common.{◌≡◌, inl, inr, ℕ, zero, suc, ◌+◌, ◌≤◌, ◌<◌, false, List, [], ◌∷◌, length, map, Option, Some, Contains, refl, sym, ◌∙◌, ap, subst, arith}
-use Rattle.std.specs.List.{range_with_len}
-use Rattle.mdv_base.specs.DriveSet.{Drives}
+use Rattle.std.proofs.Common.{◌≡◌, inl, inr, ℕ, zero, suc, ◌+◌, ◌≤◌, ◌<◌, Bool, false, ◌&&◌, ◌||◌, not, if◌then◌else◌, List, [], ◌∷◌, ◌++◌, length, map, Option, Some, Contains, refl, sym, ◌∙◌, ap, subst, arith, None}
+use Rattle.std.specs.List.{list_any, range_with_len}
+use Rattle.std.specs.Prelude.{is_some}
+use Rattle.mdv_base.specs.Order.{first_refusal, where_so}
+use Rattle.mdv_base.specs.declared.drive.DriveNo.{DriveNo}
+use Rattle.mdv_base.specs.declared.drive.SliceName.{SliceName}
+use Rattle.mdv_name.specs.SliceIndex.{slice_at}
+use Rattle.mdv_engine_law.specs.Below.{Absent, Down, Inactive, NeedForce, NoSuchSlice, Place, SliceAt, WrongKind}
+use Rattle.mdv_engine_law.specs.Places.{list_of}
+use Rattle.mdv_base.specs.DriveSet.{Drives, has_drive}
 use Rattle.mdv_map.specs.Maps.{DriveBlock}
-use Rattle.mdv_run_law.specs.Below.{AreBlocksAt, ArePut, Answer, BadLine, CameTo, Command, ComesTo, Create, Entry, Host, Image, IsCommitted, IsCreated, IsSame, IsSameBeside, IsTab, IsTurnedDown, Kept, Line, Memory, Opened, Print, Read, Refusal, SliceLine, Spells, Table, TooMany, VolId, Write, blocks_of, entries_reply, identity_of, key_of, listing_of, printed_reply, record_text, site_area, site_of, values_reply}
+use Rattle.mdv_words.proofs.Tabs.{entries_are_in_form}
+use Rattle.mdv_run_law.proofs.Meaning.{formed_as, meant_in_form}
+use Rattle.mdv_run_law.specs.Below.{AreBlocksAt, ArePut, Answer, BadLine, CameTo, Command, ComesTo, AddListed, AddPlaces, DropPlaces, Entry, Host, Image, IsCommitted, IsCreated, IsSame, IsSameBeside, IsTab, IsTurnedDown, Kept, Line, Memory, Opened, Print, Read, Refusal, SliceLine, Spells, Table, TooMany, VolId, Write, blocks_of, meant, entries_reply, identity_of, key_of, listing_of, printed_reply, record_text, site_area, site_of, values_reply}
 use Rattle.mdv_words.specs.declared.command.Command.TheVariants as command
 use Rattle.mdv_words.specs.Line as words
 use Rattle.mdv_words.specs.Line.{IsInForm}
@@ -22,7 +31,7 @@ use Rattle.mdv_base.specs.declared.mark.Mark.{Mark}
 use Rattle.mdv_engine_law.proofs.Allowed.{allowed_slice}
 use Rattle.mdv_engine_law.proofs.Places.{asked_length}
 use Rattle.mdv_shelf.specs.Failing.{Outcomes}
-use Rattle.mdv_engine_law.specs.Refusals.{refusal_of}
+use Rattle.mdv_engine_law.specs.Refusals.{are_all, held_of_drop, held_of_lists, held_of_more, in_state, is_down, is_missing, is_plain, is_up_at, is_without, refusal_of, rest_of}
 use Rattle.mdv_replica.specs.declared.replica.Head.{Head}
 use Rattle.mdv_standing.specs.Creating.{first_mark}
 use Rattle.mdv_store.proofs.Spotting.{asked_active, asked_length as seats_length}
@@ -42,7 +51,7 @@ use Rattle.mdv_run_law.proofs.Moving.{IsAway, IsClear, alike_beside, areas_in_si
 use Rattle.mdv_run_law.proofs.Passing.{NoneFailed, left_active, left_is, never_short, seats_with, slotted, slotted_is}
 use Rattle.mdv_run_law.proofs.Placing.{one_at, at_beside, opened_twice}
 use Rattle.mdv_run_law.proofs.Written.{alike_behind, have, made, made_beside, written}
-use Rattle.mdv_store.specs.Shares.{short_of}
+use Rattle.mdv_store.specs.Shares.{short_in, short_of}
 use Rattle.mdv_store.specs.declared.seats.Need.TheVariants.{Half}
 use Rattle.mdv_store.proofs.Shares.{half_none}
 
@@ -80,13 +89,35 @@ module _ (calls also : Outcomes) (calm : NoneFailed calls) (calm_too : NoneFaile
     abbrev j : Kept
     j = record { memory = memory_too; content = d }
 
-    -- by which nothing is judged
-    one_refusal_of : (cmd : Command) → refusal_of (case_of host j) cmd ≡ refusal_of (case_of host k) cmd
-    one_refusal_of (Create slices force count blocks) = refl
-    one_refusal_of (command.MakeStripe volume slice) = refl
-    one_refusal_of (Read volume at count) = refl
-    one_refusal_of (Write volume at block) = refl
-    one_refusal_of (Print names) = refl
+    -- by which nothing is judged but the drives of places that go
+    module _ (ups : (drive : DriveNo) → has_drive memory.up drive ≡ has_drive up drive) where
+      one_up : (at : Option SliceAt) → is_up_at up at ≡ is_up_at memory.up at
+      one_up None = refl
+      one_up (Some at) = sym (ups at.drive)
+
+      one_down : (places : List Place) → list_any (is_down host up) places ≡ list_any (is_down host memory.up) places
+      one_down [] = refl
+      one_down (p ∷ places) = (λ i. not (one_up (slice_at host.drives.slices p.slice) i) || one_down places i)
+
+      one_drop : (opened : Option Opened) (slices : List SliceName) (force : Bool) → first_refusal (held_of_drop (case_of host j) opened slices force) ≡ first_refusal (held_of_drop (case_of host k) opened slices force)
+      one_drop None slices force = refl
+      one_drop (Some o) slices force =
+          let down : list_any (is_down host up) (list_of o) ≡ list_any (is_down host memory.up) (list_of o) = one_down (list_of o) in
+          let missing = where_so (list_any (is_missing host) slices) NoSuchSlice in
+          let plain = where_so (list_any (λ slice. is_plain (slice_at host.drives.slices slice)) slices) WrongKind in
+          let unforced = where_so (are_all o slices && not force) NeedForce in
+          let inactive = is_some (short_in Half o.seats (rest_of o slices)) in
+          λ i. first_refusal (held_of_more (Some o)
+          ((missing ++ (plain ++ (in_state (if list_any (is_without o) slices then Some Absent else if are_all o slices && down i then Some Down else if inactive then Some Inactive else None) ++ unforced))) ++ held_of_lists o (rest_of o slices)))
+
+      one_refusal_of : (cmd : Command) → refusal_of (case_of host j) cmd ≡ refusal_of (case_of host k) cmd
+      one_refusal_of (AddPlaces slices force count blocks) = refl
+      one_refusal_of (AddListed number force) = refl
+      one_refusal_of (DropPlaces slices force) = one_drop memory.opened slices force
+      one_refusal_of (command.MakeStripe volume slice) = refl
+      one_refusal_of (Read volume at count) = refl
+      one_refusal_of (Write volume at block) = refl
+      one_refusal_of (Print names) = refl
 
     as_there : (volume : VolId) (at count : ℕ) (from : DriveBlock) → AreBlocksAt host memory_too volume at count from → AreBlocksAt host memory volume at count from
     as_there volume at count from is = record { first = is.first; blocks = is.blocks; lies = is.lies; within = is.within; block_is = is.block_is }
@@ -146,6 +177,7 @@ module _ (calls also : Outcomes) (calm : NoneFailed calls) (calm_too : NoneFaile
               alike = alike_behind host.drives host.site (ok host has once) new new_site (IsClear (Spells host.drives) (one_text host.drives) host.site (ok host has once) (replicas_of new.seats)) c d n.content m.content same.alike
                   (made host.drives host.site (ok host has once) new new_site head (key_of host) (identity_of host memory.begun) lines count blocks refl c n.content one.beside opens)
                   (made host.drives host.site (ok host has once) new new_site head (key_of host) (identity_of host memory.begun) lines count blocks refl d m.content other.beside opens_too) opens opens_too;
+              formed = formed_as n.memory memory (ap (λ (x : Memory). x.entries) one.memory) same.formed;
               one = new_settled n one.opened is opens (ap (λ (x : Memory). x.opened) one.memory);
               other = new_settled m other.opened is_too opens_too (ap (λ (x : Memory). x.opened) other.memory);
             }
@@ -198,6 +230,7 @@ module _ (calls also : Outcomes) (calm : NoneFailed calls) (calm_too : NoneFaile
               alike = alike_behind host.drives host.site (ok host has once) next_open next_site (IsAway (Spells host.drives) (one_text host.drives) host.site (ok host has once) (replicas_of next_open.seats)) c d n.content m.content same.alike
                   (written host.drives host.site (ok host has once) next_open next_site next_head o.seats refl c n.content (there_each host has once o c held) one.beside opens)
                   (written host.drives host.site (ok host has once) next_open next_site next_head o.seats refl d m.content (there_each host has once o d held_too) other.beside opens_too) opens opens_too;
+              formed = formed_as n.memory memory (ap (λ (x : Memory). x.entries) one.memory) same.formed;
               one = next_settled calls calm n one.opened one.committed is opens (ap (λ (x : Memory). x.opened) one.memory);
               other = next_settled also calm_too m other.opened other.committed is_too opens_too (ap (λ (x : Memory). x.opened) other.memory);
             }
@@ -210,10 +243,12 @@ module _ (calls also : Outcomes) (calm : NoneFailed calls) (calm_too : NoneFaile
 
       -- both done
       effects : (cmd : Command) → IsInForm cmd → IsAllowed (case_of host k) cmd → Effect calls host k cmd a n → Effect also host j cmd b m → One host has once n m a b
-      effects (Create slices force count blocks) form free one two =
+      effects (AddPlaces slices force count blocks) form free one two =
           let lines = asked_length host slices (allowed_slice (case_of host k) slices force count blocks free) in
           let some = form.0 in
           (one.0 ∙ sym two.0, λ said. created (lines_asked host slices) count blocks (omega (arith, lines, some)) form.1.0 one.1 two.1)
+      effects (AddListed number force) form free one two = absurd one
+      effects (DropPlaces slices force) form free one two = absurd one
       effects (command.MakeStripe volume slice) form free (told, o, opened, one) (told_too, other, opened_too, two) =
           let is : other ≡ o = opened_twice memory.opened o other opened opened_too in (
             told ∙ sym told_too,
@@ -232,7 +267,9 @@ module _ (calls also : Outcomes) (calm : NoneFailed calls) (calm_too : NoneFaile
           (text ∙ ap (λ (x : Opened). telling (printed_reply (listing_of x.table.plan names))) same_open ∙ sym text_too, λ said. stays_same host has once k j n m same stays stays_too)
 
       never_faulted : (failed : Outcomes) → NoneFailed failed → (cmd : Command) (x y : Kept) → Fault failed host x cmd y → ⊥
-      never_faulted failed quiet (Create slices force count blocks) x y fault = quiet fault.failed.drive.0 fault.failed.here
+      never_faulted failed quiet (AddPlaces slices force count blocks) x y fault = quiet fault.failed.drive.0 fault.failed.here
+      never_faulted failed quiet (AddListed number force) x y fault = fault
+      never_faulted failed quiet (DropPlaces slices force) x y fault = fault
       never_faulted failed quiet (command.MakeStripe volume slice) x y fault = fault
       never_faulted failed quiet (Read volume at count) x y fault = quiet fault.0.drive fault.1.here
       never_faulted failed quiet (Write volume at block) x y fault = quiet fault.0.drive fault.1.here
@@ -253,12 +290,14 @@ module _ (calls also : Outcomes) (calm : NoneFailed calls) (calm_too : NoneFaile
 
       -- over for want of numbers alone
       over_is : (failed : Outcomes) → NoneFailed failed → (cmd : Command) (end : Ended) (x y : Kept) → GivesUp failed host x cmd end y → end ≡ ended.Spent
-      over_is failed quiet (Create slices force count blocks) (ended.Lost active listed) x y is =
+      over_is failed quiet (AddPlaces slices force count blocks) (ended.Lost active listed) x y is =
           absurd (never_unmade failed quiet (identity_of host x.memory.begun) (lines_asked host slices) count blocks active listed is.lost)
-      over_is failed quiet (Create slices force count blocks) ended.Spent x y is = refl
-      over_is failed quiet (Create slices force count blocks) ended.Memory x y is = absurd is
-      over_is failed quiet (Create slices force count blocks) (ended.NoQuorum readable needed) x y is = absurd is
-      over_is failed quiet (Create slices force count blocks) (ended.TwoDatabases one other) x y is = absurd is
+      over_is failed quiet (AddPlaces slices force count blocks) ended.Spent x y is = refl
+      over_is failed quiet (AddPlaces slices force count blocks) ended.Memory x y is = absurd is
+      over_is failed quiet (AddPlaces slices force count blocks) (ended.NoQuorum readable needed) x y is = absurd is
+      over_is failed quiet (AddPlaces slices force count blocks) (ended.TwoDatabases one other) x y is = absurd is
+      over_is failed quiet (AddListed number force) end x y is = absurd is
+      over_is failed quiet (DropPlaces slices force) end x y is = absurd is
       over_is failed quiet (command.MakeStripe volume slice) (ended.Lost active listed) x y is =
           absurd (never_uncommitted failed quiet is.0 (table_after host.drives (MakeStripe volume slice) is.0.table) active listed is.2.lost)
       over_is failed quiet (command.MakeStripe volume slice) ended.Spent x y is = refl
@@ -270,7 +309,9 @@ module _ (calls also : Outcomes) (calm : NoneFailed calls) (calm_too : NoneFaile
       over_is failed quiet (Print names) end x y is = absurd is
 
       spent_never : (cmd : Command) (failed other_calls : Outcomes) (x y z w : Kept) (answer : Answer) → x.memory.opened ≡ y.memory.opened → GivesUp failed host x cmd ended.Spent z → Effect other_calls host y cmd answer w → ⊥
-      spent_never (Create slices force count blocks) failed other_calls x y z w answer is gives effect = gives
+      spent_never (AddPlaces slices force count blocks) failed other_calls x y z w answer is gives effect = gives
+      spent_never (AddListed number force) failed other_calls x y z w answer is gives effect = gives
+      spent_never (DropPlaces slices force) failed other_calls x y z w answer is gives effect = gives
       spent_never (command.MakeStripe volume slice) failed other_calls x y z w answer is (quiet, o, opened, high, stays) (told, other, opened_too, done) =
           let count = ap (λ (x : Opened). x.mark.count) (opened_twice y.memory.opened o other (sym is ∙ opened) opened_too) in
           let small = done.committed.tried.small in
@@ -290,13 +331,13 @@ module _ (calls also : Outcomes) (calm : NoneFailed calls) (calm_too : NoneFaile
       same_refusal r q o is also = cc
 
       came_same : (cmd : Command) → IsInForm cmd → CameTo calls host k cmd a n → CameTo also host j cmd b m → One host has once n m a b
-      came_same cmd form (came.refused quiet r is left) (came.refused quiet_too q is_too left_too) = refused r q (same_refusal r q (refusal_of (case_of host k) cmd) is (sym (one_refusal_of cmd) ∙ is_too)) left left_too
-      came_same cmd form (came.refused quiet r is left) (came.done free effect) = absurd (never cmd r is (sym (one_refusal_of cmd) ∙ free))
-      came_same cmd form (came.refused quiet r is left) (came.over end free so gives) = absurd (never cmd r is (sym (one_refusal_of cmd) ∙ free))
-      came_same cmd form (came.done free effect) (came.refused quiet_too r is left) = absurd (never cmd r (sym (one_refusal_of cmd) ∙ is) free)
+      came_same cmd form (came.refused quiet r is left) (came.refused quiet_too q is_too left_too) = refused r q (same_refusal r q (refusal_of (case_of host k) cmd) is (sym (one_refusal_of same.memory.up cmd) ∙ is_too)) left left_too
+      came_same cmd form (came.refused quiet r is left) (came.done free effect) = absurd (never cmd r is (sym (one_refusal_of same.memory.up cmd) ∙ free))
+      came_same cmd form (came.refused quiet r is left) (came.over end free so gives) = absurd (never cmd r is (sym (one_refusal_of same.memory.up cmd) ∙ free))
+      came_same cmd form (came.done free effect) (came.refused quiet_too r is left) = absurd (never cmd r (sym (one_refusal_of same.memory.up cmd) ∙ is) free)
       came_same cmd form (came.done free effect) (came.done free_too effect_too) = effects cmd form free effect effect_too
       came_same cmd form (came.done free effect) (came.over end free_too so gives) = absurd (never_done also calls calm_too cmd end j k m n a refl gives effect)
-      came_same cmd form (came.over end free so gives) (came.refused quiet r is left) = absurd (never cmd r (sym (one_refusal_of cmd) ∙ is) free)
+      came_same cmd form (came.over end free so gives) (came.refused quiet r is left) = absurd (never cmd r (sym (one_refusal_of same.memory.up cmd) ∙ is) free)
       came_same cmd form (came.over end free so gives) (came.done free_too effect) = absurd (never_done calls also calm cmd end k j n m b refl gives effect)
       came_same cmd form (came.over end free so gives) (came.over other free_too so_too gives_too) =
           (so ∙ ap (λ (e : Ended). Over e) (over_is calls calm cmd end k n gives ∙ sym (over_is also calm_too cmd other j m gives_too)) ∙ sym so_too, λ said. absurd (let unsaid : ⊥ = subst IsSaid so said in unsaid))
@@ -329,6 +370,7 @@ module _ (calls also : Outcomes) (calm : NoneFailed calls) (calm_too : NoneFaile
                   (record { opened = refl; up = same.memory.up; clean = refl; begun = refl; entries = same_entries });
               beside = λ drive block out. kept drive block ∙ same.beside drive block out ∙ sym (kept_too drive block);
               alike = alike_beside (Spells host.drives) (one_text host.drives) host.site (ok host has once) c d n.content m.content (λ drive block within. kept drive block) (λ drive block within. kept_too drive block) same.alike;
+              formed = formed_as n.memory (record memory { entries = entries }) (ap (λ (x : Memory). x.entries) memory_is) (entries_are_in_form lines entries tab);
               one = settled_with k n entries memory_is kept same.one;
               other = settled_with j m others memory_also kept_too same.other;
             },
@@ -342,7 +384,7 @@ module _ (calls also : Outcomes) (calm : NoneFailed calls) (calm_too : NoneFaile
       comes : (text : List ℕ) (spelled : Line) → words.IsLine text spelled → ComesTo calls host k spelled a n → ComesTo also host j spelled b m → One host has once n m a b
       comes text (words.Tab lines) is first second = keeps_same lines first second
       comes text words.Boot is first second = boot_same host has once calls also calm calm_too k j n m a b same sated sated_too first second
-      comes text (words.Exec cmd) is first second = came_same cmd (commands_are_in_form text cmd is.1) first second
+      comes text (words.Exec cmd) is first second = came_same (meant memory.entries cmd) (meant_in_form memory.entries same.formed cmd (commands_are_in_form text cmd is.1)) first second
 
   -- a line comes to the same from what is kept in common
   one_carried : (text : List ℕ) (spelled : Line) → words.IsLine text spelled → (k j n m : Kept) (a b : Answer) → Both k j → IsSatisfied a → IsSatisfied b → ComesTo calls host k spelled a n → ComesTo also host j spelled b m → One host has once n m a b
@@ -352,7 +394,7 @@ module _ (calls also : Outcomes) (calm : NoneFailed calls) (calm_too : NoneFaile
       let moved = subst (λ (x : Memory). ComesTo also host (record { memory = x; content = j.content }) spelled b m) is second in
       let settled = subst (λ (x : Memory). There (record { memory = x; content = j.content })) is same.other in
       let memories : IsSameMemory k.memory (record k.memory { up = j.memory.up }) = record { opened = refl; up = fields.up; clean = refl; begun = refl; entries = refl } in
-      comes k.memory j.memory.up k.content j.content n m a b (record { memory = memories; beside = same.beside; alike = same.alike; one = same.one; other = settled }) sated sated_too text spelled line first moved
+      comes k.memory j.memory.up k.content j.content n m a b (record { memory = memories; beside = same.beside; alike = same.alike; formed = same.formed; one = same.one; other = settled }) sated sated_too text spelled line first moved
 
   -- and so does a line
   pub one_answer : (text : List ℕ) (k j n m : Kept) (a b : Answer) → Both k j → IsSatisfied a → IsSatisfied b → IsAnswered calls host k text a n → IsAnswered also host j text b m → One host has once n m a b

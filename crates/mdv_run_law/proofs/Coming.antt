@@ -5,7 +5,7 @@ use Rattle.std.proofs.lemmas.Slice.Eq.{bytes_eq-Decides}
 use Rattle.std.specs.Fmt.{digits}
 use Rattle.std.specs.Str.{bytes_eq}
 use Rattle.std.proofs.lemmas.List.Elements.{Contains-append_left, Contains-append_right}
-use Rattle.mdv_run_law.specs.Below.{Deleted, Script, at_end, spent, too_long, line, Deed, Created, Changed, Saw, Event, Host, Ask, Nothing, ToBoot, ToDo, ToMake, ToSee, asked_by_line, AcksBy, Wrote, ok_line, told_by}
+use Rattle.mdv_run_law.specs.Below.{Deleted, Script, at_end, spent, too_long, line, Deed, Created, Changed, Saw, Event, Host, Ask, Nothing, ToBoot, ToDo, ToMake, ToSee, asked_by_line, AcksBy, Wrote, ok_line, told_by, ToMakeListed}
 use Rattle.mdv_volumes.proofs.Lists.{first_or_behind}
 use Rattle.mdv_words.proofs.Lines.{one_line}
 use Rattle.mdv_volumes.specs.Happening.{tells}
@@ -32,6 +32,7 @@ pub acked_once : (ask : Ask) (reply : List ℕ) (a b : List Deed) (deed : Deed) 
 acked_once Nothing reply a b deed done one other has = subst (λ (l : List Deed). Contains l deed) (one ∙ sym other) has
 acked_once ToBoot reply a b deed done one other has = subst (λ (l : List Deed). Contains l deed) (one ∙ sym other) has
 acked_once (ToMake key lines count blocks) reply a b deed done one other has = subst (λ (l : List Deed). Contains l deed) (one ∙ sym other) has
+acked_once (ToMakeListed key number) reply a b deed done one other has = subst (λ (l : List Deed). Contains l deed) (one ∙ sym other) has
 acked_once (ToDo asked) reply a b deed done one other has = subst (λ (l : List Deed). Contains l deed) (one ∙ sym other) has
 acked_once (ToSee key volume at count) reply a b deed done (inl one) other has = absurd (let in_none : Contains [] deed = subst (λ (l : List Deed). Contains l deed) one.1 has in omega (arith, in_none.1))
 acked_once (ToSee key volume at count) reply a b deed done (inr one) other has = elim (first_or_behind (Saw key volume at one.blocks) deed [] (subst (λ (l : List Deed). Contains l deed) one.seen has)) [
@@ -54,6 +55,7 @@ wanting_acks : (ask : Ask) (reply : List ℕ) (done : List Deed) (deed : Deed) �
 wanting_acks Nothing reply done deed is wanting acks has = absurd (let none : Contains [] deed = subst (λ (l : List Deed). Contains l deed) acks has in omega (arith, none.1))
 wanting_acks ToBoot reply done deed is wanting acks has = absurd (let none : Contains [] deed = subst (λ (l : List Deed). Contains l deed) acks has in omega (arith, none.1))
 wanting_acks (ToMake key lines count blocks) reply done deed is wanting acks has = wanting_deed (Created key) reply done deed wanting acks has
+wanting_acks (ToMakeListed key number) reply done deed is wanting acks has = wanting_deed (Created key) reply done deed wanting acks has
 wanting_acks (ToDo asked) reply done deed is wanting acks has = wanting_deed asked reply done deed wanting acks has
 wanting_acks (ToSee key volume at count) reply done deed is wanting (inl acks) has = absurd (let none : Contains [] deed = subst (λ (l : List Deed). Contains l deed) acks.1 has in omega (arith, none.1))
 wanting_acks (ToSee key volume at count) reply done deed is wanting (inr acks) has = elim (first_or_behind (Saw key volume at acks.blocks) deed [] (subst (λ (l : List Deed). Contains l deed) acks.seen has)) [

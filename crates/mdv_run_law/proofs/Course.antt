@@ -5,7 +5,7 @@ use Rattle.mdv_base.specs.declared.refusal.Refusal.TheVariants.{IoFault}
 use Rattle.mdv_base.proofs.Causes.{rose_of_once, rose_within}
 use Rattle.mdv_listing.proofs.Lines.{listings_are_lines}
 use Rattle.mdv_status.specs.Values.{printed_reply}
-use Rattle.mdv_run_law.specs.Below.{Image, Refusal, BadLine, OutOfMemory, TooMany, Script, at_end, spent, too_long, line, replies_in, Command, Create, MakeStripe, Print, Read, Write, Boot, Line, Answer, Host, Kept, CameTo, ComesTo, IsRebooted, IsPlain, Spells, IsPlainAnswer, IsReply, refusal_line}
+use Rattle.mdv_run_law.specs.Below.{AreInForm, Image, Refusal, BadLine, OutOfMemory, TooMany, Script, at_end, spent, too_long, line, replies_in, Command, AddListed, AddPlaces, DropPlaces, MakeStripe, Print, Read, Write, Boot, Line, Answer, Host, Kept, CameTo, ComesTo, IsRebooted, IsPlain, Spells, IsPlainAnswer, IsReply, meant, refusal_line}
 use Rattle.mdv_words.specs.Line as words
 use Rattle.mdv_engine_law.specs.declared.answer.Answer.TheVariants.{Said, Over as Ends}
 use Rattle.mdv_engine_law.specs.declared.answer.Ended.{Ended}
@@ -50,7 +50,9 @@ module _ (calls : Outcomes) (host : Host) (kept next : Kept) (answer : Answer) w
   booted_plain is = subst IsPlainAnswer (sym is.answer_is) (end_plain is.end)
 
   effect_plain : (command : Command) → Effect calls host kept command answer next → IsPlainAnswer answer
-  effect_plain (Create slices force count blocks) is = ok_plain is.0
+  effect_plain (AddPlaces slices force count blocks) is = ok_plain is.0
+  effect_plain (AddListed number force) is = absurd is
+  effect_plain (DropPlaces slices force) is = absurd is
   effect_plain (MakeStripe volume slice) is = ok_plain is.0
   effect_plain (Read volume at count) is = subst IsPlainAnswer (sym is.3) (inl (record { at = at; blocks = _; is = refl }))
   effect_plain (Write volume at block) is = ok_plain is.3
@@ -76,7 +78,7 @@ module _ (calls : Outcomes) (host : Host) (kept next : Kept) (answer : Answer) w
   line_plain : (spelled : Line) → ComesTo calls host kept spelled answer next → IsPlainAnswer answer
   line_plain Boot is = booted_plain is
   line_plain (words.Tab lines) is = keeps_plain lines is
-  line_plain (words.Exec command) is = came_plain command is
+  line_plain (words.Exec command) is = came_plain (meant kept.memory.entries command) is
 
   pub answer_plain : (text : List ℕ) → IsAnswered calls host kept text answer next → IsPlainAnswer answer
   answer_plain text (inl (none, quiet, refused)) = refused_plain BadLine bad_line_plain refused.0
@@ -297,7 +299,7 @@ module _ (host : Host) (content : Image) (has : IsOfTable host) (once : AreOnce 
   beside_back n m is = record {
     script = sym is.script;
     refused = sym is.refused;
-    kept = record { memory = same_back n.kept.memory m.kept.memory is.kept.memory; beside = λ drive block out. sym (is.kept.beside drive block out); alike = alike_back (Spells host.drives) (one_text host.drives) host.site (ok host has once) n.kept.content m.kept.content is.kept.alike; one = is.kept.other; other = is.kept.one };
+    kept = record { formed = subst AreInForm is.kept.memory.entries is.kept.formed; memory = same_back n.kept.memory m.kept.memory is.kept.memory; beside = λ drive block out. sym (is.kept.beside drive block out); alike = alike_back (Spells host.drives) (one_text host.drives) host.site (ok host has once) n.kept.content m.kept.content is.kept.alike; one = is.kept.other; other = is.kept.one };
   }
 
   sated_apart : (piece rest x : List ℕ) (status : RunStatus) → IsSated ((piece ++ rest) ++ x) status → IsSated (piece ++ (rest ++ x)) status

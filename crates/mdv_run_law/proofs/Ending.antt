@@ -35,7 +35,7 @@ use Rattle.mdv_run_law.proofs.Passing.{NoneFailed, all_is, left_is, rewritten_by
 use Rattle.mdv_store.specs.Shares.{has_active, short_in, short_of}
 use Rattle.mdv_store.specs.declared.seats.Need.TheVariants.{More}
 use Rattle.mdv_store.specs.declared.seats.Share.{Share}
-use Rattle.mdv_store.proofs.Shares.{both_none, list_suffices, more_suffices, seat_at}
+use Rattle.mdv_store.proofs.Shares.{both_none, list_suffices, seat_at}
 use Rattle.mdv_store.proofs.Seating.{seat_of_replica}
 use Rattle.mdv_databases.proofs.Finding.{count_weaker}
 use Rattle.std.specs.Prelude.{count_by}

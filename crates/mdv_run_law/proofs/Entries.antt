@@ -1,7 +1,7 @@
 -- Which entries are kept behind a line that isn't `boot`.
 use Rattle.std.proofs.Common.{◌≡◌, inl, inr, ℕ, List, ◌++◌, length, Some, refl, sym, ◌∙◌, ap, subst}
 use Rattle.std.proofs.lemmas.List.{append_cancel_left}
-use Rattle.mdv_run_law.specs.Below.{Refusal, OutOfMemory, IsLine, entries_reply, refusal_line, told, Command, Create, MakeStripe, Print, Read, Write, Tale, Answer, Reply, Host, Memory, Kept, kept_at, CameTo, IsTold, IsReplied, Executed}
+use Rattle.mdv_run_law.specs.Below.{Refusal, OutOfMemory, IsLine, entries_reply, refusal_line, told, Command, AddListed, AddPlaces, DropPlaces, MakeStripe, Print, Read, Write, Tale, Answer, Reply, Host, Memory, Kept, kept_at, CameTo, IsTold, IsReplied, Executed, meant}
 use Rattle.mdv_words.specs.Line as words
 use Rattle.mdv_engine_law.specs.declared.answer.Answer.TheVariants.{Said, Over}
 use Rattle.mdv_shelf.specs.Failing.{Outcomes}
@@ -27,21 +27,27 @@ module _ (calls : Outcomes) (host : Host) (kept next : Kept) (answer : Answer) w
   entries_same same = ap (λ (m : Memory). m.entries) same
 
   effect_entries : (command : Command) → Effect calls host kept command answer next → next.memory.entries ≡ kept.memory.entries
-  effect_entries (Create slices force count blocks) is = ap (λ (m : Memory). m.entries) is.1.memory
+  effect_entries (AddPlaces slices force count blocks) is = ap (λ (m : Memory). m.entries) is.1.memory
+  effect_entries (AddListed number force) is = absurd is
+  effect_entries (DropPlaces slices force) is = absurd is
   effect_entries (MakeStripe volume slice) is = ap (λ (m : Memory). m.entries) is.3.memory
   effect_entries (Read volume at count) is = entries_same is.4.memory
   effect_entries (Write volume at block) is = entries_same is.4
   effect_entries (Print names) is = entries_same is.4.memory
 
   fault_entries : (command : Command) → Fault calls host kept command next → next.memory.entries ≡ kept.memory.entries
-  fault_entries (Create slices force count blocks) is = ap (λ (m : Memory). m.entries) is.memory
+  fault_entries (AddPlaces slices force count blocks) is = ap (λ (m : Memory). m.entries) is.memory
+  fault_entries (AddListed number force) is = absurd is
+  fault_entries (DropPlaces slices force) is = absurd is
   fault_entries (MakeStripe volume slice) is = absurd is
   fault_entries (Read volume at count) is = entries_same is.3.memory
   fault_entries (Write volume at block) is = entries_same is.3
   fault_entries (Print names) is = absurd is
 
   wanting_entries : (command : Command) → Wanting host kept command next → next.memory.entries ≡ kept.memory.entries
-  wanting_entries (Create slices force count blocks) is = ap (λ (m : Memory). m.entries) is.1.memory
+  wanting_entries (AddPlaces slices force count blocks) is = ap (λ (m : Memory). m.entries) is.1.memory
+  wanting_entries (AddListed number force) is = absurd is
+  wanting_entries (DropPlaces slices force) is = absurd is
   wanting_entries (MakeStripe volume slice) is = entries_same is.1.memory
   wanting_entries (Read volume at count) is = entries_same is.1.memory
   wanting_entries (Write volume at block) is = absurd is
@@ -68,7 +74,7 @@ module _ (calls : Outcomes) (replies : Type 0) (made : Made) (host : Host) (old 
   command_entries command spelled is replied = inr (inr (
     λ boot. absurd (let never : words.Boot ≡ words.Exec command = one_line text words.Boot (words.Exec command) boot spelled in cc (never)),
     λ lines tab. absurd (let never : words.Tab lines ≡ words.Exec command = one_line text (words.Tab lines) (words.Exec command) tab spelled in cc (never)),
-    ap Some (sym (came_entries calls host (kept_at old t) (kept_at new u) is.answer command is.carried (said_whole replies is.answer r is.replied.piece is.replied.as_told replied))),
+    ap Some (sym (came_entries calls host (kept_at old t) (kept_at new u) is.answer (meant old.entries command) is.carried (said_whole replies is.answer r is.replied.piece is.replied.as_told replied))),
   ))
 
   keeps_entries : (lines : List ℕ) → IsLine text (words.Tab lines) → (answer : Answer) (piece : List ℕ) → KeepsTab calls (kept_at old t) lines answer (kept_at new u) → told u ≡ told t ++ piece → IsTold replies answer r piece → IsReplied r → HasEntries text bytes (Some old.entries) new.entries

@@ -1,23 +1,26 @@
 -- What two courses keep in common, as far as a boot and a line can tell.
-use Rattle.std.proofs.Common.{◌≡◌, ◌⊎◌, ◌++◌, inl, inr, ℕ, ◌+◌, ◌<◌, Bool, true, false, cond, not, map, slice_get, List, [], ◌∷◌, Option, None, Some, Contains, length, refl, sym, ◌∙◌, ap, subst, arith}
+use Rattle.std.proofs.Common.{◌≡◌, ◌⊎◌, ◌++◌, inl, inr, ℕ, ◌+◌, ◌<◌, Bool, true, false, cond, not, slice_get, List, [], ◌∷◌, Option, None, Some, Contains, length, refl, sym, ◌∙◌, ap, subst, arith}
 use Rattle.std.proofs.lemmas.Bool.{cases_Bool, false≢true}
 use Rattle.std.specs.List.{find, list_any}
 use Rattle.std.proofs.lemmas.List.Elements.{Contains-append_cases, Contains-append_left, Contains-append_right, filter_map-append}
 use Rattle.std.proofs.lemmas.List.Kept.{AllPairs-filter}
 use Rattle.mdv_base.specs.declared.place.Place.{Place}
 use Rattle.mdv_base.specs.DriveSet.{has_drive}
+use Rattle.mdv_base.specs.declared.mark.Identity.{Identity}
+use Rattle.mdv_base.specs.declared.name.Key.{Key}
+use Rattle.mdv_name.specs.declared.geometry.Geometry.{Geometry}
 use Rattle.mdv_map.specs.Maps.{DriveBlock}
 use Rattle.mdv_record.proofs.Parsed.{is_read}
 use Rattle.mdv_record.specs.Text.{record_text}
 use Rattle.mdv_replica.specs.declared.replica.Head.{Head}
 use Rattle.mdv_shown.specs.Found.{IsFound}
-use Rattle.mdv_run_law.specs.Below.{Answer, ArePut, DriveNo, Drives, Host, Image, IsPlanOf, IsRebooted, IsSameBeside, Kept, Memory, Opened, OutOfMemory, Site, SliceLine, Spells, Stays, covers, key_of, site_area, site_of}
+use Rattle.mdv_run_law.proofs.Meaning.{formed_as, none_formed}
+use Rattle.mdv_run_law.specs.Below.{Answer, AreInForm, ArePut, DriveNo, Drives, Host, Image, IsPlanOf, IsRebooted, IsSameBeside, Kept, Memory, Opened, OutOfMemory, Site, SliceLine, Spells, Stays, covers, key_of, site_area, site_of}
 use Rattle.mdv_shelf.proofs.Blocks.{both_ways}
 use Rattle.mdv_shelf.specs.Failing.{Outcomes}
 use Rattle.mdv_shown.proofs.Sites.{law_sites}
 use Rattle.mdv_shown.specs.Site.{IsSite}
 use Rattle.mdv_shown.specs.Sites.{is_line_of}
-use Rattle.mdv_store.proofs.Seating.{seated_at}
 use Rattle.mdv_store.proofs.Sitting.{contains_behind, contains_first, first_or_behind, left_replica, replica_of, seat_of}
 use Rattle.mdv_replica.specs.declared.replica.Slot.{Slot}
 use Rattle.mdv_shown.specs.Shown.{IsNewestOf}
@@ -36,7 +39,8 @@ use Rattle.mdv_table.specs.declared.plan.Lists.{Lists}
 use Rattle.mdv_table.specs.declared.plan.Lists.TheVariants.{One as OneList, Two}
 use Rattle.mdv_table.specs.declared.table.Table.{Table}
 use Rattle.mdv_store.specs.Booting.{boot_area, has_written}
-use Rattle.mdv_store.specs.Seats.{active_of, drive_of, replica_area, replicas_of, seats_area}
+use Rattle.mdv_store.specs.Progress.{all_written}
+use Rattle.mdv_store.specs.Seats.{AreLeft, active_of, drive_of, replica_area, replicas_of, seats_area}
 use Rattle.mdv_store.specs.Text.{blocks_for}
 use Rattle.mdv_store.specs.declared.booting.BootEnd.{BootEnd}
 use Rattle.mdv_store.specs.declared.booting.BootEnd.TheVariants as end
@@ -45,7 +49,7 @@ use Rattle.mdv_survey.specs.declared.replica.Replica.{Replica}
 use Rattle.mdv_survey.specs.declared.replica.Survey.{Survey}
 use Rattle.mdv_table.specs.Plan.{places_of}
 use Rattle.mdv_engine_law.specs.Answers.{accepted, refusing}
-use Rattle.mdv_engine_law.specs.Line.{IsLeftBy, IsOpenOn, IsReadOf, IsUpBy, WritesBy, answered_by, booted_with, opened_by}
+use Rattle.mdv_engine_law.specs.Line.{IsLeftBy, IsOpenOn, IsReadOf, IsUpBy, LeftHoldOn, WritesBy, answered_by, booted_with, open_under, opened_by}
 use Rattle.mdv_engine_law.specs.declared.answer.Answer.TheVariants.{Over}
 use Rattle.mdv_engine_law.specs.declared.answer.Ended.TheVariants as ended
 use Rattle.mdv_run_law.specs.Run.{AreOnce, IsOfTable, IsSaid, IsSameMemory}
@@ -154,11 +158,12 @@ module _ (host : Host) (has : IsOfTable host) (once : AreOnce host.drives.slices
   abbrev pub Settled : Kept → Type 0
   Settled kept = (o : Opened) → kept.memory.opened ≡ Some o → IsHeld o kept.content
 
-  -- the same is in memory, and in each block that no replica may have
+  -- the same is in memory, its entries in their form, and in each block that no replica may have
   pub record Same (k j : Kept) : Type 0 where
     pub memory : IsSameMemory k.memory j.memory
     pub beside : (drive block : ℕ) → site_area host.site drive block ≡ false → k.content drive block ≡ j.content drive block
     pub alike : Alike k.content j.content
+    pub formed : AreInForm k.memory.entries
     pub one : Settled k
     pub other : Settled j
 
@@ -212,9 +217,17 @@ module _ (host : Host) (has : IsOfTable host) (once : AreOnce host.drives.slices
     memory = same_through n.memory k.memory j.memory m.memory one.memory other.memory same.memory;
     beside = λ drive block out. one.content drive block ∙ same.beside drive block out ∙ sym (other.content drive block);
     alike = alike_beside (Spells host.drives) (one_text host.drives) host.site ok k.content j.content n.content m.content (λ drive block within. one.content drive block) (λ drive block within. other.content drive block) same.alike;
+    formed = formed_as n.memory k.memory (ap (λ (m : Memory). m.entries) one.memory) same.formed;
     one = there_settled k n same.one (ap (λ (m : Memory). m.opened) one.memory) (λ drive block within. one.content drive block);
     other = there_settled j m same.other (ap (λ (m : Memory). m.opened) other.memory) (λ drive block within. other.content drive block);
   }
+
+  -- the places that the new list lacks show the table of both
+  gone_hold : (g : Geometry) (key : Key) (identity : Identity) (number : ℕ) (table : Table) (failed : Outcomes) (Took : Replica → Replica → Type 0) (rs : List Replica) (its : Identity) (text : ℕ) (lists : Lists) (last gone : List Seat) (content : Image)
+      → AreLeft failed Took (seats_of rs its text (gone_of lists)) gone → LeftHoldOn g key identity number table (all_written lists last gone) content → IsOpenOn g (open_under key identity number 0 table gone) content
+  gone_hold g key identity number table failed Took rs its text (OneList list) last [] content over hold = record { each = λ r has. absurd (omega (arith, has.1)); shown = λ r has. absurd (omega (arith, has.1)) }
+  gone_hold g key identity number table failed Took rs its text (OneList list) last (s ∷ gone) content over hold = absurd over
+  gone_hold g key identity number table failed Took rs its text (Two old new) last gone content over hold = hold.1
 
   -- A boot that wasn't refused memory, by its end.
   record Booted (calls : Outcomes) (k n : Kept) (e : BootEnd) : Type 0 where
@@ -223,7 +236,7 @@ module _ (host : Host) (has : IsOfTable host) (once : AreOnce host.drives.slices
     up_by : IsUpBy calls host e up clean
     survey : Survey
     all : IsAllOf host.drives host.site ok once_there brought k.content survey
-    by : IsEndBy calls (λ hand table gone. WritesBy host.drives host.site.key k.content n.content hand.identity hand.number hand.seats table gone) host.site survey e
+    by : IsEndBy calls (λ hand table progress. WritesBy host.drives host.site.key k.content n.content hand.identity hand.number hand.seats table progress) host.site survey e
     memory : IsSaid (answered_by e) → n.memory ≡ booted_with (opened_by e) up clean k.memory.begun
     content : IsLeftBy host.drives e n.content
     beside : IsSameBeside (boot_area host.site (has_written e)) k.content n.content
@@ -288,7 +301,10 @@ module _ (host : Host) (has : IsOfTable host) (once : AreOnce host.drives.slices
 
       -- the database as both passes left it there
       abbrev left_open : Opened
-      left_open = record { key = host.site.key; identity = is.by.written.hand.identity; mark = record { boot = is.by.written.hand.number; count = 0 }; table = newest.table; seats = is.by.gone }
+      left_open = open_under host.site.key is.by.written.hand.identity is.by.written.hand.number 0 newest.table is.by.gone
+
+      gone_on : IsOpenOn host.drives left_open n.content
+      gone_on = gone_hold host.drives host.site.key is.by.written.hand.identity is.by.written.hand.number newest.table calls (TakesBoth is.by.number (length (record_text newest.table))) rs is.by.replica.head.master.identity (blocks_for (length (record_text newest.table))) lists o.seats is.by.gone n.content is.by.over is.by.written.wrote.hold
 
       abbrev written_at : List Replica
       written_at = replicas_of (o.seats ++ is.by.gone)
@@ -325,7 +341,7 @@ module _ (host : Host) (has : IsOfTable host) (once : AreOnce host.drives.slices
       each : (key : host.site ≡ site_of host.drives o.key) (m : Replica) → Contains written_at m → There n.content m
       each key m there = elim (in_both m there) [
         | inl here ↦ its_each host.drives host.site ok o key n.content is.content m here
-        | inr gone ↦ its_each host.drives host.site ok left_open (its_site left_open (ap (λ (s : Site). s.key) has.site)) n.content is.by.written.wrote.shows m gone
+        | inr gone ↦ its_each host.drives host.site ok left_open (its_site left_open (ap (λ (s : Site). s.key) has.site)) n.content gone_on m gone
       ]
 
       -- a place of both lists is the new one's, or one that it lacks
@@ -417,8 +433,8 @@ module _ (host : Host) (has : IsOfTable host) (once : AreOnce host.drives.slices
           | inr left ↦ (
             record { boot = one.by.written.hand.number; count = 0 },
             one.by.newest.table,
-            one.by.written.wrote.shows.shown r left,
-            shown_too r (one.by.written.hand.number) (two.by.written.hand.number) (one.by.newest.table) (two.by.newest.table) (sym number) (ap (λ (x : Newest). x.table) (sym newest)) m.content (two.by.written.wrote.shows.shown r (subst (λ (ss : List Seat). Contains (replicas_of ss) r) gone left)),
+            (gone_on calls calm k n o one).shown r left,
+            shown_too r (one.by.written.hand.number) (two.by.written.hand.number) (one.by.newest.table) (two.by.newest.table) (sym number) (ap (λ (x : Newest). x.table) (sym newest)) m.content ((gone_on also calm_too j m o two).shown r (subst (λ (ss : List Seat). Contains (replicas_of ss) r) gone left)),
           )
         ])
       where
@@ -439,6 +455,7 @@ module _ (host : Host) (has : IsOfTable host) (once : AreOnce host.drives.slices
           (booted_same host calls also calm calm_too e so (opened_by e) one.up two.up one.clean two.clean k.memory.begun j.memory.begun begun one.up_by two.up_by);
       beside = λ drive block out. out_behind calls calm k n e one said drive block out ∙ beside drive block out ∙ sym (out_behind also calm_too j m e two said drive block out);
       alike = alike_end e one two said;
+      formed = formed_as n.memory (booted_with (opened_by e) one.up one.clean k.memory.begun) (ap (λ (x : Memory). x.entries) (one.memory said)) none_formed;
       one = settled_behind calls calm k n e one said;
       other = settled_behind also calm_too j m e two said;
     }
@@ -478,6 +495,7 @@ module _ (host : Host) (has : IsOfTable host) (once : AreOnce host.drives.slices
         | inr away ↦ put.elsewhere drive b away ∙ same.beside drive b out ∙ sym (put_too.elsewhere drive b away)
       ];
       alike = alike_beside (Spells host.drives) (one_text host.drives) host.site ok k.content j.content n.content m.content (put_kept k.content n.content put) (put_kept j.content m.content put_too) same.alike;
+      formed = formed_as n.memory k.memory (ap (λ (x : Memory). x.entries) memory) same.formed;
       one = there_settled k n same.one (ap (λ (x : Memory). x.opened) memory) (put_kept k.content n.content put);
       other = there_settled j m same.other (ap (λ (x : Memory). x.opened) memory_too) (put_kept j.content m.content put_too);
     } where

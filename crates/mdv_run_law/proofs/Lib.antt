@@ -18,6 +18,7 @@ pub mod Surveyed
 pub mod Passing
 pub mod Ending
 pub mod Written
+pub mod Meaning
 pub mod Keeping
 pub mod Carrying
 pub mod Course

@@ -173,7 +173,7 @@ module _ (drives : Geometry) (name : List ℕ) where
       -- some replica shows a table where a creation was told
       shows_own : HaveSaid drives name ran (Created key) → ShowsOwn drives name ran (last t)
       shows_own said =
-          let shown = told_shown view now.databases key t is.stands.databases (told_acknowledged host new_history is.es (empty_is_log view) is.course (its_told (Created key) tt said)) in
+          let shown = told_shown view now.databases key t is.stands.databases is.stands.anew (told_acknowledged host new_history is.es (empty_is_log view) is.course (its_told (Created key) tt said)) in
           record {
             identity = shown.0.identity;
             of_run = (runs_own drives name ran is.es is.come shown.0 (current_in key now.databases shown.0 shown.1)).1;
@@ -297,7 +297,7 @@ database_is_found = record {
       (finds_table (own_view drives name) (Local name) up t survey finds.of finds.survey_is read none);
   one = λ drives name made ran t up survey a b one_of is finds chosen.
       let its = lives drives name made one_of ran t is.life is.fair in
-      finds_one (own_view drives name) (Local name) up t survey finds.of (history_after_all new_history its.es).databases its.stands.databases a b chosen;
+      finds_one (own_view drives name) (Local name) up t survey finds.of (history_after_all new_history its.es).databases its.stands.databases its.stands.anew a b chosen;
   table = λ drives name made ran t u fresh memory o one_of is new booted begun opened.
       has_changes drives name made one_of ran t (lives drives name made one_of ran t is.life is.fair) u fresh memory o new booted begun opened;
 }

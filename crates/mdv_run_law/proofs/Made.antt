@@ -2,13 +2,14 @@
 use Rattle.std.proofs.Common.{◌≡◌, inl, inr, ℕ, true, List, [], Option, Some, None, Contains, refl, sym, ◌∙◌, ap, subst, arith}
 use Rattle.std.proofs.lemmas.Bool.{cases_Bool, false≢true}
 use Rattle.std.proofs.lemmas.List.Elements.{Contains-append_right}
-use Rattle.mdv_databases.proofs.Booting.{shown_current}
+use Rattle.mdv_databases.proofs.Booting.{anew_current}
+use Rattle.mdv_databases.proofs.Going.{log_anew}
 use Rattle.mdv_databases.proofs.Lasting.{stand_crashed}
 use Rattle.mdv_databases.proofs.Lists.{one_current}
 use Rattle.mdv_databases.proofs.Nothing.{nothing_told}
 use Rattle.mdv_databases.specs.Going.{IsCurrentOf}
-use Rattle.mdv_databases.specs.Standing.{Stand}
-use Rattle.mdv_run_law.specs.Below.{Created, Database, Deed, Event, Geometry, Happening, History, Host, Identity, Image, IsImage, IsOwn, Key, Log, Reached, Script, ShowsNoTable, Spells, StandsAt, Tale, empty_log, history_after, history_after_all, key_of, left_in, log_of, replies_in, restarted, shows, site_of, told_by}
+use Rattle.mdv_databases.specs.Standing.{AreAnew, Stand}
+use Rattle.mdv_run_law.specs.Below.{Created, Database, Deed, Event, Geometry, Happening, History, Host, Identity, Image, IsImage, IsOwn, Key, Log, Reached, Script, ShowsNoTable, Spells, StandsAt, Tale, history_after, history_after_all, key_of, left_in, log_of, replies_in, restarted, shows, site_of, told_by}
 use Rattle.mdv_shelf.specs.Tale.{last}
 use Rattle.mdv_shelf.proofs.Everywhere.{everywhere_begun}
 use Rattle.mdv_store_law.specs.Log.{IsLog}
@@ -31,7 +32,7 @@ pub some_told : {X : Type 0} (xs : List X) (x : X) → Contains xs x → xs ≡ 
 some_told xs x has none = absurd (let in_none : Contains [] x = subst (λ (l : List _). Contains l x) none has in omega (arith, in_none.1))
 
 -- Where the drives stand with all databases, one of a key of which something was told shows a table.
-module _ (g : Geometry) (all : List Database) (key : Key) (m : Tale) (stand : Stand g all m) where
+module _ (g : Geometry) (all : List Database) (key : Key) (m : Tale) (stand : Stand g all m) (anew : AreAnew all) where
   -- if the current one shows none, no one of the key does
   module _ (d : Database) (current : current_of all key ≡ Some d) (image : Image) (is : IsImage m image) (nothing : ShowsNoTable (Spells g) (site_of g key) d.identity image) where
     crashed : Stand g all (restarted image [])
@@ -45,13 +46,13 @@ module _ (g : Geometry) (all : List Database) (key : Key) (m : Tale) (stand : St
     shows_none identity line k first head own = elim (cases_Bool (shows head)) [
       | inl does ↦
           let of : same_identity head.master.identity identity ≡ true = subst (λ (i : Identity). same_identity head.master.identity i ≡ true) own.of_identity (same_identity_self head.master.identity) in
-          let same = its identity (shown_current g all key identity (restarted image []) crashed (record { replica = record { line = line; number = k; first = first; head = head }; found = own.found; its = of; shown = does })) in
+          let same = its identity (anew_current g all key identity (restarted image []) crashed anew (record { replica = record { line = line; number = k; first = first; head = head }; found = own.found; its = of; shown = does })) in
           absurd (false≢true (sym (nothing line k first head (subst (λ (i : Identity). IsOwn (Spells g) (site_of g key) i line k image first head) same own)) ∙ does))
       | inr never ↦ never
     ]
 
     pub nothing_acknowledged : (log_of all key).acknowledged ≡ None
-    nothing_acknowledged = (nothing_told g all key (restarted image []) crashed (λ identity. everywhere_begun (ShowsNoTable (Spells g) (site_of g key) identity) (record { block = image; told = [] }) (shows_none identity))).1
+    nothing_acknowledged = (nothing_told g all key (restarted image []) crashed (λ identity. everywhere_begun (ShowsNoTable (Spells g) (site_of g key) identity) (record { block = image; told = [] }) (shows_none identity)) (log_anew all key anew).lives).1
 
   pub told_shown : ((log_of all key).acknowledged ≡ None → ⊥) → (d : Database) × (current_of all key ≡ Some d) × ((image : Image) → IsImage m image → ShowsNoTable (Spells g) (site_of g key) d.identity image → ⊥)
   told_shown told = by (current_of all key) refl where
@@ -80,6 +81,6 @@ pub run_shows : (host : Host) (script : Script) (bytes : List ℕ) (t m : Tale) 
 run_shows host script bytes t m h stands goes is =
     let after = history_after_all h goes.es in
     let told = run_told host script bytes goes.es (Created (key_of host)) tt goes.come is in
-    let shown = told_shown host.drives after.databases (key_of host) m goes.stands.databases
+    let shown = told_shown host.drives after.databases (key_of host) m goes.stands.databases goes.stands.anew
     (told_acknowledged host h goes.es (is_log_of host.drives h.databases t stands.databases (key_of host)) goes.course told) in
     record { identity = shown.0.identity; each = shown.2 }

@@ -3,7 +3,7 @@ use Rattle.std.proofs.Common.{◌≡◌, inl, inr, ℕ, Bool, true, false, cond,
 use Rattle.std.proofs.lemmas.List.Elements.{Contains-append_cases, Contains-append_left, Contains-append_right}
 use Rattle.std.specs.Str.{bytes_eq}
 use Rattle.mdv_base.specs.declared.refusal.Refusal.TheVariants.{IoFault}
-use Rattle.mdv_run_law.specs.Below.{Acknowledges, AreOwn, Ask, Command, Crashes, Create, Created, Deed, Deletes, Event, Geometry, History, Host, Identity, IsOfRun, Key, Line, Local, MakeStripe, Print, Read, Script, Stops, Write, asked_by_line, at_end, history_after, history_after_all, is_front_of, issuable, issuable_front, issued_by, key_of, left_in, line, new_history, ok_line, refusal_line, replies_in, spent, too_long}
+use Rattle.mdv_run_law.specs.Below.{Acknowledges, AreOwn, Ask, Command, Crashes, AddPlaces, Created, Deed, Event, Geometry, History, Host, Identity, IsOfRun, Key, Line, Local, MakeStripe, Print, Read, Script, Stops, Write, asked_by_line, at_end, history_after, history_after_all, is_front_of, issuable, issuable_front, issued_by, key_of, left_in, line, new_history, ok_line, refusal_line, replies_in, spent, too_long, Deletes, AddListed, DropPlaces}
 use Rattle.mdv_engine_law.specs.Line.{deeds}
 use Rattle.mdv_store_law.specs.Log.{Issue, OfCreation}
 use Rattle.mdv_store_law.specs.Machine.{AreAll}
@@ -100,7 +100,9 @@ module _ (host : Host) where
   its_one deed same other has = elim (first_or_behind deed (Created other) [] has) [ inl here ↦ same other here | inr none ↦ its_none other none ]
 
   its_command : (command : Command) → its (deeds (asked_by_line host (words.Exec command)))
-  its_command (Create slices force count blocks) = its_one _ (λ other same. cc (same))
+  its_command (AddPlaces slices force count blocks) = its_one _ (λ other same. cc (same))
+  its_command (AddListed number force) = its_one _ (λ other same. cc (same))
+  its_command (DropPlaces slices force) = its_none
   its_command (MakeStripe volume slice) = its_one _ (λ other same. absurd (cc (same)))
   its_command (Read volume at count) = its_none
   its_command (Write volume at block) = its_one _ (λ other same. absurd (cc (same)))

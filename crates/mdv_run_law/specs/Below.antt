@@ -20,7 +20,7 @@ pub use Rattle.mdv_engine_law.specs.Commands.{CameTo, ComesTo}
 pub use Rattle.mdv_engine_law.specs.Line.{AreBlocksAt, ArePut, HasVolumeOn}
 pub use Rattle.mdv_engine_law.specs.Line.{HasNoTableOn, IsCommitted, IsCreated}
 pub use Rattle.mdv_engine_law.specs.Line.{IsRebooted, IsSame, IsSameBeside, IsTurnedDown, Kept}
-pub use Rattle.mdv_engine_law.specs.Line.{Ask, Memory, Nothing, Stays, ToBoot, ToDo, ToMake, ToSee, asked_by, asked_by_line, blocks_of, contents}
+pub use Rattle.mdv_engine_law.specs.Line.{Ask, Memory, Nothing, Stays, ToBoot, ToDo, ToMake, ToMakeListed, ToSee, asked_by, asked_by_line, blocks_of, contents}
 pub use Rattle.mdv_engine_law.specs.Line.{kept_at, record_room, unbooted}
 pub use Rattle.mdv_engine_law.specs.Replies.{Acks, AcksBy, AcksFront, AcksIn, IsFront, IsPlain, IsRefusal, IsPlainAnswer, IsReplied, IsReply, IsTold, is_front_of, issuable, issuable_front, issuable_in, issuable_of}
 pub use Rattle.mdv_engine_law.specs.Replies.{ok_line, refusal_line}
@@ -79,4 +79,5 @@ pub use Rattle.mdv_volumes.specs.History.{Acknowledges, Changed, Crashes, Create
 pub use Rattle.mdv_volumes.specs.HistoryLaws.{Lasts, new_history}
 pub use Rattle.mdv_words.specs.Line.{Boot, IsCommand, IsInForm, IsLine, Line, Tab}
 pub use Rattle.mdv_words.specs.declared.command.Command.{Command}
-pub use Rattle.mdv_words.specs.declared.command.Command.TheVariants.{Create, MakeStripe, Print, Read, Write}
+pub use Rattle.mdv_words.specs.declared.command.Command.TheVariants.{AddListed, AddPlaces, DropPlaces, MakeStripe, Print, Read, Write}
+pub use Rattle.mdv_words.specs.Listed.{AreInForm, Replicas, listed_by, meant}

@@ -8,7 +8,7 @@ use Rattle.mdv_home.specs.View.{own_view}
 use Rattle.mdv_name.specs.declared.geometry.Geometry.{Geometry}
 use Rattle.mdv_shelf.specs.Made.{Made, made_between}
 use Rattle.mdv_shelf.specs.Settle.{IsSynced}
-use Rattle.mdv_run_law.specs.Below.{Image, IsOpenedAt, Local, Rose, BadLine, LineTooLong, OutOfMemory, Script, key_of, at_end, spent, too_long, line, Part, OnDrive, OnReplies, Tale, told, replies_in, IsSound, Line, IsLine, Answer, Host, site_of, Kept, IsSame, IsSameBeside, ComesTo, IsRebooted, IsTurnedDown, SliceLine, contents, unbooted}
+use Rattle.mdv_run_law.specs.Below.{Image, IsOpenedAt, Local, Rose, BadLine, LineTooLong, OutOfMemory, Script, key_of, at_end, spent, too_long, line, Part, OnDrive, OnReplies, Tale, told, replies_in, IsSound, Line, IsLine, Answer, Host, site_of, Kept, IsSame, IsSameBeside, ComesTo, IsRebooted, IsTurnedDown, SliceLine, contents, meant, unbooted}
 use Rattle.mdv_shelf.specs.Story.{Effort, Tally, Moment, Story, Mark, marked, AtEach, InTime, tale_of}
 use Rattle.mdv_engine_law.specs.Replies.{outcome_text, refusal_line, text_of}
 use Rattle.mdv_engine_law.specs.declared.answer.Answer.TheVariants.{Said, Over as Ends}
@@ -194,9 +194,9 @@ abbrev pub AreSynced : Host → Outcomes → Tale → Type 0
 AreSynced host calls u = (drive : DriveNo) → Contains host.site.drives drive → ((calls drive.0).some → ⊥) → IsSynced drive.0 u
 
 -- What a line with this text leaves that was told `ok`, where its calls came out so and this was in memory: a write its blocks on the disk, with all that the drive was
--- given before; a creation its replica at each of its places, whatever a crash leaves; and `boot` each of the host's own drives synced on which no call failed.
+-- given before; a creation its replica at each of its places, whatever a crash leaves, where it names an entry those that the kept one says; and `boot` each of the host's own drives synced on which no call failed.
 pub record TextLeaves (calls : Outcomes) (host : Host) (memory : Memory) (text : List ℕ) (u : Tale) : Type 0 where
-  pub done : (command : Command) → IsLine text (Exec command) → LeavesDone host memory command u
+  pub done : (command : Command) → IsLine text (Exec command) → LeavesDone host memory (meant memory.entries command) u
   pub synced : IsLine text Boot → AreSynced host calls u
 
 -- and the next line of a script

@@ -295,7 +295,7 @@ fn answers_each_line(rt: HostRuntime) -> Result<(), Fail> {
 
 fn add_drives(alloc: Global, table: &mut String) -> Result<(), AllocError> {
     for drive in 0..9 {
-        let line = format!(in alloc; "drive c0t{drive}d0 200 alpha d{drive}.img\n")?;
+        let line = format!(in alloc; "drive c0t{drive}d0 260 alpha d{drive}.img\n")?;
         table.push_str(line.as_str())?;
     }
     Ok(())
@@ -311,50 +311,82 @@ fn add_slices(alloc: Global, table: &mut String) -> Result<(), AllocError> {
     Ok(())
 }
 
-// Sixty slices for volumes on nine drives, and one more.
+// Sixty slices for volumes on nine drives, and one more; and three for replicas.
 fn long_table(alloc: Global) -> Result<String, AllocError> {
     let mut table = String::from_str(alloc, "host alpha\n")?;
     add_drives(alloc, &mut table)?;
-    table.push_str("slice c0t0d0s7 0 32 db\n")?;
+    table.push_str("slice c0t0d0s7 0 40 db\nslice c0t7d0s7 180 80 db\nslice c0t8d0s7 180 80 db\n")?;
     add_slices(alloc, &mut table)?;
     table.push_str("slice c0t8d0s6 152 16\n")?;
     Ok(table)
 }
 
-fn long_script(alloc: Global) -> Result<String, AllocError> {
-    let mut script = String::from_str(alloc, "metadb -a -f -l 16 c0t0d0s7\n")?;
+// A creation, sixty volumes, and the lines behind.
+fn long_script(alloc: Global, creation: &str, behind: &str) -> Result<String, AllocError> {
+    let mut script = String::from_str(alloc, creation)?;
     for number in 0..60 {
         let (drive, slice) = (number / 7, number % 7);
         let line = format!(in alloc; "metainit d{number} 1 1 c0t{drive}d0s{slice}\n")?;
         script.push_str(line.as_str())?;
     }
-    script.push_str("metainit d60 1 1 c0t8d0s6\nmetastat -p d60\nboot\nmetastat -p d59\n")?;
+    script.push_str(behind)?;
     Ok(script)
 }
 
-fn long_replies(alloc: Global) -> Result<String, AllocError> {
+fn long_replies(alloc: Global, behind: &str) -> Result<String, AllocError> {
     let mut told = String::new(alloc);
     for _ in 0..61 {
         told.push_str("ok\n")?;
     }
-    told.push_str(
-        "refused E17 ReplicaFull 3086 3072\nrefused E4 NoSuchVolume\nok\nd59 1 1 c0t8d0s3\nok\n",
-    )?;
+    told.push_str(behind)?;
     Ok(told)
 }
 
-fn is_too_long(alloc: Global) -> Result<bool, AllocError> {
-    let (table, script) = (long_table(alloc)?, long_script(alloc)?);
-    let told = long_replies(alloc)?;
-    let mut shelf = MemShelf::new(alloc, &[200; 9])?;
+// A creation, the lines behind sixty volumes, and what those are answered.
+const LONG: &[(&str, &str, &str)] = &[
+    (
+        "metadb -a -f -l 16 c0t0d0s7\n",
+        "metainit d60 1 1 c0t8d0s6\nmetastat -p d60\nboot\nmetastat -p d59\n",
+        "refused E17 ReplicaFull 3086 3072\nrefused E4 NoSuchVolume\nok\nd59 1 1 c0t8d0s3\nok\n",
+    ),
+    // The least slot counts, of the places that are there and of those that would come.
+    (
+        "metadb -a -f -l 18 c0t0d0s7\n",
+        "metadb -a -c 2 -l 16 c0t8d0s7\nmetadb -a -l 16 c0t8d0s7\nmetadb -a -c 2 -l 18 c0t8d0s7\n",
+        "refused E17 ReplicaFull 3073 3072\nrefused E1 BadLine\nrefused E1 BadLine\n",
+    ),
+    // Of places that all go the first one comes behind the others, and of two slices the other's.
+    (
+        "metadb -a -f -c 2 -l 16 c0t7d0s7 c0t8d0s7\n",
+        "metadb -d c0t7d0s7\nmetadb -d c0t7d0s7 c0t8d0s7\nmetadb -d -f c0t7d0s7 c0t8d0s7\n",
+        "refused E17 ReplicaFull 3097 3072\nrefused E3 NeedForce\nrefused E17 ReplicaFull 3085 3072\n",
+    ),
+    (
+        "metadb -a -f -l 16 c0t7d0s7 c0t8d0s7\n",
+        "metadb -d c0t7d0s7\nmetadb -d -f c0t7d0s7 c0t8d0s7\n",
+        "refused E1 BadLine\nrefused E1 BadLine\n",
+    ),
+];
+
+fn is_long(
+    alloc: Global,
+    (creation, behind, replies): (&str, &str, &str),
+) -> Result<bool, AllocError> {
+    let table = long_table(alloc)?;
+    let script = long_script(alloc, creation, behind)?;
+    let told = long_replies(alloc, replies)?;
+    let mut shelf = MemShelf::new(alloc, &[260; 9])?;
     let end = (RunStatus::SomeRefused, told.as_str());
     ends_so(alloc, table.as_str(), &mut shelf, script.as_str(), end)
 }
 
-// A replica of 16 blocks has slots of 6, so 3,072 bytes of a table: 60 volumes, and not one more. A table that is too long changes nothing.
+// A replica of 16 blocks has slots of 6, so 3,072 bytes of a table: 60 volumes, and not one more, nor four places beside
+// them. A table that is too long changes nothing.
 #[test]
 fn answers_tables_that_are_too_long(rt: HostRuntime) -> Result<(), Fail> {
-    assert!(rt; is_too_long(rt.alloc())?);
+    for row in LONG {
+        assert!(rt; is_long(rt.alloc(), *row)?, "{row:?}");
+    }
     Ok(())
 }
 

@@ -26,6 +26,8 @@ mod reading;
 #[cfg(test)]
 mod reading_tests;
 #[cfg(test)]
+mod replicas_tests;
+#[cfg(test)]
 mod scenes_tests;
 #[cfg(test)]
 mod script;

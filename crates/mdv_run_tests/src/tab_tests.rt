@@ -215,7 +215,6 @@ const UNBUILT: &[&str] = &[
     "metadb",
     "metadb -i",
     "metadb -a mddb01",
-    "metadb -d c0t0d0s7",
     "metadb -d -f c0t0d0s7",
     "metainit -a",
     "metainit d1",

@@ -1,6 +1,7 @@
 pub mod Versions
 pub mod Reaching
 pub mod Voting
+pub mod Stale
 pub mod Following
 pub mod Within
 pub mod Listed
@@ -34,5 +35,7 @@ pub mod Adding
 pub mod Deleting
 pub mod Clearing
 pub mod Naming
+pub mod Ended
+pub mod Over
 pub mod PlacesTracing
 pub mod Anew

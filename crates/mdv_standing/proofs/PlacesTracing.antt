@@ -5,7 +5,7 @@ use Rattle.mdv_shelf.proofs.Everywhere.{last_image}
 use Rattle.mdv_shelf.specs.Tale.{last}
 use Rattle.mdv_shown.specs.Formats.{lost_beside, lost_with}
 use Rattle.mdv_shown.specs.Wipes.{spots_behind, wiped_all}
-use Rattle.mdv_shown.proofs.Slots.{OneTable, shows_one}
+use Rattle.mdv_shown.proofs.Slots.{OneTable}
 use Rattle.mdv_store_law.specs.Log.{Clearing, Gone, IsLog, Placing, is_firm}
 use Rattle.mdv_standing.specs.Below.{Reads, Core, Everywhere, FirstIs, Formats, Geometry, Identity, Image, IsChosen, IsImage, IsSite, Leaves, Log, Mark, Master, MayFormat, MayWipe, Over, Place, Seen, Site, SliceLine, Slot, Spot, Table, Tale, Version, after_all, covers, greatest_seen, is_in, is_majority, log_after, master_on, place_on, spot_on, spots_seen}
 use Rattle.mdv_standing.specs.Forming.{IsBehind}
@@ -19,12 +19,10 @@ use Rattle.mdv_standing.specs.Tracing.{Traces}
 use Rattle.mdv_standing.specs.Turning.{IsBootRead}
 use Rattle.mdv_standing.specs.Worlds.{IsReadyWith, IsWorld}
 use Rattle.mdv_standing.proofs.Adding.{first_added, first_adding, later_added, later_adding}
-use Rattle.mdv_standing.proofs.Adopting.{finds}
 use Rattle.mdv_standing.proofs.Clearing.{first_going, world_rests}
 use Rattle.mdv_standing.proofs.Deleting.{ending_wiped, ending_wiping}
-use Rattle.mdv_standing.proofs.Lawful.{is_there}
-use Rattle.mdv_standing.proofs.Looking.{looks}
 use Rattle.mdv_standing.proofs.Noting.{world_clearing, world_gone, world_placing}
+use Rattle.mdv_standing.proofs.Over.{none_here}
 use Rattle.mdv_standing.proofs.Tracing.{trace_by, trace_here}
 use Rattle.mdv_standing.proofs.Unlisting.{unlisted_wiped, unlisted_wiping}
 
@@ -120,16 +118,7 @@ module _ (Spells : List ℕ → Table → Type 0) (site : Site) (identity : Iden
       let here = last t in
       let is = last_image t in
       let w = covered here is in
-      let look = looks Spells site identity log w.0 here w.1 seen (r.own here is) in
-      let found = finds Spells site identity log (after_all w.0 look.events) here look.world seen look.known s slot mark r.chosen in
-      let v = found.version in
-      let same : v.table ≡ table =
-      (shows_one Spells one (place_on s.line s.first.blocks s.first.count s.number) (here s.line.at.drive.0) s.head slot mark mark v.table table found.shows (r.shows here is)).1 in
-      let live = is_there Spells g site identity log (after_all w.0 look.events) here seen s slot v site_is is_log look.world look.known (subst (λ (k : Mark). IsChosen seen s slot k) (sym found.is.marked) r.chosen) found.is.one_of
-      (subst (λ (u : Table). covers (is_majority (is_in (spots_seen seen))) (spots_of site u.plan.lists) ≡ true) (sym same) r.quorum)
-      (subst (λ (k : Mark). HasStaleVote site log seen k → ⊥) (sym found.is.marked) fair) small in
-      let gone = (look.world.matches.gone over).1 in
-      cc (live, gone)
+      none_here Spells site identity log g one w.0 here seen s slot mark table site_is is_log over w.1 (r.own here is) r.chosen (r.shows here is) r.quorum fair small
 
 -- Masters of a slice are blanked on which the newest version lists no place.
 module _ (read : List ℕ → Option Table) (site : Site) (identity : Identity) (log : Log) (t m : Tale) (took : List Spot) (line : SliceLine) (blocks count : ℕ) (looks : Contains site.lines line) where

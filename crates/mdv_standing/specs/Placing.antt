@@ -2,12 +2,13 @@
 use Rattle.std.specs.Prelude.{◌≡◌, ◌⊎◌, ℕ, ◌+◌, ◌*◌, ◌<◌, ◌≤◌, ◌^◌, false, true, List, [], ◌∷◌, ◌++◌, Option, None, Some, Contains, IsTrue}
 use Rattle.mdv_shown.specs.Formats.{lost_beside, lost_with}
 use Rattle.mdv_shown.specs.Wipes.{spots_behind, wiped_all}
-use Rattle.mdv_store_law.specs.Log.{Clearing, Gone, IsLog, Placing, is_firm}
+use Rattle.mdv_store_law.specs.Log.{Clearing, Gone, IsLog, IsRising, Placing, is_firm}
 use Rattle.mdv_replica.specs.Images.{Wipes}
 use Rattle.mdv_table.specs.Plan.{first_of, last_of}
-use Rattle.mdv_standing.specs.Below.{Core, Ends, Event, FirstIs, Formatted, Formats, Geometry, HasFirst, HaveRead, Head, Identity, Image, IsChosen, IsFormat, IsInChain, IsSite, Log, Master, MayFormat, MayWipe, NextLists, One, Place, Reads, Seen, Site, SliceLine, Slot, Spot, Table, Two, Version, covers, greatest_seen, is_in, is_majority, is_named, log_after, master_on, place_on, raised, slice_at, spot_on, spots_seen}
+use Rattle.mdv_standing.specs.Below.{Core, Ends, Event, FirstIs, Formatted, Formats, Geometry, HasFirst, HaveRead, Head, Identity, Image, IsChosen, IsFormat, IsInChain, IsSite, Log, Master, MayFormat, MayWipe, NextLists, One, Over, Place, Reads, Seen, Site, SliceLine, Slot, Spot, Table, Two, Version, covers, greatest_seen, is_in, is_majority, is_named, log_after, master_on, place_on, raised, slice_at, spot_on, spots_seen}
 use Rattle.mdv_standing.specs.Laws.{ShowsNoTable}
 use Rattle.mdv_standing.specs.Matching.{HasStaleVote, IsDeleted, LiesOn, lists_of, spot_floor, spot_of_place, spot_since, spots_of, tables_of}
+use Rattle.mdv_standing.specs.Others.{IsLoose}
 use Rattle.mdv_standing.specs.Worlds.{IsReadyWith, IsWorld, Turned}
 
 -- each slice of the site is found by its name
@@ -139,3 +140,6 @@ pub record EndingGo : Type 0 where
   pub none : (read : List ℕ → Option Table) (g : Geometry) (site : Site) (identity : Identity) (log : Log) (w : Core) (image : Image) (seen : List Seen) (s : Seen) (slot : Slot) (v : Version)
       → IsSite site → IsLog g log → IsWorld (Reads read) site identity log w image → IsDeleted w → HaveRead (Reads read) site identity (tables_of log.family) w image seen → IsChosen seen s slot v.mark
       → Contains log.family v → IsTrue (covers (is_majority (is_in (spots_seen seen))) (lists_of site v)) → (HasStaleVote site log seen v.mark → ⊥) → greatest_seen seen + 1 < 2 ^ 63 → ⊥
+  -- and what it has left doesn't count, once it is gone
+  pub left : (read : List ℕ → Option Table) (site : Site) (identity : Identity) (log : Log) (w : Core) (image : Image) (v : Version) (older : List Version) (line : SliceLine) → IsWorld (Reads read) site identity log w image → log.fate ≡ Over
+      → log.family ≡ v ∷ older → v.is_written ≡ true → IsRising log.family → IsLoose (Reads read) site identity log image line

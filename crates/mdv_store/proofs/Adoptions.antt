@@ -10,7 +10,6 @@ use Rattle.mdv_shelf.proofs.Moments.{moments_none, moments_weaker}
 use Rattle.mdv_shelf.specs.Drives.{KeptAmong}
 use Rattle.mdv_shelf.specs.Moments.{Moments}
 use Rattle.mdv_shelf.specs.Shelves.{AtEachTale, AtEnd, DriveFailures}
-use Rattle.mdv_shown.specs.Choice.{spots_seen}
 use Rattle.mdv_replica.specs.Form.{boot_of, gate_of, is_open, shows}
 use Rattle.mdv_replica.specs.declared.replica.Head.{Head}
 use Rattle.mdv_replica.specs.declared.replica.Slot.{Slot}
@@ -24,14 +23,15 @@ use Rattle.mdv_survey.specs.Newest.{IsGreatest}
 use Rattle.mdv_survey.specs.Replica.{IsOnShelf, IsSeated}
 use Rattle.mdv_survey.specs.declared.replica.Newest.{Newest}
 use Rattle.mdv_survey.specs.declared.replica.Survey.{Survey}
-use Rattle.mdv_store.specs.Adopting.{AdoptEnds, AdoptMoment, IsAdoptAnswer, WasReadOf, WroteOf}
-use Rattle.mdv_store.specs.Below.{DriveNo, Failures, Geometry, Ghosts, Identity, IsReadyWith, Lists, One, Place, Replica, Site, SliceLine, Table, Tale, Two, at_of, greatest, last_of, places_of, record_text, range, settled, site_area, site_of}
-use Rattle.mdv_store.specs.Boot.{IfAdopted, IsDrawn, IsEndBy, IsInHand, IsShortAgain, IsShortBy, IsWrittenTo, TakesAll, TakesBoth, TakesBy, TakesClaimOrBoth, greatest_number, last_found, seats_of}
+use Rattle.mdv_store.specs.Adopting.{AdoptEnds, AdoptMoment, AreJustOn, IsAdoptAnswer, WasReadOf, WroteOf}
+use Rattle.mdv_store.specs.Below.{DriveNo, Drives, Failures, Geometry, Ghosts, Identity, IsReadyWith, Lists, One, Place, Replica, Site, SliceLine, Table, Tale, Two, at_of, greatest, last, last_of, places_of, record_text, range, settled, site_area, site_of}
+use Rattle.mdv_store.specs.Boot.{IfAdopted, IsDrawn, IsEndBy, IsInHand, IsShortAt, IsWrittenTo, TakesAll, TakesBoth, TakesBy, gone_found, greatest_number, last_found, seats_of}
 use Rattle.mdv_store.specs.BootCounts.{most_blocks, most_calls}
-use Rattle.mdv_store.specs.Booting.{BootGoes, BootMoment, HasShown, Writes, WritesFor, boot_area, has_written}
-use Rattle.mdv_store.specs.Commit.{AnyLog, AnyWorld, IsNewestWritten}
+use Rattle.mdv_store.specs.Booting.{BootGoes, BootMomentOn, HasShown, WasReadOn, Writes, WritesFor, boot_area, has_written}
+use Rattle.mdv_store.specs.Commit.{AnyLog, AnyWorld, IsLiveWith}
 use Rattle.mdv_store.specs.Opened.{Opened}
-use Rattle.mdv_store.specs.Settled.{seats_now, settles}
+use Rattle.mdv_store.specs.Progress.{Progress, all_written}
+use Rattle.mdv_store.specs.Settled.{gone_of, seats_now, settles}
 use Rattle.mdv_store.specs.Seats.{AreLaid, AreLeft, IsLaid, drives_of, replica_area, replicas_of, seats_area, spots_of}
 use Rattle.mdv_store.specs.Taking.{IsCalmOver, IsHandOf, IsLostWith, IsRewriteAnswer, IsRewriteEnd, IsTakingCounted, IsToAdopt, RewriteEnds, RewriteMoment, Rewrites, StaySynced, drives_read, last_in}
 use Rattle.mdv_store.specs.Text.{blocks_for}
@@ -40,10 +40,11 @@ use Rattle.mdv_store.specs.declared.booting.BootEnd.TheVariants as end
 use Rattle.mdv_store.specs.declared.booting.Hand.{Hand}
 use Rattle.mdv_store.specs.declared.booting.Taken.{Taken}
 use Rattle.mdv_store.specs.declared.seats.Seat.{Seat}
+use Rattle.mdv_store.specs.declared.seats.Share.{Share}
 use Rattle.mdv_store.proofs.Again.{now_in}
 use Rattle.mdv_store.proofs.Passes.{mapped, unmapped}
 use Rattle.mdv_look.proofs.Quiet.{quiet_same, quiet_wider}
-use Rattle.mdv_store.proofs.Reading.{in_hand_is, seated_laid, seated_own, to_adopt}
+use Rattle.mdv_store.proofs.Reading.{in_hand_is, read_on, seated_laid, seated_own, to_adopt}
 use Rattle.mdv_look.specs.Quiet.{IsQuiet}
 use Rattle.mdv_store.proofs.Seating.{or_yes}
 use Rattle.mdv_store.proofs.Sitting.{contains_behind, contains_first, first_or_behind, left_replica}
@@ -71,17 +72,17 @@ not_adopted (end.Lost active listed) P still = tt
 not_adopted end.Spent P still = tt
 not_adopted end.Memory P still = tt
 
-pub written_for : (g : Geometry) (site : Site) (answer : BootEnd) (t m : Tale) → has_written answer ≡ false → WritesFor g site answer t m
-written_for g site (end.Adopted o) t m still = absurd (cc (still))
-written_for g site end.Empty t m still = tt
-written_for g site (end.TwoDatabases a b) t m still = tt
-written_for g site (end.NoQuorum readable needed) t m still = tt
-written_for g site (end.Lost active listed) t m still = absurd (cc (still))
-written_for g site end.Spent t m still = tt
-written_for g site end.Memory t m still = tt
+pub written_for : (up : Drives) (g : Geometry) (site : Site) (answer : BootEnd) (t m : Tale) → has_written answer ≡ false → WritesFor up g site answer t m
+written_for up g site (end.Adopted o) t m still = absurd (cc (still))
+written_for up g site end.Empty t m still = tt
+written_for up g site (end.TwoDatabases a b) t m still = tt
+written_for up g site (end.NoQuorum readable needed) t m still = tt
+written_for up g site (end.Lost active listed) t m still = absurd (cc (still))
+written_for up g site end.Spent t m still = tt
+written_for up g site end.Memory t m still = tt
 
-pub still_moment : (g : Geometry) (site : Site) (answer : BootEnd) (t : Tale) → has_written answer ≡ false → BootMoment g site answer t t
-still_moment g site answer t still = record { quiet = quiet_same (boot_area site (has_written answer)) t; writes = written_for g site answer t t still }
+pub still_moment : (up : Drives) (g : Geometry) (site : Site) (answer : BootEnd) (t : Tale) → has_written answer ≡ false → BootMomentOn up g site answer t t
+still_moment up g site answer t still = record { quiet = quiet_same (boot_area site (has_written answer)) t; writes = written_for up g site answer t t still }
 
 module _ {S : Type 0} (shelf : Ghosts S) (now : S) (taken : Taken) (still : has_written taken.end ≡ false) where
   pub still_counted : IsTakingCounted shelf now now taken
@@ -96,8 +97,8 @@ module _ {S : Type 0} (shelf : Ghosts S) (now : S) (taken : Taken) (still : has_
   pub still_calm : (replicas : List Replica) → taken.calm ≡ true → IsCalmOver shelf now now replicas taken.calm
   still_calm replicas calm = subst (λ (b : Bool). IsCalmOver shelf now now replicas b) (sym calm) (λ drive. refl)
 
-  pub still_moments : (P : Tale → Geometry → Type 0) (site : Site) → AtEachTale shelf (λ t m. (g : Geometry) → P t g → BootMoment g site taken.end t m) now now
-  still_moments P site = moments_none (λ t m. (g : Geometry) → P t g → BootMoment g site taken.end t m) (shelf.tale now) (shelf.tale now) refl (λ t g was. still_moment g site taken.end t still)
+  pub still_moments : (up : Drives) (P : Tale → Geometry → Type 0) (site : Site) → AtEachTale shelf (λ t m. (g : Geometry) → P t g → BootMomentOn up g site taken.end t m) now now
+  still_moments up P site = moments_none (λ t m. (g : Geometry) → P t g → BootMomentOn up g site taken.end t m) (shelf.tale now) (shelf.tale now) refl (λ t g was. still_moment up g site taken.end t still)
 
   pub still_ends : (P : Tale → Geometry → Type 0) (Q : Geometry → Tale → Tale → Opened → Type 0) → AtEnd shelf (λ t u. (g : Geometry) → P t g → IfAdopted taken.end (Q g t u)) now now
   still_ends P Q t is = (t, is, λ g was. not_adopted taken.end (Q g t t) still)
@@ -173,16 +174,17 @@ module _ (site : Site) (replicas : List Replica) (newest : Newest) (hand : Hand)
       drawn_of : IsDrawn survey newest replica hand.seats hand.number
       drawn_of = record { hand = in_hand_of; enough = enough; number_is = number_of; small = small }
 
-      lost_by : (failed : ℕ → Failures) (active listed : ℕ) → IsLostWith failed site.key hand newest.table active listed
-          → IsShortBy failed (TakesClaimOrBoth hand.number (length (record_text newest.table))) site.key newest.table.plan.lists hand.seats active listed ⊎ IsShortAgain failed site.key hand.number newest.table (last_found survey newest replica) active listed
-      lost_by failed active listed (inl first) = inl first
-      lost_by failed active listed (inr again) = inr (subst (λ (ss : List Seat). IsShortAgain failed site.key hand.number newest.table ss active listed) (last_is survey newest replica hand.seats in_hand_of) again)
+      lost_by : (failed : ℕ → Failures) (progress : Progress) (share : Share) → IsLostWith failed site.key hand newest.table progress share
+          → IsShortAt failed site.key hand.number newest.table hand.seats (last_found survey newest replica) (gone_found survey newest replica) progress share
+      lost_by failed progress share lost =
+          subst (λ (ss : List Seat). IsShortAt failed site.key hand.number newest.table hand.seats (last_found survey newest replica) ss progress share) (gone_is survey newest replica hand.seats in_hand_of)
+          (subst (λ (ss : List Seat). IsShortAt failed site.key hand.number newest.table hand.seats ss (seats_now hand.seats (gone_of newest.table.plan.lists)) progress share) (last_is survey newest replica hand.seats in_hand_of) lost)
 
-      pub written_of : (Wrote : Hand → Table → List Seat → Type 0) (gone : List Seat) → Wrote hand newest.table gone → IsWrittenTo Wrote newest replica hand.seats hand.number gone
-      written_of Wrote gone wrote = record { hand = hand; identity_is = identity_is; number_is = refl; seats_are = refl; wrote = wrote }
+      pub written_of : (Wrote : Hand → Table → Progress → Type 0) (progress : Progress) → Wrote hand newest.table progress → IsWrittenTo Wrote newest replica hand.seats hand.number progress
+      written_of Wrote progress wrote = record { hand = hand; identity_is = identity_is; number_is = refl; seats_are = refl; wrote = wrote }
 
-      pub end_of : (failed : ℕ → Failures) (Wrote : Hand → Table → List Seat → Type 0) (gone : List Seat) → Wrote hand newest.table gone → (answer : BootEnd) → IsRewriteEnd failed site.key hand newest.table gone answer → IsEndBy failed Wrote site survey answer
-      end_of failed Wrote gone wrote (end.Adopted o) by = record {
+      pub end_of : (failed : ℕ → Failures) (Wrote : Hand → Table → Progress → Type 0) (progress : Progress) → Wrote hand newest.table progress → (answer : BootEnd) → IsRewriteEnd failed site.key hand newest.table progress answer → IsEndBy failed Wrote site survey answer
+      end_of failed Wrote progress wrote (end.Adopted o) (gone, whole, by) = record {
         newest = newest;
         replica = replica;
         seats = hand.seats;
@@ -190,17 +192,17 @@ module _ (site : Site) (replicas : List Replica) (newest : Newest) (hand : Hand)
         drawn = drawn_of;
         gone = gone;
         over = subst (λ (ss : List Seat). AreLeft failed (TakesBoth hand.number (length (record_text newest.table))) ss gone) (gone_is survey newest replica hand.seats in_hand_of) by.over;
-        written = written_of Wrote gone wrote;
+        written = written_of Wrote (all_written newest.table.plan.lists o.seats gone) (subst (Wrote hand newest.table) whole wrote);
         left = subst (λ (ss : List Seat). AreLeft failed (TakesAll hand.number newest.table) ss o.seats) (last_is survey newest replica hand.seats in_hand_of) by.left;
         enough = by.enough;
         is = by.is ∙ ap (λ (i : Identity). record { key = site.key; identity = i; mark = record { boot = hand.number; count = settles newest.table.plan.lists }; table = settled newest.table; seats = o.seats }) identity_is;
       }
-      end_of failed Wrote gone wrote end.Empty by = absurd by
-      end_of failed Wrote gone wrote (end.TwoDatabases a b) by = absurd by
-      end_of failed Wrote gone wrote (end.NoQuorum readable needed) by = absurd by
-      end_of failed Wrote gone wrote (end.Lost active listed) by = record { newest = newest; replica = replica; seats = hand.seats; number = hand.number; drawn = drawn_of; written = written_of Wrote [] (subst (Wrote hand newest.table) by.0 wrote); short = lost_by failed active listed by.1 }
-      end_of failed Wrote gone wrote end.Spent by = absurd by
-      end_of failed Wrote gone wrote end.Memory by = absurd by
+      end_of failed Wrote progress wrote end.Empty by = absurd by
+      end_of failed Wrote progress wrote (end.TwoDatabases a b) by = absurd by
+      end_of failed Wrote progress wrote (end.NoQuorum readable needed) by = absurd by
+      end_of failed Wrote progress wrote (end.Lost active listed) by = record { newest = newest; replica = replica; seats = hand.seats; number = hand.number; drawn = drawn_of; progress = progress; written = written_of Wrote progress wrote; short = lost_by failed progress (record { active = active; listed = listed }) by }
+      end_of failed Wrote progress wrote end.Spent by = absurd by
+      end_of failed Wrote progress wrote end.Memory by = absurd by
 
   module _ (enough : short_of More hand.seats newest.table.plan.lists ≡ None) where
     pub hand_laid : (sizes : List ℕ) → IsOnShelf sizes site → AreLaid sizes hand.seats
@@ -223,16 +225,30 @@ module _ (site : Site) (replicas : List Replica) (newest : Newest) (hand : Hand)
     has_shown : (g : Geometry) (t : Tale) → WasReadOf g site replicas newest t → HasShown g site hand.identity t
     has_shown g t was = record { replica = is.replica; found = was.each is.replica (got_contains replicas newest.replica is.replica is.one_of); its = is_own; shown = is_shown }
 
-    writes_of : (g : Geometry) (t m : Tale) → WasReadOf g site replicas newest t → RewriteMoment site.key hand newest.table t m → Writes g site hand.identity newest.table.plan.lists t m
-    writes_of g t m was moment =
+    -- and what was read of these drives
+    read_by : (g : Geometry) (t : Tale) (up : Drives) (was : WasReadOf g site replicas newest t) → AreJustOn g site up replicas t → (replica : Replica) → IsTheOne replicas newest replica → hand.number < 2 ^ 63
+        → WasReadOn up g site hand.identity newest.table.plan.lists (last t) (to_be g t was).seen (to_be g t was).mark
+    unfolding to_be
+    read_by g t up was just replica the small = subst (λ (s : Site). WasReadOn up g s hand.identity newest.table.plan.lists (last t) (to_be g t was).seen (to_be g t was).mark) (sym was.site_is)
+        (read_on g site.key replicas newest hand is (λ r has. subst (λ (s : Site). IsSeated s r) was.site_is (seated r has)) enough marks t (subst (λ (s : Site). WasReadOf g s replicas newest t) was.site_is was) is.replica is.one_of
+        (got_contains replicas newest.replica is.replica is.one_of) is_own up (subst (λ (s : Site). AreJustOn g s up replicas t) was.site_is just) small
+        (λ r has shown. subst (λ (i : Identity). same_identity r.head.master.identity i ≡ true) (the.one r has shown ∙ ap (λ (x : Replica). x.head.master.identity) (only_one the) ∙ sym is.identity_is) (same_identity_self r.head.master.identity)))
+      where
+        only_one : IsTheOne replicas newest replica → replica ≡ is.replica
+        only_one the_one = (let both : Some replica ≡ Some is.replica = sym the_one.one_of ∙ is.one_of in cc (both))
+
+    writes_of : (g : Geometry) (t m : Tale) (up : Drives) → WasReadOf g site replicas newest t → AreJustOn g site up replicas t → (replica : Replica) → IsTheOne replicas newest replica → hand.number < 2 ^ 63
+        → RewriteMoment site.key hand newest.table t m → Writes up g site hand.identity newest.table.plan.lists t m
+    writes_of g t m up was just replica the small moment =
         let to = to_be g t was in
         record {
-          read = spots_seen to.seen;
+          seen = to.seen;
+          mark = to.mark;
           seats = hand.seats;
           found = λ r has. (let one = in_hand_is site replicas newest hand is seated enough r has in (was.each r one.1, seated_own hand.identity one.0 _ r one.2));
-          shown = inr (has_shown g t was);
+          shown = inr (has_shown g t was, read_by g t up was just replica the small);
           within = moment.quiet;
-          goes = subst (λ (s : Site). BootGoes g s hand.identity newest.table.plan.lists (spots_seen to.seen) (spots_of hand.seats) AnyWorld AnyLog t m) (sym was.site_is) (moment.goes g to);
+          goes = subst (λ (s : Site). BootGoes g s hand.identity newest.table.plan.lists to.seen to.mark (spots_of hand.seats) AnyWorld AnyLog t m) (sym was.site_is) (moment.goes g to);
           rest = λ all. moment.rest g all to;
           blank = moment.blank g to;
         }
@@ -240,47 +256,49 @@ module _ (site : Site) (replicas : List Replica) (newest : Newest) (hand : Hand)
     quiet_of : (t m : Tale) → RewriteMoment site.key hand newest.table t m → IsQuiet (site_area site) t m
     quiet_of t m moment = quiet_wider (seats_area hand.seats) (site_area site) t m (seats_within site hand.seats (λ r has. seated r (of_hand r has))) moment.quiet
 
-    adopt_moment : (failed : ℕ → Failures) (gone : List Seat) (answer : BootEnd) → IsRewriteEnd failed site.key hand newest.table gone answer → (t m : Tale) → RewriteMoment site.key hand newest.table t m → AdoptMoment site replicas newest answer t m
-    adopt_moment failed gone (end.Adopted o) by t m moment = λ g replica the was. record { quiet = quiet_of t m moment; writes = (newest.table.plan.lists, (let same = ap (λ (x : Opened). x.mark.count) by.is in omega (arith, same)), subst (λ (i : Identity). Writes g site i newest.table.plan.lists t m) (sym (ap (λ (x : Opened). x.identity) by.is)) (writes_of g t m was moment)) }
-    adopt_moment failed gone end.Empty by t m moment = absurd by
-    adopt_moment failed gone (end.TwoDatabases a b) by t m moment = absurd by
-    adopt_moment failed gone (end.NoQuorum readable needed) by t m moment = absurd by
-    adopt_moment failed gone (end.Lost active listed) by t m moment = λ g replica the was. record { quiet = quiet_of t m moment; writes = (hand.identity, newest.table.plan.lists, writes_of g t m was moment) }
-    adopt_moment failed gone end.Spent by t m moment = absurd by
-    adopt_moment failed gone end.Memory by t m moment = absurd by
+    adopt_moment : hand.number < 2 ^ 63 → (failed : ℕ → Failures) (progress : Progress) (answer : BootEnd) → IsRewriteEnd failed site.key hand newest.table progress answer → (t m : Tale) → RewriteMoment site.key hand newest.table t m → AdoptMoment site replicas newest answer t m
+    adopt_moment small failed progress (end.Adopted o) (gone, whole, by) t m moment = λ g replica up the was just. record { quiet = quiet_of t m moment; writes = (newest.table.plan.lists, (let same = ap (λ (x : Opened). x.mark.count) by.is in omega (arith, same)), subst (λ (i : Identity). Writes up g site i newest.table.plan.lists t m) (sym (ap (λ (x : Opened). x.identity) by.is)) (writes_of g t m up was just replica the small moment)) }
+    adopt_moment small failed progress end.Empty by t m moment = absurd by
+    adopt_moment small failed progress (end.TwoDatabases a b) by t m moment = absurd by
+    adopt_moment small failed progress (end.NoQuorum readable needed) by t m moment = absurd by
+    adopt_moment small failed progress (end.Lost active listed) by t m moment = λ g replica up the was just. record { quiet = quiet_of t m moment; writes = (hand.identity, newest.table.plan.lists, writes_of g t m up was just replica the small moment) }
+    adopt_moment small failed progress end.Spent by t m moment = absurd by
+    adopt_moment small failed progress end.Memory by t m moment = absurd by
 
-    adopt_end : (failed : ℕ → Failures) (gone : List Seat) (answer : BootEnd) → IsRewriteEnd failed site.key hand newest.table gone answer → (t u : Tale) → IfAdopted answer (λ o. RewriteEnds site.key hand newest.table o t u) → AdoptEnds site replicas newest answer t u
-    adopt_end failed gone (end.Adopted o) by t u ends = λ g replica the was.
+    adopt_end : hand.number < 2 ^ 63 → (failed : ℕ → Failures) (progress : Progress) (answer : BootEnd) → IsRewriteEnd failed site.key hand newest.table progress answer → (t u : Tale) → IfAdopted answer (λ o. RewriteEnds site.key hand newest.table o t u) → AdoptEnds site replicas newest answer t u
+    adopt_end small failed progress (end.Adopted o) (gone, whole, by) t u ends = λ g replica up the was just.
         let to = to_be g t was in
         record {
           shown = subst (λ (i : Identity). HasShown g site i t) (sym (ap (λ (x : Opened). x.identity) by.is)) (has_shown g t was);
           opened = ends.opened g to;
           lists = newest.table.plan.lists;
           marked = ap (λ (x : Opened). x.mark.count) by.is;
-          read = spots_seen to.seen;
+          seen = to.seen;
+          mark = to.mark;
+          read = subst (λ (i : Identity). WasReadOn up g site i newest.table.plan.lists (last t) to.seen to.mark) (sym (ap (λ (x : Opened). x.identity) by.is)) (read_by g t up was just replica the small);
           seated = spots_of hand.seats;
-          goes = subst (λ (s : Site). BootGoes g s o.identity newest.table.plan.lists (spots_seen to.seen) (spots_of hand.seats) (IsReadyWith (spots_of o.seats)) (λ log. IsNewestWritten log o.mark o.table) t u) (sym was.site_is)
-              (subst (λ (i : Identity). BootGoes g (site_of g site.key) i newest.table.plan.lists (spots_seen to.seen) (spots_of hand.seats) (IsReadyWith (spots_of o.seats)) (λ log. IsNewestWritten log o.mark o.table) t u) (sym (ap (λ (x : Opened). x.identity) by.is)) (ends.goes g to));
+          goes = subst (λ (s : Site). BootGoes g s o.identity newest.table.plan.lists to.seen to.mark (spots_of hand.seats) (IsReadyWith (spots_of o.seats)) (λ log. IsLiveWith log o.mark o.table) t u) (sym was.site_is)
+              (subst (λ (i : Identity). BootGoes g (site_of g site.key) i newest.table.plan.lists to.seen to.mark (spots_of hand.seats) (IsReadyWith (spots_of o.seats)) (λ log. IsLiveWith log o.mark o.table) t u) (sym (ap (λ (x : Opened). x.identity) by.is)) (ends.goes g to));
         }
-    adopt_end failed gone end.Empty by t u ends = absurd by
-    adopt_end failed gone (end.TwoDatabases a b) by t u ends = absurd by
-    adopt_end failed gone (end.NoQuorum readable needed) by t u ends = absurd by
-    adopt_end failed gone (end.Lost active listed) by t u ends = λ g replica the was. tt
-    adopt_end failed gone end.Spent by t u ends = absurd by
-    adopt_end failed gone end.Memory by t u ends = absurd by
+    adopt_end small failed progress end.Empty by t u ends = absurd by
+    adopt_end small failed progress (end.TwoDatabases a b) by t u ends = absurd by
+    adopt_end small failed progress (end.NoQuorum readable needed) by t u ends = absurd by
+    adopt_end small failed progress (end.Lost active listed) by t u ends = λ g replica up the was just. tt
+    adopt_end small failed progress end.Spent by t u ends = absurd by
+    adopt_end small failed progress end.Memory by t u ends = absurd by
 
     module _ {S : Type 0} (shelf : Ghosts S) (old new : S) (taken : Taken) (answer : IsRewriteAnswer shelf old new site.key hand newest.table taken) where
-      pub adopted_moments : AtEachTale shelf (RewriteMoment site.key hand newest.table) old new → AtEachTale shelf (AdoptMoment site replicas newest taken.end) old new
-      adopted_moments = moments_weaker (RewriteMoment site.key hand newest.table) (AdoptMoment site replicas newest taken.end) (shelf.tale old) (shelf.tale new) (adopt_moment (DriveFailures shelf old new) answer.gone taken.end answer.ended)
+      pub adopted_moments : hand.number < 2 ^ 63 → AtEachTale shelf (RewriteMoment site.key hand newest.table) old new → AtEachTale shelf (AdoptMoment site replicas newest taken.end) old new
+      adopted_moments small = moments_weaker (RewriteMoment site.key hand newest.table) (AdoptMoment site replicas newest taken.end) (shelf.tale old) (shelf.tale new) (adopt_moment small (DriveFailures shelf old new) answer.progress taken.end answer.ended)
 
-      pub adopted_ends : AtEnd shelf (λ t u. IfAdopted taken.end (λ o. RewriteEnds site.key hand newest.table o t u)) old new → AtEnd shelf (AdoptEnds site replicas newest taken.end) old new
-      adopted_ends ends t told = (let e = ends t told in (e.0, e.1, adopt_end (DriveFailures shelf old new) answer.gone taken.end answer.ended t e.0 e.2))
+      pub adopted_ends : hand.number < 2 ^ 63 → AtEnd shelf (λ t u. IfAdopted taken.end (λ o. RewriteEnds site.key hand newest.table o t u)) old new → AtEnd shelf (AdoptEnds site replicas newest taken.end) old new
+      adopted_ends small ends t told = (let e = ends t told in (e.0, e.1, adopt_end small (DriveFailures shelf old new) answer.progress taken.end answer.ended t e.0 e.2))
 
       adopted_calm : (b : Bool) → IsCalmOver shelf old new (replicas_of hand.seats) b → IsCalmOver shelf old new replicas b
       adopted_calm true calm = calm
       adopted_calm false lost = (lost.0, of_hand lost.0 lost.1, lost.2)
 
-      wrote : (failed : ℕ → Failures) (e : BootEnd) → IsRewriteEnd failed site.key hand newest.table answer.gone e → has_written e ≡ false → ⊥
+      wrote : (failed : ℕ → Failures) (e : BootEnd) → IsRewriteEnd failed site.key hand newest.table answer.progress e → has_written e ≡ false → ⊥
       wrote failed (end.Adopted o) by still = cc (still)
       wrote failed end.Empty by still = by
       wrote failed (end.TwoDatabases a b) by still = by
@@ -289,8 +307,8 @@ module _ (site : Site) (replicas : List Replica) (newest : Newest) (hand : Hand)
       wrote failed end.Spent by still = by
       wrote failed end.Memory by still = by
 
-      laid_by : (failed : ℕ → Failures) (sizes : List ℕ) → AreLaid sizes hand.seats → (e : BootEnd) → IsRewriteEnd failed site.key hand newest.table answer.gone e → IfAdopted e (λ o. AreLaid sizes o.seats)
-      laid_by failed sizes laid (end.Adopted o) by = λ n has.
+      laid_by : (failed : ℕ → Failures) (sizes : List ℕ) → AreLaid sizes hand.seats → (e : BootEnd) → IsRewriteEnd failed site.key hand newest.table answer.progress e → IfAdopted e (λ o. AreLaid sizes o.seats)
+      laid_by failed sizes laid (end.Adopted o) (gone, whole, by) = λ n has.
           let one = left_replica failed (TakesAll hand.number newest.table) (last_in hand.seats newest.table.plan.lists) o.seats n by.left has in
           let was = laid one.0 (last_has newest.table.plan.lists one.0 one.1) in
           subst (λ (x : Replica). IsLaid sizes x) (sym (takes_stay hand.number newest.table one.0 n one.2)) (record { placed = was.placed; short = was.short })
@@ -307,7 +325,7 @@ module _ (site : Site) (replicas : List Replica) (newest : Newest) (hand : Hand)
 
       pub adopted_answer : KeptAmong shelf old new (drives_of hand.seats) → AtEachTale shelf (RewriteMoment site.key hand newest.table) old new → hand.number < 2 ^ 63 → AreLaid (shelf.sizes old) hand.seats → IsAdoptAnswer shelf old new site replicas newest taken
       adopted_answer kept moments small laid = record {
-        ended = inr (λ survey replica reps newest_is the chosen. end_of survey replica reps newest_is the enough small (DriveFailures shelf old new) (WroteOf shelf old new site replicas newest) answer.gone (record { rewrites = record { moments = moments; wrote = answer.wrote; made = answer.made; passed = answer.passed }; shows = λ t told. (let e = answer.shows t told in (e.0, e.1, λ g was. e.2 g (to_be g t was))) }) taken.end answer.ended);
+        ended = inr (λ survey replica reps newest_is the chosen. end_of survey replica reps newest_is the enough small (DriveFailures shelf old new) (WroteOf shelf old new site replicas newest taken.calm) answer.progress (record { rewrites = record { moments = moments; wrote = answer.wrote; made = answer.made; exact = answer.exact; written = answer.written }; shows = λ t told. (let e = answer.shows t told in (e.0, e.1, λ g was. e.2 g (to_be g t was))) }) taken.end answer.ended);
         calm = adopted_calm taken.calm answer.calm;
         once = answer.once;
         still = λ still. absurd (wrote (DriveFailures shelf old new) taken.end answer.ended still);
@@ -323,7 +341,7 @@ pub seated_small : (site : Site) (r : Replica) → IsSeated site r → greatest 
 seated_small site r is = omega (arith, is.formed.of_claim, gate_small r.head.first is.formed.of_first, gate_small r.head.second is.formed.of_second)
 
 pub adopt_still : (site : Site) (replicas : List Replica) (newest : Newest) (answer : BootEnd) (told : Option Tale) → has_written answer ≡ false → Moments (AdoptMoment site replicas newest answer) told told
-adopt_still site replicas newest answer told still = moments_none (AdoptMoment site replicas newest answer) told told refl (λ t g replica the was. still_moment g site answer t still)
+adopt_still site replicas newest answer told still = moments_none (AdoptMoment site replicas newest answer) told told refl (λ t g replica up the was just. still_moment up g site answer t still)
 
 pub got_within : {X : Type 0} (xs : List X) (k : ℕ) (x : X) → slice_get xs k ≡ Some x → k < length xs
 got_within [] k x is = absurd (cc (is))

@@ -26,7 +26,6 @@ use Rattle.mdv_standing.specs.Committing.{MayChangeLists}
 use Rattle.mdv_standing.specs.Others.{Anything}
 use Rattle.mdv_standing.specs.Tracing.{GoesTraced, Traces}
 use Rattle.mdv_standing.proofs.Tracing.{fewer_ready, goes_more, trace_weaker, traced}
-use Rattle.mdv_store_law.specs.Anew.{HasNoneAgain}
 use Rattle.mdv_store_law.specs.Log.{log_after_all}
 use Rattle.mdv_table.proofs.Listed.{beside_apart}
 use Rattle.mdv_table.proofs.Settled.{settled_of}
@@ -40,15 +39,16 @@ use Rattle.mdv_votes.specs.Spots.{is_in}
 use Rattle.mdv_store.specs.Below.{CoversWith, DriveNo, Event, Geometry, Ghosts, IsCommitRun, IsOfGeometry, IsReadyWith, Key, Lists, Log, One, Place, Replica, Site, Spot, Table, Tale, Two, at_of, last as last_tale, last_of, lists_of_spots, record_text, settled, site_of, same_spot}
 use Rattle.mdv_store.specs.Boot.{IfAdopted, IsOnce, TakesAll, TakesBoth, TakesBy, need_of}
 use Rattle.mdv_store.specs.BootCounts.{IsAnewCounted, blocks_at, calls_at, most_blocks, most_calls}
-use Rattle.mdv_store.specs.Booting.{AreOfBoot, AreSettling}
-use Rattle.mdv_store.specs.Commit.{AnyLog, AnyWorld, IsNewestWritten, room_in}
+use Rattle.mdv_store.specs.Booting.{AreOfBoot, AreSettling, HasNoStaleVote}
+use Rattle.mdv_store.specs.Commit.{AnyLog, AnyWorld, IsLiveWith, IsNewestWritten, room_in}
 use Rattle.mdv_store.specs.Opened.{AreSeatsOf, IsOpen, IsOpenedAt, Opened, least_room}
+use Rattle.mdv_store.specs.Progress.{Rewritten, Settled, all_written}
 use Rattle.mdv_store.specs.Records.{Spells}
 use Rattle.mdv_store.specs.Seats.{AreLaid, AreLeft, AreNamed, IsLaid, IsShown, TakesSlot, active_of, drive_of, drives_of, replica_area, replicas_of, seats_area, spot_of, spots_of}
 use Rattle.mdv_store.specs.Settled.{again_of, first_room, gone_of, seats_now, settles}
 use Rattle.mdv_store.specs.Settling.{IsDraft}
 use Rattle.mdv_store.specs.Shares.{short_of, suffices}
-use Rattle.mdv_store.specs.Taking.{GoneShow, IsCalmOver, IsReadied, IsRewriteAnswer, IsTakingCounted, IsToAdopt, MadeRewriteCalls, RewriteEnds, RewriteMoment, StaySynced, WerePassed, WereSettled, WereSlotted, last_in, room_of, second_mark}
+use Rattle.mdv_store.specs.Taking.{IsCalmOver, IsReadied, IsRewriteAnswer, IsTakingCounted, IsToAdopt, LeftHoldOf, MadeRewriteCalls, RewriteEnds, RewriteMoment, StaySynced, WereSettled, WereSlotted, last_in, open_with, room_of, second_mark}
 use Rattle.mdv_store.specs.Text.{blocks_for}
 use Rattle.mdv_store.specs.Writing.{IsBeingWritten, WritingEnds, WritingMoment, WroteAll, text_size}
 use Rattle.mdv_store.specs.declared.booting.BootEnd.TheVariants as end
@@ -67,7 +67,7 @@ use Rattle.mdv_store.proofs.Once.{pass_once}
 use Rattle.mdv_store.proofs.Passes.{all_left, later, left_both, left_calm, left_most, left_told, mapped, pass_synced, some_lost, unmapped}
 use Rattle.mdv_store.proofs.Records.{spelled_of}
 use Rattle.mdv_store.proofs.Reading.{in_mapped}
-use Rattle.mdv_store.proofs.Rewrites.{AreTwice, IsTwice, nothing_shown, room_short, text_most}
+use Rattle.mdv_store.proofs.Rewrites.{AreTwice, IsTwice, room_short, text_most}
 use Rattle.mdv_store.proofs.Rewriting.{AreBooted, both_none_above}
 use Rattle.mdv_store.proofs.Rows.{part_filter, part_pairs}
 use Rattle.mdv_store.proofs.Holding.{Own}
@@ -142,19 +142,22 @@ module _ {S : Type 0} (shelf : Ghosts S) (key : Key) (hand : Hand) (table : Tabl
     one_is : opened ≡ record { key = key; identity = hand.identity; mark = record { boot = hand.number; count = settles table.plan.lists }; table = settled table; seats = last }
     one_is = λ i. record { key = key; identity = hand.identity; mark = record { boot = hand.number; count = sym (ap settles one) i }; table = sym (settled_one table list one) i; seats = last }
 
-    one_settled : (s : S) → WereSettled shelf s s key hand.number table table.plan.lists last
-    one_settled s = subst (λ (l : Lists). WereSettled shelf s s key hand.number table l last) (sym one) refl
+    one_whole : Rewritten last ≡ all_written table.plan.lists last []
+    one_whole = ap (λ (l : Lists). all_written l last []) (sym one)
 
     pub one_answer : IsRewriteAnswer shelf old mid key hand table taken
     one_answer = subst (IsRewriteAnswer shelf old mid key hand table) (sym is) (record {
-      gone = [];
-      ended = record { over = subst (λ (l : Lists). AreLeft (DriveFailures shelf old mid) Both (seats_now hand.seats (gone_of l)) []) (sym one) tt; left = one_left; enough = one_enough; is = one_is };
-      shows = λ t told. (let e = w.ends t told in (e.0, e.1, nothing_shown key hand table t e.0));
+      progress = Rewritten last;
+      ended = ([], one_whole, record { over = subst (λ (l : Lists). AreLeft (DriveFailures shelf old mid) Both (seats_now hand.seats (gone_of l)) []) (sym one) tt; left = one_left; enough = one_enough; is = one_is });
+      shows = λ t told. (let e = w.ends t told in (e.0, e.1, e.2.opened));
       calm = first_calm calm calm_is;
       once = pass_once shelf old mid hand.seats last Both w.kept w.took;
       wrote = w.wrote;
       made = between_wider shelf.calls shelf.written old mid 1 (8 * active_of hand.seats) ((3 + blocks_for (length (record_text table))) * active_of hand.seats) 1 (calls_at hand.seats table) (blocks_at hand.seats table) (omega arith) (omega arith) (omega arith) w.made;
-      passed = w.passed mid (one_settled mid);
+      exact = λ so.
+          let same : active_of last ≡ active_of hand.seats = eqb-true (active_of last) (active_of hand.seats) (sym calm_is ∙ so) in
+          subst (λ (n : ℕ). MadeCalls shelf old mid (8 * n) ((3 + blocks_for (length (record_text table))) * n)) same (w.exact same);
+      written = w.written;
     })
 
     pub one_end : AtEnd shelf (λ t u. IfAdopted taken.end (λ o. RewriteEnds key hand table o t u)) old mid
@@ -169,8 +172,8 @@ module _ {S : Type 0} (shelf : Ghosts S) (key : Key) (hand : Hand) (table : Tabl
         )
       where
         booted : (g : Geometry) (s : Tale) (to : IsToAdopt g key hand table s) (u : Tale) (log : Log)
-            → GoesTraced (Spells g) g (site_of g key) hand.identity [] Anything (AreBooted (spots_seen to.seen) (spots_of hand.seats)) (IsReadyWith (spots_of last)) (λ l. IsNewestWritten l (drawn hand.number) table) s u log
-            → GoesTraced (Spells g) g (site_of g key) hand.identity [] Anything (AreOfBoot (site_of g key) table.plan.lists (spots_seen to.seen) (spots_of hand.seats)) (IsReadyWith (spots_of last)) (λ l. IsNewestWritten l (drawn hand.number) table) s u log
+            → GoesTraced (Spells g) g (site_of g key) hand.identity [] Anything (AreBooted (spots_seen to.seen) (spots_of hand.seats)) (IsReadyWith (spots_of last)) (λ l. IsLiveWith l (drawn hand.number) table) s u log
+            → GoesTraced (Spells g) g (site_of g key) hand.identity [] Anything (AreOfBoot (site_of g key) table.plan.lists (spots_seen to.seen) (spots_of hand.seats)) (IsReadyWith (spots_of last)) (λ l. IsLiveWith l (drawn hand.number) table) s u log
         booted g s to u log goes = record {
           es = goes.es;
           course = goes.course;
@@ -381,13 +384,15 @@ module _ {S : Type 0} (shelf : Ghosts S) (key : Key) (hand : Hand) (table : Tabl
         between_then shelf.calls shelf.written old mid new 1 (8 * active_of hand.seats) ((3 + blocks_for (length (record_text table))) * active_of hand.seats) _ (6 * active_of picks) ((2 + blocks_for (text_size over_table)) * active_of picks)
         1 (calls_at hand.seats table) (blocks_at hand.seats table) (omega arith) (omega (arith, less)) (omega (arith, product)) w.made wrote.passed.counted.some
 
-    two_passed : WerePassed shelf old new key hand table
-    two_passed = w.passed new (subst (λ (l : Lists). WereSettled shelf mid new key hand.number table l last) (sym two)
-        (subst (λ (o : Option Share). MatchOption o ((done : List Seat) × WereSlotted shelf mid new (second_mark hand.number) over_table (seats_now last next) done) (λ share. new ≡ mid)) (sym (ap (short_of (need_of key) last) (sym two) ∙ w.enough)) (now, slotted)))
-      where
-        slotted : WereSlotted shelf mid new (second_mark hand.number) over_table (seats_now last next) now
-        slotted = subst (λ (ps : List Place). WereSlotted shelf mid new (second_mark hand.number) over_table (seats_now last ps) now) at_two
-            (record { left = wrote.left; steps = wrote.passed.steps; counted = wrote.passed.counted; end = wrote.ends })
+    two_written : WereSettled shelf old new key hand table now
+    two_written = record {
+      mid = mid;
+      now = last;
+      rewritten = w.written;
+      enough = w.enough;
+      again = subst (λ (ps : List Place). WereSlotted shelf mid new (second_mark hand.number) over_table (seats_now last ps) now) (sym (comes_again was next two))
+          (record { left = wrote.left; steps = wrote.passed.steps; counted = wrote.passed.counted; end = wrote.ends });
+    }
 
     picks_few : active_of picks ≤ 50
     picks_few = (let most = now_active last listed in let count = comes_count was next two in let few = ready.next_few in omega (arith, most, count, few))
@@ -466,14 +471,14 @@ module _ {S : Type 0} (shelf : Ghosts S) (key : Key) (hand : Hand) (table : Tabl
       geometry = settled_of g table to.of_geometry
 
       -- the log goes on from the table that was written anew
-      module _ (log : Log) (covers : CoversWith (Spells g) (site_of g key) hand.identity (λ image x. Anything x) log t) (known : HasNoneAgain log) where
+      module _ (log : Log) (covers : CoversWith (Spells g) (site_of g key) hand.identity (λ image x. Anything x) log t) (known : HasNoStaleVote (site_of g key) to.seen to.mark log) where
         abbrev site : Site
         site = site_of g key
 
         abbrev read : List Spot
         read = spots_seen to.seen
 
-        one_goes : GoesTraced (Spells g) g site hand.identity [] Anything (AreBooted read (spots_of hand.seats)) (IsReadyWith (spots_of last)) (λ l. IsNewestWritten l (drawn hand.number) table) t u log
+        one_goes : GoesTraced (Spells g) g site hand.identity [] Anything (AreBooted read (spots_of hand.seats)) (IsReadyWith (spots_of last)) (λ l. IsLiveWith l (drawn hand.number) table) t u log
         one_goes = first.goes g to log covers known
 
         abbrev Middle : Log → Type 0
@@ -489,7 +494,7 @@ module _ {S : Type 0} (shelf : Ghosts S) (key : Key) (hand : Hand) (table : Tabl
           course = one_goes.course;
           come = one_goes.come;
           traces = fewer_traces;
-          after = (one_goes.after, traced (Spells g) site hand.identity log (log_after_all log one_goes.es) Anything (AreBooted read (spots_of hand.seats)) (IsReadyWith (spots_of picks)) t u covers fewer_traces);
+          after = (one_goes.after.newest, traced (Spells g) site hand.identity log (log_after_all log one_goes.es) Anything (AreBooted read (spots_of hand.seats)) (IsReadyWith (spots_of picks)) t u covers fewer_traces);
         }
 
         last_within : IsWithin (is_in (spots_of picks)) (is_in (spots_of hand.seats))
@@ -510,12 +515,12 @@ module _ {S : Type 0} (shelf : Ghosts S) (key : Key) (hand : Hand) (table : Tabl
             (λ l known. goes_on from over_table committing g None u picked geometry (in_room g t to) l known.1 known.0.newest (inr refl) (may l known.0) m writing)
 
         over_goes : (v : Tale) → WritingEnds picks now (second_mark hand.number) over_table u v → short_of Half now (One listed) ≡ None
-            → GoesTraced (Spells g) g site hand.identity [] Anything (AreOfBoot site table.plan.lists read (spots_of hand.seats)) (IsReadyWith (spots_of now)) (λ l. IsNewestWritten l (second_mark hand.number) over_table) t v log
-        over_goes v ends half = goes_more (Spells g) site hand.identity g [] [] Anything (IsReadyWith (spots_of picks)) (IsReadyWith (spots_of now)) (AreBooted read (spots_of hand.seats)) (AreWritten g from over_table) (AreOfBoot site table.plan.lists read (spots_of hand.seats)) Middle (λ l. IsNewestWritten l (second_mark hand.number) over_table) t u v log of_both middle
+            → GoesTraced (Spells g) g site hand.identity [] Anything (AreOfBoot site table.plan.lists read (spots_of hand.seats)) (IsReadyWith (spots_of now)) (λ l. IsLiveWith l (second_mark hand.number) over_table) t v log
+        over_goes v ends half = goes_more (Spells g) site hand.identity g [] [] Anything (IsReadyWith (spots_of picks)) (IsReadyWith (spots_of now)) (AreBooted read (spots_of hand.seats)) (AreWritten g from over_table) (AreOfBoot site table.plan.lists read (spots_of hand.seats)) Middle (λ l. IsLiveWith l (second_mark hand.number) over_table) t u v log of_both middle
             (λ l known.
             let x = ends_so from over_table committing g None u picked geometry (in_room g t to) l known.1 known.0.newest (inr refl) (may l known.0) now v ends now_are half in
             let newest = over_newest from over_table committing g None u picked geometry (in_room g t to) l known.1 known.0.newest (inr refl) (may l known.0) now v ends now_are half in
-            record { es = x.es; course = x.course; come = x.come; traces = x.traces; after = subst (λ (k : Log). IsNewestWritten k (second_mark hand.number) over_table) (sym x.after) newest })
+            record { es = x.es; course = x.course; come = x.come; traces = x.traces; after = record { newest = subst (λ (k : Log). IsNewestWritten k (second_mark hand.number) over_table) (sym x.after) newest; lives = ap (λ (k : Log). k.fate) x.after } })
           where
             now_are : AreSeatsOf over_table now
             now_are = left_seats (DriveFailures shelf mid new) Again over_table over_table picks now (λ r n took. ap at_of took.2) refl wrote.left committing.seats
@@ -552,6 +557,10 @@ module _ {S : Type 0} (shelf : Ghosts S) (key : Key) (hand : Hand) (table : Tabl
         pass_synced (DriveFailures shelf mid new) Again picks now u v again_drive wrote.left other.1.slotting.quiet.outside other.0.slotting.synced drive
         (λ one_of some. never (subst (λ (n : ℕ). RoseOnce n (shelf.faults new (OnDrive drive.0))) (was_calm drive one_of) some))
         (one drive synced (λ some. never (behind drive.0 some)))) w.synced write_both
+
+    -- in the end those of the list show it
+    over_opened : (t u v : Tale) → AreTwice key hand table last t u → WritingEnds picks now (second_mark hand.number) over_table u v → (g : Geometry) → IsToAdopt g key hand table t → IsOpenedAt g (open_with key hand (second_mark hand.number) over_table now) v
+    over_opened t u v first ends g to = left_show from over_table committing (DriveFailures shelf mid new) now wrote.left u v ends g (geometry g t u to first) (in_room g t to) (picked g t u to first)
 
     -- Those that the new list lacks: of them those are left on whose drives no call failed then either.
     abbrev kept_one : Option Replica → Option Replica
@@ -632,40 +641,42 @@ module _ {S : Type 0} (shelf : Ghosts S) (key : Key) (hand : Hand) (table : Tabl
     lacks (One list) p has there = omega (arith, has.1)
     lacks (Two a b) p has there = All-contains (λ (q : Place). Contains b q → ⊥) (beside b a) p (beside_apart b a) has there
 
-    gone_show : AtEnd shelf (GoneShow key hand table gone) old new
-    gone_show = ends_more (AreTwice key hand table last) (WritingEnds picks now (second_mark hand.number) over_table) (GoneShow key hand table gone) (shelf.tale old) (shelf.tale mid) (shelf.tale new) shows w.ends wrote.ends where
-      gone_differ : (g : Geometry) (l : Lists) → IsListsOf g l → AllPairs (λ (p q : Place). p ≡ q → ⊥) (gone_of l)
-      gone_differ g (One list) are = λ i j d less within. absurd (omega (arith, within))
-      gone_differ g (Two a b) are = part_pairs (λ (p q : Place). p ≡ q → ⊥) (beside b a) a (part_filter (λ (p : Place). not (list_any (same_place p) b)) a) are.0.differ
+    all_hold : AtEnd shelf (LeftHoldOf key hand table (Settled now gone)) old new
+    all_hold = ends_more (AreTwice key hand table last) (WritingEnds picks now (second_mark hand.number) over_table) (LeftHoldOf key hand table (Settled now gone)) (shelf.tale old) (shelf.tale mid) (shelf.tale new)
+        (λ t u v first ends g to. (over_opened t u v first ends g to, shows t u v first ends g to)) w.ends wrote.ends
+      where
+        gone_differ : (g : Geometry) (l : Lists) → IsListsOf g l → AllPairs (λ (p q : Place). p ≡ q → ⊥) (gone_of l)
+        gone_differ g (One list) are = λ i j d less within. absurd (omega (arith, within))
+        gone_differ g (Two a b) are = part_pairs (λ (p q : Place). p ≡ q → ⊥) (beside b a) a (part_filter (λ (p : Place). not (list_any (same_place p) b)) a) are.0.differ
 
-      shows : (t u v : Tale) → AreTwice key hand table last t u → WritingEnds picks now (second_mark hand.number) over_table u v → GoneShow key hand table gone t v
-      shows t u v first ends g to = record {
-        sound = is.sound;
-        of_geometry = is.of_geometry;
-        held = record {
-          each = λ n has. (stays n has).0;
-          once = now_once still_there (part_pairs (λ (p q : Spot). same_spot p q ≡ false) (spots_of still_there) (spots_of last) (still_part last) is.held.once) still_are.at (gone_of table.plan.lists) (gone_differ g table.plan.lists is.of_geometry.lists);
-        };
-        named = λ n has. is.named n (gone_in n has);
-        shown = λ n has. (stays n has).1;
-      }
-        where
-          is : IsOpenedAt g opened u
-          is = first.opened g to
+        shows : (t u v : Tale) → AreTwice key hand table last t u → WritingEnds picks now (second_mark hand.number) over_table u v → LeftHoldOf key hand table (Rewritten gone) t v
+        shows t u v first ends g to = record {
+          sound = is.sound;
+          of_geometry = is.of_geometry;
+          held = record {
+            each = λ n has. (stays n has).0;
+            once = now_once still_there (part_pairs (λ (p q : Spot). same_spot p q ≡ false) (spots_of still_there) (spots_of last) (still_part last) is.held.once) still_are.at (gone_of table.plan.lists) (gone_differ g table.plan.lists is.of_geometry.lists);
+          };
+          named = λ n has. is.named n (gone_in n has);
+          shown = λ n has. (stays n has).1;
+        }
+          where
+            is : IsOpenedAt g opened u
+            is = first.opened g to
 
-          apart : (n : Replica) → Contains (replicas_of gone) n → (r : Replica) → Contains (replicas_of picks) r → spot_of n ≡ spot_of r → ⊥
-          apart n has r there same =
-              let s = now_seat still_there (gone_of table.plan.lists) n has in
-              let q = now_seat last listed r there in
-              let differ : n ≡ r → ⊥ = λ one. lacks table.plan.lists s.0.place s.3 (subst (Contains listed) (sym (last_are.at q.0 r q.1 q.2) ∙ ap (λ (x : Replica). (at_of x).place) (sym one) ∙ still_are.at s.0 n s.1 s.2) q.3) in
-              let two_spots = spot_apart last is.held.once last_are.at (replicas_of last) is.held.once n r (gone_in n has) (now_in last listed r there) differ in
-              false≢true (sym two_spots ∙ subst (λ (p : Spot). same_spot (spot_of n) p ≡ true) same (same_self (spot_of n)))
+            apart : (n : Replica) → Contains (replicas_of gone) n → (r : Replica) → Contains (replicas_of picks) r → spot_of n ≡ spot_of r → ⊥
+            apart n has r there same =
+                let s = now_seat still_there (gone_of table.plan.lists) n has in
+                let q = now_seat last listed r there in
+                let differ : n ≡ r → ⊥ = λ one. lacks table.plan.lists s.0.place s.3 (subst (Contains listed) (sym (last_are.at q.0 r q.1 q.2) ∙ ap (λ (x : Replica). (at_of x).place) (sym one) ∙ still_are.at s.0 n s.1 s.2) q.3) in
+                let two_spots = spot_apart last is.held.once last_are.at (replicas_of last) is.held.once n r (gone_in n has) (now_in last listed r there) differ in
+                false≢true (sym two_spots ∙ subst (λ (p : Spot). same_spot (spot_of n) p ≡ true) same (same_self (spot_of n)))
 
-          stays : (n : Replica) → Contains (replicas_of gone) n → Own g key hand.identity n v × IsShown g (drawn hand.number) table n v
-          stays n has =
-              shown_beside (second_mark hand.number) (text_size over_table) ends.body picks u g key hand.identity over_table is.sound (picked g t u to first).held
-              (bodies from over_table committing ends.body ends.spelled g is.sound (geometry g t u to first) (in_room g t to)) n (apart n has) (drawn hand.number) table (replicas_of now) [] v ends.slotting.passed
-              (is.held.each n (gone_in n has), is.shown n (gone_in n has))
+            stays : (n : Replica) → Contains (replicas_of gone) n → Own g key hand.identity n v × IsShown g (drawn hand.number) table n v
+            stays n has =
+                shown_beside (second_mark hand.number) (text_size over_table) ends.body picks u g key hand.identity over_table is.sound (picked g t u to first).held
+                (bodies from over_table committing ends.body ends.spelled g is.sound (geometry g t u to first) (in_room g t to)) n (apart n has) (drawn hand.number) table (replicas_of now) [] v ends.slotting.passed
+                (is.held.each n (gone_in n has), is.shown n (gone_in n has))
 
     -- what came of it
     module _ (calm : Bool) (calm_is : calm ≡ nat_eq (active_of last) (active_of hand.seats)) (taken : Taken)
@@ -675,28 +686,46 @@ module _ {S : Type 0} (shelf : Ghosts S) (key : Key) (hand : Hand) (table : Tabl
       Came o = MatchOption o (taken ≡ record { end = end.Adopted (record { key = key; identity = hand.identity; mark = second_mark hand.number; table = over_table; seats = now }); calm = calm && nat_eq (active_of now) (active_of picks) })
           (λ share. taken ≡ record { end = end.Lost share.active share.listed; calm = false })
 
+      two_exact : (calm && nat_eq (active_of now) (active_of picks)) ≡ true → MadeCalls shelf old new (8 * active_of hand.seats + 6 * active_of now) ((3 + blocks_for (length (record_text table))) * active_of hand.seats + (2 + blocks_for (text_size over_table)) * active_of now)
+      two_exact so =
+          let both = and_parts calm (nat_eq (active_of now) (active_of picks)) so in
+          let first : active_of last ≡ active_of hand.seats = eqb-true (active_of last) (active_of hand.seats) (sym calm_is ∙ both.0) in
+          let second : active_of now ≡ active_of picks = eqb-true (active_of now) (active_of picks) both.1 in
+          let some = some_enough (need_of key) picks over_table committing.seats picks_enough in
+          took_more shelf.calls shelf.written old mid new (8 * active_of last) (6 * active_of picks) ((3 + blocks_for (length (record_text table))) * active_of last) ((2 + blocks_for (text_size over_table)) * active_of picks)
+          (8 * active_of hand.seats + 6 * active_of now) ((3 + blocks_for (length (record_text table))) * active_of hand.seats + (2 + blocks_for (text_size over_table)) * active_of now)
+          (omega (arith, first, second)) (same_sum (blocks_for (length (record_text table))) (blocks_for (text_size over_table)) (active_of last) (active_of hand.seats) (active_of picks) (active_of now) first second) (w.exact first) (wrote.passed.counted.all some second)
+        where
+          same_sum : (k l a b c d : ℕ) → a ≡ b → d ≡ c → (3 + k) * a + (2 + l) * c ≡ (3 + k) * b + (2 + l) * d
+          same_sum k l a b c d one two = ap (λ (n : ℕ). (3 + k) * n + (2 + l) * c) one ∙ ap (λ (n : ℕ). (3 + k) * b + (2 + l) * n) (sym two)
+
+      two_whole : Settled now gone ≡ all_written table.plan.lists now gone
+      two_whole = ap (λ (l : Lists). all_written l now gone) (sym two)
+
       pub two_answer : IsRewriteAnswer shelf old new key hand table taken
       two_answer = by (short_of (need_of key) now (One listed)) refl came where
         by : (o : Option Share) → short_of (need_of key) now (One listed) ≡ o → Came o → IsRewriteAnswer shelf old new key hand table taken
         by None none is = subst (IsRewriteAnswer shelf old new key hand table) (sym is) (record {
-          gone = gone;
-          shows = gone_show;
-          ended = record { over = gone_left; left = two_left; enough = none; is = λ i. record { key = key; identity = hand.identity; mark = record { boot = hand.number; count = sym twice_settled i }; table = over_table; seats = now } };
+          progress = Settled now gone;
+          shows = all_hold;
+          ended = (gone, two_whole, record { over = gone_left; left = two_left; enough = none; is = λ i. record { key = key; identity = hand.identity; mark = record { boot = hand.number; count = sym twice_settled i }; table = over_table; seats = now } });
           calm = two_calm calm calm_is (nat_eq (active_of now) (active_of picks)) refl;
           once = two_once;
           wrote = two_wrote;
           made = two_made;
-          passed = two_passed;
+          exact = two_exact;
+          written = two_written;
         })
         by (Some share) few is = subst (IsRewriteAnswer shelf old new key hand table) (sym is) (record {
-          gone = [];
-          shows = ends_more (AreTwice key hand table last) (WritingEnds picks now (second_mark hand.number) over_table) (GoneShow key hand table []) (shelf.tale old) (shelf.tale mid) (shelf.tale new) (λ t u v one ends. nothing_shown key hand table t v) w.ends wrote.ends;
-          ended = (refl, inr (twice_settled, record { now = now; left = two_left; few = few }));
+          progress = Settled now gone;
+          shows = all_hold;
+          ended = (twice_settled, record { left = two_left; few = few }, gone_left);
           calm = fewer_lost (short_fewer (DriveFailures shelf mid new) Again (need_of key) (need_of key) (same_need key) (One listed) picks now share wrote.left picks_enough few);
           once = two_once;
           wrote = two_wrote;
           made = two_made;
-          passed = two_passed;
+          exact = λ so. absurd (false≢true so);
+          written = two_written;
         })
 
       pub two_end : AtEnd shelf (λ t u. IfAdopted taken.end (λ o. RewriteEnds key hand table o t u)) old new
@@ -705,7 +734,7 @@ module _ {S : Type 0} (shelf : Ghosts S) (key : Key) (hand : Hand) (table : Tabl
         where
           by : (t u v : Tale) → AreTwice key hand table last t u → WritingEnds picks now (second_mark hand.number) over_table u v → (o : Option Share) → short_of (need_of key) now (One listed) ≡ o → Came o → IfAdopted taken.end (λ o. RewriteEnds key hand table o t v)
           by t u v one ends None none is = subst (λ (x : Taken). IfAdopted x.end (λ o. RewriteEnds key hand table o t v)) (sym is) (record {
-            opened = λ g to. left_show from over_table committing (DriveFailures shelf mid new) now wrote.left u v ends g (geometry g t u to one) (in_room g t to) (picked g t u to one);
+            opened = over_opened t u v one ends;
             goes = λ g to log covers known. over_goes g t u to one log covers known v ends (kept_lists (need_of key) Half (need_half key) now now (λ p so. so) (One listed) none);
           })
           by t u v one ends (Some share) few is = subst (λ (x : Taken). IfAdopted x.end (λ o. RewriteEnds key hand table o t v)) (sym is) tt

@@ -32,13 +32,14 @@ use Rattle.mdv_survey.specs.Survey.{IsSurveyOf}
 use Rattle.mdv_survey.specs.declared.replica.Newest.{Newest}
 use Rattle.mdv_survey.specs.declared.replica.Survey.{Survey}
 use Rattle.mdv_store.specs.Adopting.{AreAllIn}
-use Rattle.mdv_store.specs.Below.{Core, CoversWith, Database, DriveNo, Drives, Event, Failures, Geometry, Ghosts, Identity, IsSound, IsSynced, Lists, Log, One, Place, Replica, RestStands, Site, Spot, Table, Tale, has_drive, last, last_of, places_of, record_text, site_of}
+use Rattle.mdv_store.specs.Below.{Core, CoversWith, Database, DriveNo, Drives, Event, Failures, Geometry, Ghosts, Identity, IsSound, IsSynced, Lists, Log, Mark, One, Place, Replica, RestStands, Site, Spot, Table, Tale, has_drive, last, last_of, places_of, record_text, site_of}
 use Rattle.mdv_shown.specs.Found.{IsFound}
 use Rattle.mdv_store.specs.Blank.{StayBlank}
-use Rattle.mdv_store.specs.Boot.{IfAdopted, IsEndBy, IsOnce, IsShortBy, TakesAll, TakesBoth, TakesClaimOrBoth, gone_found, is_memory, last_found, seats_of}
+use Rattle.mdv_store.specs.Boot.{IfAdopted, IsEndBy, IsOnce, IsShortAt, IsShortBy, TakesAll, TakesBoth, gone_found, is_memory, last_found, seats_of}
 use Rattle.mdv_store.specs.Booted.{IsBooted, IsReadAt, WasBroughtUp, WroteFor}
 use Rattle.mdv_store.specs.BootCounts.{IsAnewCounted, IsBootCounted, IsEndCounted, most_blocks, most_calls, most_reads}
-use Rattle.mdv_store.specs.Booting.{AreOfBoot, BootEnds, BootGoes, BootMoment, HasShown, IsBootedTo, Writes, WritesFor, boot_area, has_written}
+use Rattle.mdv_shown.specs.Choice.{Seen, spots_seen}
+use Rattle.mdv_store.specs.Booting.{AreLeftOut, AreOfBoot, BootEnds, BootGoes, BootMoment, BootMomentOn, HasShown, IsBootedOn, IsBootedTo, WasReadOn, Writes, WritesFor, boot_area, has_written}
 use Rattle.mdv_look.specs.Bringing.{AreSynced, AreUpBy, BringingEnds, IsBringingCounted}
 use Rattle.mdv_store.specs.Commit.{AnyLog, AnyWorld}
 use Rattle.mdv_store.specs.Counts.{MadeCallsBetween}
@@ -46,8 +47,9 @@ use Rattle.mdv_look.specs.Looking.{AreCalmBy, AreAllCalm, IsLookedAt, reads_by}
 use Rattle.mdv_look.specs.Quiet.{WritesNothing}
 use Rattle.mdv_store.specs.Letters.{AreLettersOf, places_seen}
 use Rattle.mdv_store.specs.Records.{Spells}
+use Rattle.mdv_store.specs.Progress.{Claimed, Progress, Rewritten, Settled}
 use Rattle.mdv_store.specs.Settled.{gone_of, settles}
-use Rattle.mdv_store.specs.Seats.{AreLaid, active_of, drive_of, replicas_of, seats_area, spots_of}
+use Rattle.mdv_store.specs.Seats.{AreLaid, TakesClaim, active_of, drive_of, replicas_of, seats_area, spots_of}
 use Rattle.mdv_store.specs.Taking.{IsCalmOver, IsTaken, IsTakingCounted, StaySynced, TakingEnds, TakingMoment, WasRead, WroteBy, drives_read}
 use Rattle.mdv_store.specs.Text.{blocks_for}
 use Rattle.mdv_store.specs.declared.booting.BootEnd.{BootEnd}
@@ -61,7 +63,7 @@ use Rattle.mdv_store.specs.declared.seats.Seat.{Seat}
 use Rattle.mdv_look.proofs.Among.{among_calm, among_silent}
 use Rattle.mdv_look.proofs.Bringing.{count_cons}
 use Rattle.mdv_look.proofs.Few.{few_more, reads_more}
-use Rattle.mdv_store.proofs.Few.{reads_between}
+use Rattle.mdv_store.proofs.Few.{reads_between, reads_then}
 use Rattle.mdv_look.proofs.Looks.{and_first, and_second, cases_bool, count_length, yes_not}
 use Rattle.mdv_store.proofs.Lettering.{of_ended}
 use Rattle.mdv_store.proofs.Passes.{left_as, unmapped}
@@ -85,7 +87,7 @@ pub last_same : (t m : Tale) → WritesNothing t m → last m ≡ last t
 last_same t m unwritten = λ i drive block. (unwritten.outside drive block refl).last i
 
 module _ (g : Geometry) (site : Site) (identity : Identity) where
-  nothing_goes : (t m : Tale) → WritesNothing t m → BootGoes g site identity (One []) [] [] AnyWorld AnyLog t m
+  nothing_goes : (t m : Tale) → WritesNothing t m → BootGoes g site identity (One []) [] (record { boot = 0; count = 0 }) [] AnyWorld AnyLog t m
   nothing_goes t m unwritten log covers known = record {
     es = [];
     course = tt;
@@ -100,9 +102,10 @@ module _ (g : Geometry) (site : Site) (identity : Identity) where
   blank_kept : (t m : Tale) → WritesNothing t m → StayBlank g identity t m
   blank_kept t m unwritten key other another = everywhere_kept (ShowsNoTable (Spells g) (site_of g key) other) t m unwritten.outside
 
-  pub nothing_written : (t m : Tale) → WritesNothing t m → Writes g site identity (One []) t m
-  nothing_written t m unwritten = record {
-    read = [];
+  pub nothing_written : (up : Drives) (t m : Tale) → WritesNothing t m → Writes up g site identity (One []) t m
+  nothing_written up t m unwritten = record {
+    seen = [];
+    mark = record { boot = 0; count = 0 };
     seats = [];
     found = λ r has. absurd (omega (arith, has.1));
     shown = inl refl;
@@ -113,8 +116,8 @@ module _ (g : Geometry) (site : Site) (identity : Identity) where
   }
 
   -- a boot goes on so behind calls that wrote nothing
-  pub goes_then : (lists : Lists) (read seated : List Spot) (Then : Core → Type 0) (After : Log → Type 0) (t u m : Tale) → WritesNothing t u → BootGoes g site identity lists read seated Then After u m → BootGoes g site identity lists read seated Then After t m
-  goes_then lists read seated Then After t u m unwritten goes log covers known =
+  pub goes_then : (lists : Lists) (seen : List Seen) (mark : Mark) (seated : List Spot) (Then : Core → Type 0) (After : Log → Type 0) (t u m : Tale) → WritesNothing t u → BootGoes g site identity lists seen mark seated Then After u m → BootGoes g site identity lists seen mark seated Then After t m
+  goes_then lists seen mark seated Then After t u m unwritten goes log covers known =
       let covers_u : CoversWith (Spells g) site identity (λ image w. Anything w) log u = everywhere_kept (λ image. (w : Core) × IsWorld (Spells g) site identity log w image × Anything w) t u unwritten.outside covers in
       let to = goes log covers_u known in
       record {
@@ -122,69 +125,92 @@ module _ (g : Geometry) (site : Site) (identity : Identity) where
         course = to.course;
         come = to.come;
         traces =
-            trace_more (Spells g) site identity log log (log_after_all log to.es) Anything Anything Then (λ es. es ≡ []) (AreOfBoot site lists read seated) (AreOfBoot site lists read seated) t u m
-            (λ es fs none are. subst (AreOfBoot site lists read seated) (sym (ap (λ (l : List Event). l ++ fs) none)) are) (trace_same (Spells g) site identity log Anything t u (leaves_same t u unwritten)) to.traces;
+            trace_more (Spells g) site identity log log (log_after_all log to.es) Anything Anything Then (λ es. es ≡ []) (AreOfBoot site lists (spots_seen seen) seated) (AreOfBoot site lists (spots_seen seen) seated) t u m
+            (λ es fs none are. subst (AreOfBoot site lists (spots_seen seen) seated) (sym (ap (λ (l : List Event). l ++ fs) none)) are) (trace_same (Spells g) site identity log Anything t u (leaves_same t u unwritten)) to.traces;
         after = to.after;
       }
 
   pub shown_before : (t u : Tale) → WritesNothing t u → HasShown g site identity u → HasShown g site identity t
   shown_before t u unwritten is = record { replica = is.replica; found = subst (λ (c : Contents). IsFoundIn g site c is.replica) (last_same t u unwritten) is.found; its = is.its; shown = is.shown }
 
-  shown_then : (t u : Tale) → WritesNothing t u → (seats : List Seat) → (seats ≡ []) ⊎ HasShown g site identity u → (seats ≡ []) ⊎ HasShown g site identity t
-  shown_then t u unwritten seats (inl none) = inl none
-  shown_then t u unwritten seats (inr is) = inr (shown_before t u unwritten is)
+  -- what was read then was read
+  pub read_before : (up : Drives) (lists : Lists) (t u : Tale) → WritesNothing t u → (seen : List Seen) (mark : Mark) → WasReadOn up g site identity lists (last u) seen mark → WasReadOn up g site identity lists (last t) seen mark
+  read_before up lists t u unwritten seen mark read = subst (λ (c : Contents). WasReadOn up g site identity lists c seen mark) (last_same t u unwritten) read
 
-  pub writes_then : (lists : Lists) (t u m : Tale) → WritesNothing t u → Writes g site identity lists u m → Writes g site identity lists t m
-  writes_then lists t u m unwritten w = record {
-    read = w.read;
-    seats = w.seats;
-    found = λ r has. (let one = w.found r has in (subst (λ (c : Contents). IsFoundIn g site c r) (last_same t u unwritten) one.0, one.1));
-    shown = shown_then t u unwritten w.seats w.shown;
-    within = quiet_more (seats_area w.seats) t u m (unwritten_quiet (seats_area w.seats) t u unwritten) w.within;
-    goes = goes_then lists w.read (spots_of w.seats) AnyWorld AnyLog t u m unwritten w.goes;
-    rest = λ all was. w.rest all (rest_kept all t u unwritten was);
-    blank = λ key other another was. w.blank key other another (blank_kept t u unwritten key other another was);
-  }
+  module _ (up : Drives) (lists : Lists) (t u m : Tale) (unwritten : WritesNothing t u) where
+    shown_then : (seen : List Seen) (mark : Mark) (seats : List Seat) → (seats ≡ []) ⊎ (HasShown g site identity u × WasReadOn up g site identity lists (last u) seen mark)
+        → (seats ≡ []) ⊎ (HasShown g site identity t × WasReadOn up g site identity lists (last t) seen mark)
+    shown_then seen mark seats (inl none) = inl none
+    shown_then seen mark seats (inr is) = inr (shown_before t u unwritten is.0, read_before up lists t u unwritten seen mark is.1)
 
-pub boot_before : (g : Geometry) (site : Site) (answer : BootEnd) (t m : Tale) → WritesNothing t m → BootMoment g site answer t m
-boot_before g site answer t m unwritten = record { quiet = unwritten_quiet (boot_area site (has_written answer)) t m unwritten; writes = by answer } where
-  by : (a : BootEnd) → WritesFor g site a t m
-  by (end.Adopted o) = (One [], omega arith, nothing_written g site o.identity t m unwritten)
+    pub writes_then : Writes up g site identity lists u m → Writes up g site identity lists t m
+    writes_then w = record {
+      seen = w.seen;
+      mark = w.mark;
+      seats = w.seats;
+      found = λ r has. (let one = w.found r has in (subst (λ (c : Contents). IsFoundIn g site c r) (last_same t u unwritten) one.0, one.1));
+      shown = shown_then w.seen w.mark w.seats w.shown;
+      within = quiet_more (seats_area w.seats) t u m (unwritten_quiet (seats_area w.seats) t u unwritten) w.within;
+      goes = goes_then lists w.seen w.mark (spots_of w.seats) AnyWorld AnyLog t u m unwritten w.goes;
+      rest = λ all was. w.rest all (rest_kept all t u unwritten was);
+      blank = λ key other another was. w.blank key other another (blank_kept t u unwritten key other another was);
+    }
+
+pub boot_before : (up : Drives) (g : Geometry) (site : Site) (answer : BootEnd) (t m : Tale) → WritesNothing t m → BootMomentOn up g site answer t m
+boot_before up g site answer t m unwritten = record { quiet = unwritten_quiet (boot_area site (has_written answer)) t m unwritten; writes = by answer } where
+  by : (a : BootEnd) → WritesFor up g site a t m
+  by (end.Adopted o) = (One [], omega arith, nothing_written g site o.identity up t m unwritten)
   by end.Empty = tt
   by (end.TwoDatabases a b) = tt
   by (end.NoQuorum readable needed) = tt
-  by (end.Lost active listed) = (record { fresh = 0; number = 0 }, One [], nothing_written g site (record { fresh = 0; number = 0 }) t m unwritten)
+  by (end.Lost active listed) = (record { fresh = 0; number = 0 }, One [], nothing_written g site (record { fresh = 0; number = 0 }) up t m unwritten)
   by end.Spent = tt
   by end.Memory = tt
 
-pub boot_then : (g : Geometry) (site : Site) (answer : BootEnd) (t u m : Tale) → WritesNothing t u → BootMoment g site answer u m → BootMoment g site answer t m
-boot_then g site answer t u m unwritten moment =
-    record { quiet = quiet_more (boot_area site (has_written answer)) t u m (unwritten_quiet (boot_area site (has_written answer)) t u unwritten) moment.quiet; writes = by answer moment.writes }
-  where
-    by : (a : BootEnd) → WritesFor g site a u m → WritesFor g site a t m
-    by (end.Adopted o) w = (w.0, w.1, writes_then g site o.identity w.0 t u m unwritten w.2)
-    by end.Empty w = tt
-    by (end.TwoDatabases a b) w = tt
-    by (end.NoQuorum readable needed) w = tt
-    by (end.Lost active listed) w = (w.0, w.1, writes_then g site w.0 w.1 t u m unwritten w.2)
-    by end.Spent w = tt
-    by end.Memory w = tt
+-- behind that
+module _ (up : Drives) (g : Geometry) (site : Site) (t u m : Tale) (unwritten : WritesNothing t u) where
+  writes_for : (a : BootEnd) → WritesFor up g site a u m → WritesFor up g site a t m
+  writes_for (end.Adopted o) w = (w.0, w.1, writes_then g site o.identity up w.0 t u m unwritten w.2)
+  writes_for end.Empty w = tt
+  writes_for (end.TwoDatabases a b) w = tt
+  writes_for (end.NoQuorum readable needed) w = tt
+  writes_for (end.Lost active listed) w = (w.0, w.1, writes_then g site w.0 up w.1 t u m unwritten w.2)
+  writes_for end.Spent w = tt
+  writes_for end.Memory w = tt
 
-booted_then : (g : Geometry) (site : Site) (answer : BootEnd) (t u w : Tale) → WritesNothing t u → IfAdopted answer (λ o. IsBootedTo g site o u w) → IfAdopted answer (λ o. IsBootedTo g site o t w)
-booted_then g site (end.Adopted o) t u w unwritten is = record { shown = shown_before g site o.identity t u unwritten is.shown; opened = is.opened; lists = is.lists; marked = is.marked; read = is.read; seated = is.seated; goes = goes_then g site o.identity is.lists is.read is.seated _ _ t u w unwritten is.goes }
-booted_then g site end.Empty t u w unwritten is = tt
-booted_then g site (end.TwoDatabases a b) t u w unwritten is = tt
-booted_then g site (end.NoQuorum readable needed) t u w unwritten is = tt
-booted_then g site (end.Lost active listed) t u w unwritten is = tt
-booted_then g site end.Spent t u w unwritten is = tt
-booted_then g site end.Memory t u w unwritten is = tt
+  pub boot_then : (answer : BootEnd) → BootMomentOn up g site answer u m → BootMomentOn up g site answer t m
+  boot_then answer moment =
+      record { quiet = quiet_more (boot_area site (has_written answer)) t u m (unwritten_quiet (boot_area site (has_written answer)) t u unwritten) moment.quiet; writes = writes_for answer moment.writes }
+
+  booted_then : (failed : ℕ → Type 0) → AreLeftOut failed site up → (answer : BootEnd) → IfAdopted answer (λ o. IsBootedOn up g site o u m) → IfAdopted answer (λ o. IsBootedTo failed g site o t m)
+  booted_then failed out (end.Adopted o) is = (
+    up,
+    out,
+    record {
+      shown = shown_before g site o.identity t u unwritten is.shown;
+      opened = is.opened;
+      lists = is.lists;
+      marked = is.marked;
+      seen = is.seen;
+      mark = is.mark;
+      read = read_before g site o.identity up is.lists t u unwritten is.seen is.mark is.read;
+      seated = is.seated;
+      goes = goes_then g site o.identity is.lists is.seen is.mark is.seated _ _ t u m unwritten is.goes;
+    },
+  )
+  booted_then failed out end.Empty is = tt
+  booted_then failed out (end.TwoDatabases a b) is = tt
+  booted_then failed out (end.NoQuorum readable needed) is = tt
+  booted_then failed out (end.Lost active listed) is = tt
+  booted_then failed out end.Spent is = tt
+  booted_then failed out end.Memory is = tt
 
 -- what was found of some places was read
 was_found : (survey : Survey) (newest : Newest) (replica : Replica) (places : List Place) (r : Replica) → Contains (replicas_of (seats_of survey.replicas replica.head.master.identity (blocks_for (length (record_text newest.table))) places)) r → Contains survey.replicas r
 was_found survey newest replica places r has = (seated_at survey.replicas replica.head.master.identity (blocks_for (length (record_text newest.table))) places r has).1
 
 -- an end that follows, as the failures are told from earlier on
-end_as : (failed told : ℕ → Failures) (Wrote : Hand → Table → List Seat → Type 0) (site : Site) (survey : Survey) → ((r : Replica) → Contains survey.replicas r → (failed (drive_of r)).some → (told (drive_of r)).some) → ((r : Replica) → Contains survey.replicas r → (failed (drive_of r)).none → (told (drive_of r)).none)
+end_as : (failed told : ℕ → Failures) (Wrote : Hand → Table → Progress → Type 0) (site : Site) (survey : Survey) → ((r : Replica) → Contains survey.replicas r → (failed (drive_of r)).some → (told (drive_of r)).some) → ((r : Replica) → Contains survey.replicas r → (failed (drive_of r)).none → (told (drive_of r)).none)
     → (answer : BootEnd) → IsEndBy failed Wrote site survey answer → IsEndBy told Wrote site survey answer
 end_as failed told Wrote site survey some none (end.Adopted o) by =
     record {
@@ -212,20 +238,30 @@ end_as failed told Wrote site survey some none (end.Lost active listed) by =
       seats = by.seats;
       number = by.number;
       drawn = by.drawn;
+      progress = by.progress;
       written = by.written;
-      short = elim by.short [
-        | inl first ↦ inl (short_as (TakesClaimOrBoth by.number (length (record_text by.newest.table))) by.newest.table.plan.lists by.seats
-            (λ r has. was_found survey by.newest by.replica (places_of by.newest.table.plan.lists) r (subst (λ (ss : List Seat). Contains (replicas_of ss) r) by.drawn.hand.seats_are has)) first)
-        | inr again ↦ inr (again.0, short_as (TakesAll by.number by.newest.table) (One (last_of by.newest.table.plan.lists)) (last_found survey by.newest by.replica) (was_found survey by.newest by.replica (last_of by.newest.table.plan.lists)) again.1)
-      ];
+      short = short_at by.progress by.short;
     }
   where
-    short_as : (Took : Replica → Replica → Type 0) (lists : Lists) (seats : List Seat) → ((r : Replica) → Contains (replicas_of seats) r → Contains survey.replicas r) → IsShortBy failed Took site.key lists seats active listed → IsShortBy told Took site.key lists seats active listed
-    short_as Took lists seats has short = record {
-      now = short.now;
-      left = left_as failed told Took Took seats short.now (λ r in_seats. some r (has r in_seats)) (λ r in_seats. none r (has r in_seats)) (λ r m took. took) short.left;
+    in_hand : (r : Replica) → Contains (replicas_of by.seats) r → Contains survey.replicas r
+    in_hand r has = was_found survey by.newest by.replica (places_of by.newest.table.plan.lists) r (subst (λ (ss : List Seat). Contains (replicas_of ss) r) by.drawn.hand.seats_are has)
+
+    short_as : (Took : Replica → Replica → Type 0) (lists : Lists) (seats now : List Seat) → ((r : Replica) → Contains (replicas_of seats) r → Contains survey.replicas r) → IsShortBy failed Took site.key lists seats now (record { active = active; listed = listed }) → IsShortBy told Took site.key lists seats now (record { active = active; listed = listed })
+    short_as Took lists seats now has short = record {
+      left = left_as failed told Took Took seats now (λ r in_seats. some r (has r in_seats)) (λ r in_seats. none r (has r in_seats)) (λ r m took. took) short.left;
       few = short.few;
     }
+
+    short_at : (progress : Progress) → IsShortAt failed site.key by.number by.newest.table by.seats (last_found survey by.newest by.replica) (gone_found survey by.newest by.replica) progress (record { active = active; listed = listed })
+        → IsShortAt told site.key by.number by.newest.table by.seats (last_found survey by.newest by.replica) (gone_found survey by.newest by.replica) progress (record { active = active; listed = listed })
+    short_at (Claimed now) short = short_as (TakesClaim by.number) by.newest.table.plan.lists by.seats now in_hand short
+    short_at (Rewritten now) short = short_as (TakesBoth by.number (length (record_text by.newest.table))) by.newest.table.plan.lists by.seats now in_hand short
+    short_at (Settled now gone) (settles, short, over) = (
+      settles,
+      short_as (TakesAll by.number by.newest.table) (One (last_of by.newest.table.plan.lists)) (last_found survey by.newest by.replica) now (was_found survey by.newest by.replica (last_of by.newest.table.plan.lists)) short,
+      left_as failed told (TakesBoth by.number (length (record_text by.newest.table))) (TakesBoth by.number (length (record_text by.newest.table))) (gone_found survey by.newest by.replica) gone (λ r has. some r (was_found survey by.newest by.replica (gone_of by.newest.table.plan.lists) r has))
+          (λ r has. none r (was_found survey by.newest by.replica (gone_of by.newest.table.plan.lists) r has)) (λ r m took. took) over,
+    )
 end_as failed told Wrote site survey some none end.Spent by = by
 end_as failed told Wrote site survey some none end.Memory by = tt
 
@@ -291,9 +327,13 @@ module _ {S : Type 0} (shelf : Ghosts S) (site : Site) (old m1 : S) (up : Drives
         lettered = subst (λ (e : BootEnd). IfAdopted e (λ o. places_seen answer.letters ≡ places_of o.table.plan.lists)) (sym end_is) tt;
       }
 
-      pub wanting_moments : AtEachTale shelf (BootMoment g site answer.end) old m2
+      abbrev HadFailed : ℕ → Type 0
+      HadFailed drive = (DriveFailures shelf old m2 drive).some
+
+      pub wanting_moments : AtEachTale shelf (BootMoment HadFailed g site answer.end) old m2
       wanting_moments =
-          subst (λ (o : Option Tale). Moments (BootMoment g site answer.end) (shelf.tale old) o) (sym l_same) (moments_weaker WritesNothing (BootMoment g site answer.end) (shelf.tale old) (shelf.tale m1) (boot_before g site answer.end) b_moments)
+          subst (λ (o : Option Tale). Moments (BootMoment HadFailed g site answer.end) (shelf.tale old) o) (sym l_same)
+          (moments_weaker WritesNothing (BootMoment HadFailed g site answer.end) (shelf.tale old) (shelf.tale m1) (λ t m unwritten. (no_drives, λ wrote. absurd (cc (wrote, ap has_written end_is)), boot_before no_drives g site answer.end t m unwritten)) b_moments)
 
       pub wanting_ends : AtEnd shelf (BootEnds (λ drive. (DriveFailures shelf old m2 drive).some) g site answer) old m2
       wanting_ends t told =
@@ -301,7 +341,7 @@ module _ {S : Type 0} (shelf : Ghosts S) (site : Site) (old m1 : S) (up : Drives
             u.0,
             l_same ∙ u.1,
             record {
-              adopted = subst (λ (e : BootEnd). IfAdopted e (λ o. IsBootedTo g site o t u.0)) (sym end_is) tt;
+              adopted = subst (λ (e : BootEnd). IfAdopted e (λ o. IsBootedTo HadFailed g site o t u.0)) (sym end_is) tt;
               empty = λ e so. absurd (cc (so, clean_is));
               synced = λ enough. absurd (cc (enough, ap is_memory end_is));
               still = λ drive block so out. u.2.synced drive (sym (ap (λ (d : Drives). has_drive d drive) up_is) ∙ so) block;
@@ -317,7 +357,8 @@ module _ {S : Type 0} (shelf : Ghosts S) (site : Site) (old m1 : S) (up : Drives
 
     -- what was read was made something of
     module _ (sound : IsSound g) (on : IsOnShelf (shelf.sizes old) site) (of_site : site ≡ site_of g site.key) (looked : Looked) (at : IsLookedAt shelf m1 m2 g site up looked) (l_some : MadeFew shelf m1 m2 (reads_by site up looked.calm)) (new : S) (taken : Taken) (answer : IsTaken shelf m2 new site looked taken)
-        (t_kept : KeptAmong shelf m2 new (drives_read looked.survey.replicas)) (calm : Bool) (all : AreAllIn calm site.drives looked.calm) (clean : Bool) (clean_is : clean ≡ (calm && (taken.calm && not (is_memory taken.end)))) (letters : List Lettered) (letters_are : AreLettersOf site looked.survey looked.calm letters) where
+        (t_kept : KeptAmong shelf m2 new (drives_read looked.survey.replicas)) (calm : Bool) (all : AreAllIn calm site.drives looked.calm) (clean : Bool) (clean_is : clean ≡ (calm && (taken.calm && not (is_memory taken.end)))) (letters : List Lettered) (letters_are : AreLettersOf site looked.survey looked.calm letters)
+        (once : AreAllCalm site up looked.calm → (t : Tale) → shelf.tale m1 ≡ Some t → (n : ℕ) × MadeReads shelf m1 m2 n × AreLinesBy g site up no_drives (last t) site.lines n) where
       abbrev faults_at : S → DriveNo → ℕ
       faults_at s drive = shelf.faults s (OnDrive drive.0)
 
@@ -371,14 +412,20 @@ module _ {S : Type 0} (shelf : Ghosts S) (site : Site) (old m1 : S) (up : Drives
 
       -- what was read, as the looks ended
       was_read : (t u : Tale) → IsUp t u → WasRead g site looked u
-      was_read t u is = record { sound = sound; site_is = of_site; of = at.of u is.is; synced = λ r has. is.synced r.line.at.drive (calm_up r.line.at.drive (read_calm r has)) }
+      was_read t u is = record { sound = sound; site_is = of_site; of = at.of u is.is; synced = λ r has. is.synced r.line.at.drive (calm_up r.line.at.drive (read_calm r has)); on = read_calm; none = at.none }
+
+      calm_of : clean ≡ true → calm ≡ true
+      calm_of so = and_first calm (taken.calm && not (is_memory taken.end)) (sym clean_is ∙ so)
+
+      taken_calm : clean ≡ true → taken.calm ≡ true
+      taken_calm so = and_first taken.calm (not (is_memory taken.end)) (and_second calm (taken.calm && not (is_memory taken.end)) (sym clean_is ∙ so))
 
       -- so what was written of it is told from the beginning
-      wrote_told : (hand : Hand) (table : Table) (gone : List Seat) → WroteBy shelf m2 new site looked hand table gone → WroteFor shelf old m2 new g site hand table gone
-      wrote_told hand table gone wrote = record { rewrites = wrote.rewrites; shows = λ t told. (let u = brought t told in let e = wrote.shows u.0 (l_same ∙ u.1) in (e.0, e.1, e.2 g (was_read t u.0 u.2))) }
+      wrote_told : (hand : Hand) (table : Table) (progress : Progress) → WroteBy shelf m2 new site looked taken.calm hand table progress → WroteFor shelf old m2 new g site clean hand table progress
+      wrote_told hand table progress wrote = record { rewrites = record { moments = wrote.rewrites.moments; wrote = wrote.rewrites.wrote; made = wrote.rewrites.made; exact = λ so. wrote.rewrites.exact (taken_calm so); written = wrote.rewrites.written }; shows = λ t told. (let u = brought t told in let e = wrote.shows u.0 (l_same ∙ u.1) in (e.0, e.1, e.2 g (was_read t u.0 u.2))) }
 
-      told_end : IsEndBy (DriveFailures shelf m2 new) (WroteBy shelf m2 new site looked) site looked.survey taken.end → IsEndBy (DriveFailures shelf old new) (WroteFor shelf old m2 new g site) site looked.survey taken.end
-      told_end by = wrote_more (DriveFailures shelf old new) (WroteBy shelf m2 new site looked) (WroteFor shelf old m2 new g site) wrote_told site looked.survey taken.end (end_as (DriveFailures shelf m2 new) (DriveFailures shelf old new) (WroteBy shelf m2 new site looked) site looked.survey
+      told_end : IsEndBy (DriveFailures shelf m2 new) (WroteBy shelf m2 new site looked taken.calm) site looked.survey taken.end → IsEndBy (DriveFailures shelf old new) (WroteFor shelf old m2 new g site clean) site looked.survey taken.end
+      told_end by = wrote_more (DriveFailures shelf old new) (WroteBy shelf m2 new site looked taken.calm) (WroteFor shelf old m2 new g site clean) wrote_told site looked.survey taken.end (end_as (DriveFailures shelf m2 new) (DriveFailures shelf old new) (WroteBy shelf m2 new site looked taken.calm) site looked.survey
           (λ r has some. subst (λ (n : ℕ). RoseOnce n (shelf.faults new (OnDrive (drive_of r)))) (read_faults r has) some) (λ r has none. none ∙ read_faults r has) taken.end by)
 
       all_calm : calm ≡ true → (drive : DriveNo) → Contains site.drives drive → has_drive looked.calm drive ≡ true
@@ -394,6 +441,20 @@ module _ {S : Type 0} (shelf : Ghosts S) (site : Site) (old m1 : S) (up : Drives
           let listed = at.survey.each r lost.1 in
           inr (r.line.at.drive, on.brought r.line listed.seated.one_of, subst (λ (n : ℕ). RoseOnce n (shelf.faults new (OnDrive (drive_of r)))) (read_faults r lost.1) lost.2)
       clean_by false b c out none memory = inr (out.0, out.1, out_once out.0 out.1 out.2)
+
+      -- where none failed the looks read each head and each body once
+      looks_exact : clean ≡ true → (t : Tale) → shelf.tale old ≡ Some t → (n : ℕ) × MadeReads shelf old m2 (2 * length site.drives + n) × AreLinesBy g site up no_drives (last t) site.lines n
+      looks_exact so t told =
+          let is_calm = calm_of so in
+          let u = brought t told in
+          let one = once (λ drive one_of is_up. all_calm is_calm drive one_of) u.0 u.1 in
+          let every = count_all (has_drive up) site.drives (λ drive one_of. calm_up drive (all_calm is_calm drive one_of)) in
+          let calls : b_counted.calls ≡ 2 * length site.drives = omega (arith, every, b_counted.by.least, b_counted.by.most) in
+          let brought_by : MadeReads shelf old m1 (2 * length site.drives) = subst (λ (n : ℕ). MadeReads shelf old m1 n) calls b_counted.made in (
+            one.0,
+            reads_more shelf old m1 m2 (2 * length site.drives) one.0 (2 * length site.drives + one.0) refl brought_by one.1,
+            subst (λ (c : Contents). AreLinesBy g site up no_drives c site.lines one.0) (last_same t u.0 u.2.unwritten) one.2,
+          )
 
       abbrev made : Booted
       made = record { end = taken.end; up = up; clean = clean; letters = letters }
@@ -417,6 +478,7 @@ module _ {S : Type 0} (shelf : Ghosts S) (site : Site) (old m1 : S) (up : Drives
         brought = brought_so;
         looks = at.last_look.looks;
         reads = looks_some;
+        exact = looks_exact;
         behind = among_wider shelf m2 new (drives_read looked.survey.replicas) site.drives read_within t_kept;
         answered = calm_faults;
         calm = looked.calm;
@@ -434,8 +496,8 @@ module _ {S : Type 0} (shelf : Ghosts S) (site : Site) (old m1 : S) (up : Drives
         none = at.none;
       }
 
-      ended_by : (is_memory taken.end ≡ true) ⊎ IsEndBy (DriveFailures shelf m2 new) (WroteBy shelf m2 new site looked) site looked.survey taken.end
-          → (is_memory taken.end ≡ true) ⊎ ((survey : Survey) × (at_look : IsReadAt shelf old new g site made survey) × IsEndBy (DriveFailures shelf old new) (WroteFor shelf old at_look.looked new g site) site survey taken.end × AreLettersOf site survey at_look.calm letters)
+      ended_by : (is_memory taken.end ≡ true) ⊎ IsEndBy (DriveFailures shelf m2 new) (WroteBy shelf m2 new site looked taken.calm) site looked.survey taken.end
+          → (is_memory taken.end ≡ true) ⊎ ((survey : Survey) × (at_look : IsReadAt shelf old new g site made survey) × IsEndBy (DriveFailures shelf old new) (WroteFor shelf old at_look.looked new g site clean) site survey taken.end × AreLettersOf site survey at_look.calm letters)
       ended_by (inl memory) = inl memory
       ended_by (inr by) = inr (looked.survey, read_at, told_end by, letters_are)
 
@@ -456,13 +518,16 @@ module _ {S : Type 0} (shelf : Ghosts S) (site : Site) (old m1 : S) (up : Drives
         clean = subst (λ (b : Bool). MatchBool b ((is_memory taken.end ≡ false) × ((drive : DriveNo) → Contains site.drives drive → (DriveFailures shelf old new drive.0).none)) ((is_memory taken.end ≡ true) ⊎ ((drive : DriveNo) × Contains site.drives drive × (DriveFailures shelf old new drive.0).some)))
             (sym clean_is) (clean_by calm taken.calm (is_memory taken.end) all answer.calm refl);
         laid = subst (λ (sizes : List ℕ). IfAdopted taken.end (λ o. AreLaid sizes o.seats)) look_kept.keeps.same_sizes answer.laid;
-        lettered = of_ended (DriveFailures shelf m2 new) (WroteBy shelf m2 new site looked) site looked.survey looked.calm letters letters_are taken.end answer.ended;
+        lettered = of_ended (DriveFailures shelf m2 new) (WroteBy shelf m2 new site looked taken.calm) site looked.survey looked.calm letters letters_are taken.end answer.ended;
       }
 
-      pub all_moments : AtEachTale shelf (TakingMoment site looked taken.end) m2 new → AtEachTale shelf (BootMoment g site taken.end) old new
+      abbrev HasFailed : ℕ → Type 0
+      HasFailed drive = (DriveFailures shelf old new drive).some
+
+      pub all_moments : AtEachTale shelf (TakingMoment site looked taken.end) m2 new → AtEachTale shelf (BootMoment HasFailed g site taken.end) old new
       all_moments taking =
-          moments_after WritesNothing IsUp (TakingMoment site looked taken.end) (BootMoment g site taken.end) (shelf.tale old) (shelf.tale m1) (shelf.tale new) (boot_before g site taken.end)
-          (λ t u m is moment. boot_then g site taken.end t u m is.unwritten (moment g (was_read t u is))) b_moments brought (subst (λ (o : Option Tale). Moments (TakingMoment site looked taken.end) o (shelf.tale new)) l_same taking)
+          moments_after WritesNothing IsUp (TakingMoment site looked taken.end) (BootMoment HasFailed g site taken.end) (shelf.tale old) (shelf.tale m1) (shelf.tale new) (λ t m unwritten. (looked.calm, λ wrote. out_once, boot_before looked.calm g site taken.end t m unwritten))
+          (λ t u m is moment. (looked.calm, λ wrote. out_once, boot_then looked.calm g site t u m is.unwritten taken.end (moment g (was_read t u is)))) b_moments brought (subst (λ (o : Option Tale). Moments (TakingMoment site looked taken.end) o (shelf.tale new)) l_same taking)
 
       -- nothing shows a table, where nothing was found and all answered
       nothing_shown : (t u : Tale) → IsUp t u → looked.survey.newest ≡ None → calm ≡ true → Everywhere (λ image. (identity : Identity) → ShowsNoTable (Spells g) site identity image) u
@@ -474,12 +539,9 @@ module _ {S : Type 0} (shelf : Ghosts S) (site : Site) (old m1 : S) (up : Drives
           let has = (at.of u is.is).all r found (yes_not (has_drive looked.calm drive) (has_drive looked.survey.failed drive) here (at.none drive here)) in
           subst (λ (o : Option Newest). IsMarked looked.survey.replicas o) none at.survey.marked r has
 
-      empty_by : (is_memory taken.end ≡ true) ⊎ IsEndBy (DriveFailures shelf m2 new) (WroteBy shelf m2 new site looked) site looked.survey taken.end → taken.end ≡ end.Empty → looked.survey.newest ≡ None
+      empty_by : (is_memory taken.end ≡ true) ⊎ IsEndBy (DriveFailures shelf m2 new) (WroteBy shelf m2 new site looked taken.calm) site looked.survey taken.end → taken.end ≡ end.Empty → looked.survey.newest ≡ None
       empty_by (inl memory) is = absurd (cc (memory, ap is_memory is))
-      empty_by (inr by) is = none_newest looked.survey (subst (λ (e : BootEnd). IsEndBy (DriveFailures shelf m2 new) (WroteBy shelf m2 new site looked) site looked.survey e) is by)
-
-      calm_of : clean ≡ true → calm ≡ true
-      calm_of so = and_first calm (taken.calm && not (is_memory taken.end)) (sym clean_is ∙ so)
+      empty_by (inr by) is = none_newest looked.survey (subst (λ (e : BootEnd). IsEndBy (DriveFailures shelf m2 new) (WroteBy shelf m2 new site looked taken.calm) site looked.survey e) is by)
 
       pub all_ends : AtEachTale shelf (TakingMoment site looked taken.end) m2 new → AtEnd shelf (TakingEnds site looked taken.end) m2 new → AtEnd shelf (StaySynced shelf m2 new) m2 new → AtEnd shelf (BootEnds (λ drive. (DriveFailures shelf old new drive).some) g site made) old new
       all_ends moments taking stays t told =
@@ -493,7 +555,7 @@ module _ {S : Type 0} (shelf : Ghosts S) (site : Site) (old m1 : S) (up : Drives
             w.0,
             w.1,
             record {
-              adopted = booted_then g site taken.end t u.0 w.0 u.2.unwritten (w.2 g (was_read t u.0 u.2));
+              adopted = booted_then looked.calm g site t u.0 w.0 u.2.unwritten HasFailed out_once taken.end (w.2 g (was_read t u.0 u.2));
               empty = λ is so. (
                   let nothing = nothing_shown t u.0 u.2 (empty_by answer.ended is) (calm_of so) in
                   let still : new ≡ m2 = answer.still (ap has_written is) in
@@ -504,7 +566,7 @@ module _ {S : Type 0} (shelf : Ghosts S) (site : Site) (old m1 : S) (up : Drives
                   subst (λ (x : Tale). IsSynced drive.0 x) same
                   (s.2 drive (u.2.synced drive (calm_up drive is_calm)) (λ some. never (subst (λ (n : ℕ). RoseOnce n (faults_at new drive)) (calm_faults drive is_calm) some))));
               still = λ drive block so out x left. (
-                  let kept = (subst (λ (v : Tale). BootMoment g site taken.end u.0 v) last_one (m.2 g (was_read t u.0 u.2))).quiet.outside drive.0 block out in
+                  let kept = (subst (λ (v : Tale). BootMomentOn looked.calm g site taken.end u.0 v) last_one (m.2 g (was_read t u.0 u.2))).quiet.outside drive.0 block out in
                   u.2.synced drive so block x (kept.left x left) ∙ sym (λ i. kept.last i));
             },
           )
@@ -518,15 +580,11 @@ module _ {S : Type 0} (shelf : Ghosts S) (site : Site) (old m1 : S) (up : Drives
           (λ drive has. (let r = unmapped (λ (x : Replica). x.line.at.drive) looked.survey.replicas drive has in subst (λ (d : DriveNo). shelf.faults m2 (OnDrive d.0) ≡ shelf.faults old (OnDrive d.0)) r.2 (read_faults r.0 r.1))) look_kept t_kept
 
       -- the calls of one on which none failed
-      reads_then : (a b c : S) (j k l : ℕ) → MadeReads shelf a b j → MadeCalls shelf b c k l → MadeCalls shelf a c (j + k) l
-      reads_then a b c zero k l same took = subst (λ (s : S). MadeCalls shelf s c (0 + k) l) same (subst (λ (n : ℕ). MadeCalls shelf b c n l) (omega arith) took)
-      reads_then a b c (suc j) k l read took = took_more shelf.calls shelf.written a b c (suc j) k 0 l (suc j + k) l refl (omega arith) read took
-
       zero_more : (k : ℕ) → 0 + k ≡ k
       zero_more k = omega arith
 
       counted_by : (e : BootEnd) → (n : ℕ) → MadeReads shelf old m2 n → (has_written e ≡ false → new ≡ m2) → IfAdopted e (IsAnewCounted (MadeCalls shelf m2 new) 0) → IsEndCounted shelf old new n e
-      counted_by (end.Adopted o) n read still took = record { table = took.table; found = took.found; is = took.is; marked = took.marked; one = took.one; made = reads_then old m2 new n _ _ read (subst (λ (k : ℕ). MadeCalls shelf m2 new k ((3 + blocks_for (length (record_text took.table))) * took.found + (2 + blocks_for (length (record_text o.table))) * (settles took.table.plan.lists * active_of o.seats))) (zero_more (8 * took.found + 6 * (settles took.table.plan.lists * active_of o.seats))) took.made) }
+      counted_by (end.Adopted o) n read still took = record { table = took.table; found = took.found; is = took.is; marked = took.marked; one = took.one; made = reads_then shelf old m2 new n _ _ read (subst (λ (k : ℕ). MadeCalls shelf m2 new k ((3 + blocks_for (length (record_text took.table))) * took.found + (2 + blocks_for (length (record_text o.table))) * (settles took.table.plan.lists * active_of o.seats))) (zero_more (8 * took.found + 6 * (settles took.table.plan.lists * active_of o.seats))) took.made) }
       counted_by end.Empty n read still took = subst (λ (s : S). MadeReads shelf old s n) (sym (still refl)) read
       counted_by (end.TwoDatabases a b) n read still took = subst (λ (s : S). MadeReads shelf old s n) (sym (still refl)) read
       counted_by (end.NoQuorum readable needed) n read still took = subst (λ (s : S). MadeReads shelf old s n) (sym (still refl)) read
@@ -534,20 +592,9 @@ module _ {S : Type 0} (shelf : Ghosts S) (site : Site) (old m1 : S) (up : Drives
       counted_by end.Spent n read still took = subst (λ (s : S). MadeReads shelf old s n) (sym (still refl)) read
       counted_by end.Memory n read still took = tt
 
-      pub all_counted : IsTakingCounted shelf m2 new taken → (AreAllCalm site up looked.calm → (t : Tale) → shelf.tale m1 ≡ Some t → (n : ℕ) × MadeReads shelf m1 m2 n × AreLinesBy g site up no_drives (last t) site.lines n) → IsBootCounted shelf old new g site made
-      all_counted counted once = record {
+      pub all_counted : IsTakingCounted shelf m2 new taken → IsBootCounted shelf old new g site made
+      all_counted counted = record {
         most = between_then shelf.calls shelf.written old m2 new 0 (2 * length site.drives + most_reads site) 0 0 most_calls most_blocks 0 (2 * length site.drives + most_reads site + most_calls) most_blocks (omega arith) (omega arith) (omega arith) looks_most counted.most;
         still = λ unwritten. subst (λ (s : S). MadeCallsBetween shelf old s 0 (2 * length site.drives + most_reads site) 0) (sym (answer.still unwritten)) looks_most;
-        clean = λ so t told. (
-            let is_calm = calm_of so in
-            let u = brought t told in
-            let one = once (λ drive one_of is_up. all_calm is_calm drive one_of) u.0 u.1 in
-            let every = count_all (has_drive up) site.drives (λ drive one_of. calm_up drive (all_calm is_calm drive one_of)) in
-            let calls : b_counted.calls ≡ 2 * length site.drives = omega (arith, every, b_counted.by.least, b_counted.by.most) in
-            let brought_by : MadeReads shelf old m1 (2 * length site.drives) = subst (λ (n : ℕ). MadeReads shelf old m1 n) calls b_counted.made in
-            let taken_calm = and_first taken.calm (not (is_memory taken.end)) (and_second calm (taken.calm && not (is_memory taken.end)) (sym clean_is ∙ so)) in (
-              one.0,
-              subst (λ (c : Contents). AreLinesBy g site up no_drives c site.lines one.0) (last_same t u.0 u.2.unwritten) one.2,
-              counted_by taken.end (2 * length site.drives + one.0) (reads_more shelf old m1 m2 (2 * length site.drives) one.0 (2 * length site.drives + one.0) refl brought_by one.1) answer.still (counted.calm taken_calm),
-            ));
+        clean = λ so t told. (let looks = looks_exact so t told in (looks.0, looks.2, counted_by taken.end (2 * length site.drives + looks.0) looks.1 answer.still (counted.calm (taken_calm so))));
       }

@@ -11,6 +11,7 @@ use Rattle.mdv_table.proofs.Testing.{same_place-true}
 use Rattle.mdv_store.specs.Below.{Drives, Failures, Place, Site, Table, last_of, places_of, record_text}
 use Rattle.mdv_store.specs.Boot.{IfAdopted, IsAdopted, IsEndBy, is_memory}
 use Rattle.mdv_store.specs.Letters.{AreLettersOf, AreRead, flags_at, flags_by, is_lettered_at, is_seat_at, letters_from, places_seen, seen_at}
+use Rattle.mdv_store.specs.Progress.{Progress}
 use Rattle.mdv_store.specs.Opened.{Opened}
 use Rattle.mdv_store.specs.Text.{blocks_for}
 use Rattle.mdv_store.specs.declared.booting.BootEnd.{BootEnd}
@@ -97,7 +98,7 @@ told_just_where place seats seen places are of = (
 )
 
 -- What is adopted has letters of its listed places.
-module _ (failed : ℕ → Failures) (Wrote : Hand → Table → List Seat → Type 0) (site : Site) (survey : Survey) (calm : Drives) (letters : List Lettered) (are : AreLettersOf site survey calm letters) where
+module _ (failed : ℕ → Failures) (Wrote : Hand → Table → Progress → Type 0) (site : Site) (survey : Survey) (calm : Drives) (letters : List Lettered) (are : AreLettersOf site survey calm letters) where
   of_adopted : (o : Opened) → IsAdopted failed Wrote site survey o → places_seen letters ≡ places_of o.table.plan.lists
   of_adopted o a =
       let read : AreRead site survey calm a.newest letters = subst (λ (n : Option Newest). MatchOption n (letters ≡ []) (λ newest. AreRead site survey calm newest letters)) a.drawn.hand.newest_is are in

@@ -5,7 +5,7 @@ use Rattle.std.specs.List.{AllPairs, find, list_any}
 use Rattle.std.proofs.lemmas.Bool.{leb-true, or_left, or_right}
 use Rattle.std.proofs.lemmas.Bool.Decides.{nat_tests}
 use Rattle.std.proofs.lemmas.List.Elements.{Contains-append_cases}
-use Rattle.mdv_shelf.proofs.Everywhere.{image_synced}
+use Rattle.mdv_shelf.proofs.Everywhere.{image_synced, last_image}
 use Rattle.mdv_shelf.specs.Everywhere.{Everywhere}
 use Rattle.mdv_shown.proofs.Elsewhere.{one_master, range_has}
 use Rattle.mdv_shown.proofs.Sites.{site_is}
@@ -17,6 +17,7 @@ use Rattle.mdv_shown.specs.Sites.{lines_of}
 use Rattle.mdv_standing.specs.Adopting.{AreOwn}
 use Rattle.mdv_survey.specs.Choice.{is_of, place_of, same_identity}
 use Rattle.mdv_survey.specs.Newest.{IsGreatest}
+use Rattle.mdv_replica.specs.Form.{shows}
 use Rattle.mdv_replica.specs.Seen.{IsMasterAt}
 use Rattle.mdv_survey.specs.Replica.{IsFoundIn, IsOnShelf, IsSeated}
 use Rattle.mdv_survey.specs.declared.replica.Newest.{Newest}
@@ -27,8 +28,9 @@ use Rattle.mdv_table.specs.declared.plan.Lists.{Lists}
 use Rattle.mdv_table.specs.declared.plan.Lists.TheVariants.{One, Two}
 use Rattle.mdv_votes.proofs.Meeting.{same_is, same_self}
 use Rattle.mdv_votes.specs.Spots.{is_in}
-use Rattle.mdv_store.specs.Below.{Geometry, Identity, IsOfGeometry, IsOwn, Key, Open, Place, Replica, Site, SliceLine, Spot, Table, Tale, at_of, gate_of, greatest, is_named, last, lists_of_spots, places_of, record_text, same_spot, site_of, slot_blocks, spot_on}
-use Rattle.mdv_store.specs.Adopting.{WasReadOf}
+use Rattle.mdv_store.specs.Below.{Drives, Geometry, Identity, IsOfGeometry, IsOwn, Key, Open, Place, Replica, Site, SliceLine, Spot, Table, Tale, at_of, gate_of, greatest, has_drive, is_named, last, lists_of_spots, places_of, record_text, same_spot, site_of, slot_blocks, spot_on}
+use Rattle.mdv_store.specs.Adopting.{AreJustOn, WasReadOf}
+use Rattle.mdv_store.specs.Booting.{WasReadOn}
 use Rattle.mdv_store.specs.Boot.{greatest_number, is_seated, seat_for}
 use Rattle.mdv_store.specs.Settled.{again_of}
 use Rattle.mdv_store.specs.Opened.{AreSeatsOf}
@@ -295,4 +297,24 @@ module _ (g : Geometry) (key : Key) (replicas : List Replica) (newest : Newest) 
       number_is = is.number_is ∙ ap (λ (n : ℕ). n + 1) (sym (own_greatest hand.identity replicas));
       held = held;
       named = named;
+    }
+
+    -- and what was read of these drives, if these replicas are all that lie there, and no other database's shows a table
+    pub read_on : (up : Drives) → AreJustOn g at up replicas t → hand.number < 2 ^ 63 → ((r : Replica) → Contains replicas r → shows r.head ≡ true → is_of hand.identity r ≡ true)
+        → WasReadOn up g at hand.identity newest.table.plan.lists (last t) to_adopt.seen to_adopt.mark
+    unfolding to_adopt
+    read_on up just small alone = record {
+      sound = was.sound;
+      own = own_seen_at (last t) (last_image t);
+      on = λ s has. (let one = own_is hand.identity replicas s has in subst (λ (x : Seen). has_drive up x.line.at.drive ≡ true) one.3 (just.on one.0 one.1));
+      all = λ r found so own. own_has hand.identity replicas r (just.all r found so) own;
+      one = λ r found so shown. alone r (just.all r found so) shown;
+      s = seen_of replica;
+      slot = newest.slot;
+      table = newest.table;
+      chosen = chosen;
+      shown = shows_at (last t) (last_image t);
+      listed = refl;
+      quorum = to_adopt.read.quorum;
+      small = omega (arith, small, is.number_is, own_greatest hand.identity replicas);
     }

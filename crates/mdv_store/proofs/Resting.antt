@@ -14,7 +14,7 @@ use Rattle.mdv_acts.specs.Acts.{IsDoing, form_on}
 use Rattle.mdv_store.specs.Below.{Database, Geometry, Identity, Key, PlaceAt, Site, SliceLine, Spot, Tale, place_on, site_of, spot_on}
 use Rattle.mdv_store.specs.Records.{Spells}
 use Rattle.mdv_store.proofs.Locating.{first_of}
-use Rattle.mdv_store.proofs.Places.{AreThose, GoesOn, IsNext, OfPlaces}
+use Rattle.mdv_store.proofs.Places.{GoesOn, IsNext, OfPlaces}
 use Rattle.mdv_store.proofs.Putting as put
 use Rattle.mdv_store.proofs.Putting.{ArePut, IsGiven, behind_here, format_here, one_put, put_recast}
 

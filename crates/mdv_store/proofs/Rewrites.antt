@@ -12,23 +12,24 @@ use Rattle.mdv_shelf.specs.Calls.{OnDrive}
 use Rattle.mdv_shelf.specs.Drives.{KeptAmong}
 use Rattle.mdv_shelf.specs.Shelves.{AtEachTale, AtEnd, DriveFailures, MadeCalls}
 use Rattle.mdv_shown.specs.Choice.{spots_seen}
-use Rattle.mdv_store_law.specs.Anew.{HasNoneAgain}
 use Rattle.mdv_standing.specs.Adopting.{drawn}
 use Rattle.mdv_standing.specs.Others.{Anything}
 use Rattle.mdv_standing.specs.Tracing.{GoesTraced}
 use Rattle.mdv_store.specs.Below.{CoversWith, DriveNo, Failures, Geometry, Ghosts, IsReadyWith, IsSynced, Key, Log, One, Place, Replica, Table, Tale, Two, last_of, places_of, record_text, settled, site_of}
-use Rattle.mdv_store.specs.Boot.{IfAdopted, TakesBoth, TakesClaimOrBoth, need_of}
+use Rattle.mdv_store.specs.Boot.{IfAdopted, TakesBoth, need_of}
 use Rattle.mdv_store.specs.BootCounts.{blocks_at, calls_at, most_blocks, most_calls}
+use Rattle.mdv_store.specs.Booting.{HasNoStaleVote}
 use Rattle.mdv_store.specs.Claims.{ClaimingEnds, ClaimingMoment}
-use Rattle.mdv_store.specs.Commit.{IsNewestWritten}
+use Rattle.mdv_store.specs.Commit.{IsLiveWith}
 use Rattle.mdv_store.specs.Counts.{ArePassCounted, MadeCallsBetween, drives_lost}
 use Rattle.mdv_store.specs.Opened.{IsOpenedAt, Opened}
 use Rattle.mdv_store.specs.Records.{Spells}
+use Rattle.mdv_store.specs.Progress.{Claimed, Rewritten}
 use Rattle.mdv_store.specs.Passing.{IsPassing, Passed, WentBy, WentOver, claiming, slotting}
 use Rattle.mdv_store.specs.Seats.{AreLaid, AreLeft, HaveRoom, IsLaid, TakesClaim, TakesSlot, active_of, drive_of, drives_of, replicas_of, seats_area, spots_of}
 use Rattle.mdv_store.specs.Settled.{again_of, seats_now}
 use Rattle.mdv_store.specs.Slots.{SlottingEnds, SlottingMoment}
-use Rattle.mdv_store.specs.Taking.{GoneShow, IsCalmOver, IsReadied, IsRewriteAnswer, IsRewriteEnd, IsTakingCounted, IsToAdopt, RewriteEnds, RewriteMoment, StaySynced, WereClaimed, WerePassed, WereSettled, WereSlotted, room_of, second_mark}
+use Rattle.mdv_store.specs.Taking.{IsCalmOver, IsReadied, IsRewriteAnswer, IsRewriteEnd, IsTakingCounted, IsToAdopt, LeftHoldOf, RewriteEnds, RewriteMoment, StaySynced, WereClaimed, WereRewritten, room_of}
 use Rattle.mdv_store.specs.Text.{IsSpelled, blocks_for}
 use Rattle.mdv_store.specs.Writing.{IsWrittenOver}
 use Rattle.mdv_store.specs.declared.booting.BootEnd.{BootEnd}
@@ -60,16 +61,6 @@ as_needed key need seats told lists came of same is = ap (λ (n : Need). short_o
 few_active : (seats : List Seat) → length seats ≤ 100 → active_of seats ≤ 100
 few_active seats few = omega (arith, few, active_most seats)
 
--- no places show anything
-pub nothing_shown : (key : Key) (hand : Hand) (table : Table) (t u : Tale) → GoneShow key hand table [] t u
-nothing_shown key hand table t u g to = record {
-  sound = to.sound;
-  of_geometry = to.of_geometry;
-  held = record { each = λ r has. absurd (omega (arith, has.1)); once = λ i j d less within. absurd (omega (arith, within)) };
-  named = λ r has. absurd (omega (arith, has.1));
-  shown = λ r has. absurd (omega (arith, has.1));
-}
-
 -- behind both passes, where enough of each list took them
 pub record AreTwice (key : Key) (hand : Hand) (table : Table) (last : List Seat) (t u : Tale) : Type 0 where
   pub moment : RewriteMoment key hand table t u
@@ -78,8 +69,8 @@ pub record AreTwice (key : Key) (hand : Hand) (table : Table) (last : List Seat)
   pub claims : Passed (claiming hand.number) (replicas_of hand.seats) t claimed [] between
   pub slots : IsWrittenOver claimed (drawn hand.number) table between (replicas_of last) u
   pub opened : (g : Geometry) → IsToAdopt g key hand table t → IsOpenedAt g (record { key = key; identity = hand.identity; mark = drawn hand.number; table = table; seats = last }) u
-  pub goes : (g : Geometry) (to : IsToAdopt g key hand table t) (log : Log) → CoversWith (Spells g) (site_of g key) hand.identity (λ image w. Anything w) log t → HasNoneAgain log
-      → GoesTraced (Spells g) g (site_of g key) hand.identity [] Anything (AreBooted (spots_seen to.seen) (spots_of hand.seats)) (IsReadyWith (spots_of last)) (λ l. IsNewestWritten l (drawn hand.number) table) t u log
+  pub goes : (g : Geometry) (to : IsToAdopt g key hand table t) (log : Log) → CoversWith (Spells g) (site_of g key) hand.identity (λ image w. Anything w) log t → HasNoStaleVote (site_of g key) to.seen to.mark log
+      → GoesTraced (Spells g) g (site_of g key) hand.identity [] Anything (AreBooted (spots_seen to.seen) (spots_of hand.seats)) (IsReadyWith (spots_of last)) (λ l. IsLiveWith l (drawn hand.number) table) t u log
 
 -- Both passes, where enough of each list took them: what they come to, and what they cost.
 pub record IsTwice {S : Type 0} (shelf : Ghosts S) (key : Key) (hand : Hand) (table : Table) (old mid : S) (last : List Seat) : Type 0 where
@@ -89,17 +80,11 @@ pub record IsTwice {S : Type 0} (shelf : Ghosts S) (key : Key) (hand : Hand) (ta
   pub made : MadeCallsBetween shelf old mid 1 (8 * active_of hand.seats) ((3 + blocks_for (length (record_text table))) * active_of hand.seats)
   pub most : MadeCallsBetween shelf old mid 0 (8 * 100) (100 * 4097)
   pub exact : active_of last ≡ active_of hand.seats → MadeCalls shelf old mid (8 * active_of last) ((3 + blocks_for (length (record_text table))) * active_of last)
-  pub passed : (new : S) → WereSettled shelf mid new key hand.number table table.plan.lists last → WerePassed shelf old new key hand table
+  pub written : WereRewritten shelf old mid key hand table last
   pub kept : KeptAmong shelf old mid (drives_of hand.seats)
   pub moments : AtEachTale shelf (RewriteMoment key hand table) old mid
   pub ends : AtEnd shelf (AreTwice key hand table last) old mid
   pub synced : AtEnd shelf (StaySynced shelf old mid) old mid
-
--- nothing more is written where not enough took it
-unsettled : {S : Type 0} (shelf : Ghosts S) (s : S) (key : Key) (number : ℕ) (table : Table) (lists : Lists) (now : List Seat) (share : Share) → short_of (need_of key) now lists ≡ Some share → WereSettled shelf s s key number table lists now
-unsettled shelf s key number table (One list) now share few = refl
-unsettled shelf s key number table (Two was next) now share few =
-    subst (λ (o : Option Share). MatchOption o ((last : List Seat) × WereSlotted shelf s s (second_mark number) (settled table) (seats_now now next) last) (λ x. s ≡ s)) (sym few) refl
 
 module _ {S : Type 0} (shelf : Ghosts S) (key : Key) (hand : Hand) (table : Table) (ready : IsReadied hand table) (old mid : S) (now : List Seat)
     (left : AreLeft (DriveFailures shelf old mid) (TakesClaim hand.number) hand.seats now) (moments : AtEachTale shelf (ClaimingMoment hand.seats hand.number) old mid) (ends : AtEnd shelf (ClaimingEnds hand.seats now hand.number) old mid)
@@ -146,31 +131,17 @@ module _ {S : Type 0} (shelf : Ghosts S) (key : Key) (hand : Hand) (table : Tabl
     first_answer =
         let lost = some_lost (DriveFailures shelf old mid) (TakesClaim hand.number) hand.seats now left (short_fewer (DriveFailures shelf old mid) (TakesClaim hand.number) More (need_of key) (more_suffices (need_of key)) table.plan.lists hand.seats now share left ready.enough few) in
         record {
-          gone = [];
-          shows = λ t told. (let e = ends t told in (e.0, e.1, nothing_shown key hand table t e.0));
-          ended = subst (λ (e : BootEnd). IsRewriteEnd (DriveFailures shelf old mid) key hand table [] e) (sym end_is) (
-            refl,
-            inl (record {
-              now = now;
-              left = left_as (DriveFailures shelf old mid) (DriveFailures shelf old mid) (TakesClaim hand.number) (TakesClaimOrBoth hand.number (length (record_text table))) hand.seats now (λ r has so. so) (λ r has so. so) (λ r m took. inl took) left;
-              few = few;
-            }),
-          );
+          progress = Claimed now;
+          shows = λ t told. (let e = ends t told in (e.0, e.1, λ g to. e.2.held g key hand.identity to.sound ready.small to.held));
+          ended = subst (λ (e : BootEnd). IsRewriteEnd (DriveFailures shelf old mid) key hand table (Claimed now) e) (sym end_is) (record { left = left; few = few });
           calm = subst (λ (b : Bool). IsCalmOver shelf old mid (replicas_of hand.seats) b) (sym calm_is) lost;
           once = pass_once shelf old mid hand.seats now (TakesClaim hand.number) kept left;
           wrote = first_wrote;
           made =
               between_wider shelf.calls shelf.written old mid _ (2 * active_of hand.seats) (1 * active_of hand.seats) 1 (calls_at hand.seats table) (blocks_at hand.seats table)
               first_called (omega arith) (omega arith) counted.some;
-          passed = record {
-            claimed = mid;
-            written = mid;
-            between = now;
-            now = now;
-            first = claimed_all;
-            second = subst (λ (o : Option Share). MatchOption o (WereSlotted shelf mid mid (drawn hand.number) table now now) (λ s. (mid ≡ mid) × (now ≡ now))) (sym few) (refl, refl);
-            behind = unsettled shelf mid key hand.number table table.plan.lists now share few;
-          };
+          exact = λ so. absurd (cc (so, calm_is));
+          written = claimed_all;
         }
 
     pub first_end : AtEnd shelf (λ t u. IfAdopted taken.end (λ o. RewriteEnds key hand table o t u)) old mid
@@ -219,15 +190,13 @@ module _ {S : Type 0} (shelf : Ghosts S) (key : Key) (hand : Hand) (table : Tabl
     long = spelled_long table bytes body spelled
 
     -- the table was written to each place that claimed
-    both_passed : (final : S) → WereSettled shelf new final key hand.number table table.plan.lists last → WerePassed shelf old final key hand table
-    both_passed final settled_so = record {
-      claimed = mid;
-      written = new;
+    both_written : WereRewritten shelf old new key hand table last
+    both_written = record {
+      mid = mid;
       between = now;
-      now = last;
-      first = claimed_all;
-      behind = settled_so;
-      second = subst (λ (o : Option Share). MatchOption o (WereSlotted shelf mid new (drawn hand.number) table now last) (λ s. (new ≡ mid) × (last ≡ now))) (sym enough) (record {
+      claimed = claimed_all;
+      enough = enough;
+      slotted = record {
         left = subst (λ (n : ℕ). AreLeft (DriveFailures shelf mid new) (TakesSlot (drawn hand.number) n) now last) spelled.counted left_last;
         steps = (
           body,
@@ -244,8 +213,12 @@ module _ {S : Type 0} (shelf : Ghosts S) (key : Key) (hand : Hand) (table : Tabl
             slotting = subst (λ (n : ℕ). SlottingEnds now last (drawn hand.number) n body t e.0) spelled.counted e.2;
           },
         ));
-      });
+      };
     }
+
+    -- in the end they hold it
+    both_opened : (t u v : Tale) → ClaimingEnds hand.seats now hand.number t u → SlottingEnds now last (drawn hand.number) bytes body u v → LeftHoldOf key hand table (Rewritten last) t v
+    both_opened t u v one two g to = opened key hand table ready g t to (DriveFailures shelf old mid) now u left one bytes body spelled (DriveFailures shelf mid new) last v left_last two
 
     both_made : MadeCallsBetween shelf old new 1 (8 * active_of hand.seats) ((3 + blocks_for (length (record_text table))) * active_of hand.seats)
     both_made =
@@ -332,22 +305,23 @@ module _ {S : Type 0} (shelf : Ghosts S) (key : Key) (hand : Hand) (table : Tabl
 
     -- where not enough took it
     module _ (share : Share) (few : short_of (need_of key) last table.plan.lists ≡ Some share) (taken : Taken) (end_is : taken.end ≡ end.Lost share.active share.listed) (calm_is : taken.calm ≡ false) where
-      abbrev Either : Replica → Replica → Type 0
-      Either = TakesClaimOrBoth hand.number (length (record_text table))
+      abbrev Both : Replica → Replica → Type 0
+      Both = TakesBoth hand.number (length (record_text table))
 
       pub lost_answer : IsRewriteAnswer shelf old new key hand table taken
       lost_answer =
-          let all = both_left Either (λ r m n one two. inr (subst (λ (k : ℕ). TakesBoth hand.number k r n) spelled.counted (takes_both hand.number bytes r m n one two))) in
-          let lost = some_lost (DriveFailures shelf old new) Either hand.seats last all (short_fewer (DriveFailures shelf old new) Either More (need_of key) (more_suffices (need_of key)) table.plan.lists hand.seats last share all ready.enough few) in
+          let all = both_left Both (λ r m n one two. subst (λ (k : ℕ). TakesBoth hand.number k r n) spelled.counted (takes_both hand.number bytes r m n one two)) in
+          let lost = some_lost (DriveFailures shelf old new) Both hand.seats last all (short_fewer (DriveFailures shelf old new) Both More (need_of key) (more_suffices (need_of key)) table.plan.lists hand.seats last share all ready.enough few) in
           record {
-            gone = [];
-            shows = ends_more (ClaimingEnds hand.seats now hand.number) (SlottingEnds now last (drawn hand.number) bytes body) (GoneShow key hand table []) (shelf.tale old) (shelf.tale mid) (shelf.tale new) (λ t u v one two. nothing_shown key hand table t v) ends slot_ends;
-            ended = subst (λ (e : BootEnd). IsRewriteEnd (DriveFailures shelf old new) key hand table [] e) (sym end_is) (refl, inl (record { now = last; left = all; few = few }));
+            progress = Rewritten last;
+            shows = ends_more (ClaimingEnds hand.seats now hand.number) (SlottingEnds now last (drawn hand.number) bytes body) (LeftHoldOf key hand table (Rewritten last)) (shelf.tale old) (shelf.tale mid) (shelf.tale new) both_opened ends slot_ends;
+            ended = subst (λ (e : BootEnd). IsRewriteEnd (DriveFailures shelf old new) key hand table (Rewritten last) e) (sym end_is) (record { left = all; few = few });
             calm = subst (λ (b : Bool). IsCalmOver shelf old new (replicas_of hand.seats) b) (sym calm_is) lost;
-            once = pass_once shelf old new hand.seats last Either both_kept all;
+            once = pass_once shelf old new hand.seats last Both both_kept all;
             wrote = both_wrote;
             made = between_wider shelf.calls shelf.written old new 1 (8 * active_of hand.seats) ((3 + blocks_for (length (record_text table))) * active_of hand.seats) 1 (calls_at hand.seats table) (blocks_at hand.seats table) (omega arith) (omega arith) (omega arith) both_made;
-            passed = both_passed new (unsettled shelf new key hand.number table table.plan.lists last share few);
+            exact = λ so. absurd (cc (so, calm_is));
+            written = both_written;
           }
 
       pub lost_end : AtEnd shelf (λ t u. IfAdopted taken.end (λ o. RewriteEnds key hand table o t u)) old new
@@ -377,7 +351,7 @@ module _ {S : Type 0} (shelf : Ghosts S) (key : Key) (hand : Hand) (table : Tabl
             between = u;
             claims = one.0.passed;
             slots = (body, subst (λ (n : ℕ). IsSpelled table n body) spelled.counted spelled, subst (λ (n : ℕ). Passed (slotting (drawn hand.number) n body) (replicas_of now) u (replicas_of last) [] v) spelled.counted two.0.passed);
-            opened = λ g to. opened key hand table ready g t to (DriveFailures shelf old mid) now u left one.0 bytes body spelled (DriveFailures shelf mid new) last v left_last two.0;
+            opened = both_opened t u v one.0 two.0;
             goes = λ g to log covers known. ends_go key hand table ready g t to log covers known (DriveFailures shelf old mid) now u left one.0 enough bytes body spelled (DriveFailures shelf mid new) last v left_last two.0 enough_last;
           }) claim_both slot_both
 
@@ -402,7 +376,7 @@ module _ {S : Type 0} (shelf : Ghosts S) (key : Key) (hand : Hand) (table : Tabl
         made = both_made;
         most = second_most;
         exact = exact_made;
-        passed = both_passed;
+        written = both_written;
         kept = both_kept;
         moments = second_moments;
         ends = twice_ends;

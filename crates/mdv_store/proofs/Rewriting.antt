@@ -13,7 +13,6 @@ use Rattle.mdv_standing.proofs.Stores.{all_read}
 use Rattle.mdv_standing.proofs.Stretches.{may_begin, traced_answer, traced_begin, traced_look}
 use Rattle.mdv_standing.proofs.Tracing.{adds_none, may_answer, more, newest_begun, part_one, run_traced, run_within, traced, trace_weaker}
 use Rattle.mdv_standing.proofs.Turning.{covers_known}
-use Rattle.mdv_standing.proofs.Voting.{none_stale}
 use Rattle.mdv_standing.specs.Adopting.{IsLook, drawn}
 use Rattle.mdv_standing.specs.Matching.{by_majority_on}
 use Rattle.mdv_standing.specs.Others.{Anything}
@@ -21,15 +20,14 @@ use Rattle.mdv_standing.specs.Tracing.{GoesTraced, IsBootRun, IsRun, taken_at, w
 use Rattle.mdv_standing.specs.Turning.{IsBooting, IsPlaceAt}
 use Rattle.mdv_votes.specs.Spots.{is_in}
 use Rattle.mdv_store_law.proofs.Parts.{part_front, part_itself, part_mapped, part_more, part_of_part}
-use Rattle.mdv_store_law.specs.Anew.{HasNoneAgain}
 use Rattle.mdv_store_law.specs.Log.{MayHappen, Writing, Written, log_after}
 use Rattle.mdv_store_law.specs.Part.{IsPart}
 use Rattle.mdv_store.specs.Below.{CoversWith, Database, Event, Failures, First, Geometry, Head, HasNoneAbove, IsBelow, IsNewest, IsReadyWith, IsTaking, IsVersionWith, Key, Log, Mark, MayBeClaimed, Open, Replica, RestStands, Second, Site, Slot, Spot, Table, Tale, Traces, Version, at_of, claims_at, fills_at, gate_of, greatest, is_named, last, lists_of_spots, site_of, with_slot}
 use Rattle.mdv_store.specs.Blank.{StayBlank}
 use Rattle.mdv_store.specs.Boot.{TakesBoth, need_of}
-use Rattle.mdv_store.specs.Booting.{AreOfBoot}
+use Rattle.mdv_store.specs.Booting.{AreOfBoot, HasNoStaleVote}
 use Rattle.mdv_store.specs.Claims.{AreClaims, ClaimingEnds, ClaimingMoment, ClaimsTrace, IsAdopting}
-use Rattle.mdv_store.specs.Commit.{AnyLog, AnyWorld, IsNewestWritten}
+use Rattle.mdv_store.specs.Commit.{AnyLog, AnyWorld, IsLiveWith}
 use Rattle.mdv_store.specs.Opened.{AreSeatsOf, IsOpenedAt}
 use Rattle.mdv_store.specs.Records.{Spells}
 use Rattle.mdv_store.specs.Seats.{AreHeld, AreLeft, AreNamed, HaveRoom, TakesClaim, TakesSlot, replicas_of, spot_of, spots_of}
@@ -171,7 +169,7 @@ module _ (key : Key) (hand : Hand) (table : Table) (ready : IsReadied hand table
       }
 
   -- it is adopted
-  module _ (g : Geometry) (t : Tale) (to : IsToAdopt g key hand table t) (log : Log) (covers : CoversWith (Spells g) (site_of g key) hand.identity (λ image w. Anything w) log t) (known : HasNoneAgain log) where
+  module _ (g : Geometry) (t : Tale) (to : IsToAdopt g key hand table t) (log : Log) (covers : CoversWith (Spells g) (site_of g key) hand.identity (λ image w. Anything w) log t) (known : HasNoStaleVote (site_of g key) to.seen to.mark log) where
     abbrev site : Site
     site = site_of g key
 
@@ -181,7 +179,7 @@ module _ (key : Key) (hand : Hand) (table : Table) (ready : IsReadied hand table
     booting : IsBooting (Spells g) site hand.identity log t to.mark table (greatest_seen to.seen + 1) []
     booting =
         all_read (Spells g) site hand.identity log t (reads_one (read_of g)) to.seen to.s to.slot to.mark table to.read (covers_known (Spells g) site hand.identity (λ image w. Anything w) log t covers)
-        (none_stale site log to.seen to.mark known)
+        known
 
     abbrev v : Version
     v = booting.version
@@ -192,7 +190,7 @@ module _ (key : Key) (hand : Hand) (table : Table) (ready : IsReadied hand table
     look : Traces (Spells g) site hand.identity log log Anything (IsRun Begins []) (MayBeClaimed to.mark hand.number []) t t
     look = subst (λ (n : ℕ). Traces (Spells g) site hand.identity log log Anything (IsRun Begins []) (MayBeClaimed to.mark n []) t t) (sym to.number_is)
         (run_traced (Spells g) site hand.identity log log Anything (MayBeClaimed to.mark (greatest_seen to.seen + 1) []) Begins t t (traced_look (Spells g) site hand.identity log t to.seen to.s to.slot to.mark table v to.read version
-        (none_stale site log to.seen to.mark known)))
+        known))
 
     adopting : IsAdopting g key hand.identity seats hand.number log to.mark table v t
     adopting = record { sound = to.sound; small = ready.small; held = to.held; named = to.named; version = version }
@@ -305,7 +303,7 @@ module _ (key : Key) (hand : Hand) (table : Table) (ready : IsReadied hand table
             more (Spells g) site hand.identity log begun Anything (IsTaking bm mark took) Begins (front ++ fills_at (spots_of mid)) t w (taking took w (last_ends.traces g key hand.identity begun table bm [] written)) over (IsReadyWith took)
             (λ es. es ≡ Told ∷ []) (Told ∷ []) w (λ fs is. part_one Told fs is) answered
 
-        pub ends_go : GoesTraced (Spells g) g site hand.identity [] Anything (AreBooted (spots_seen to.seen) places) (IsReadyWith (spots_of new)) (λ l. IsNewestWritten l mark table) t w log
+        pub ends_go : GoesTraced (Spells g) g site hand.identity [] Anything (AreBooted (spots_seen to.seen) places) (IsReadyWith (spots_of new)) (λ l. IsLiveWith l mark table) t w log
         ends_go = record {
           es = Writing mark None v.changes table ∷ (Written ∷ []);
           course = (may, (may_answer g begun mark table newest, tt));
@@ -314,5 +312,5 @@ module _ (key : Key) (hand : Hand) (table : Table) (ready : IsReadied hand table
               trace_weaker (Spells g) site hand.identity log over Anything Anything (IsReadyWith took) (IsReadyWith (spots_of new)) (IsRun Begins ((front ++ fills_at (spots_of mid)) ++ Told ∷ [])) (AreBooted (spots_seen to.seen) places) t w (λ w known. known)
               (λ es is. planned (fills_at (spots_of mid) ++ Told ∷ []) (part_more (fills_at (spots_of mid)) (fills_at places) (Told ∷ []) (Told ∷ []) fills_part (part_itself (Told ∷ []))) es
               (subst (λ (plan : List Event). IsRun Begins plan es) (append_assoc front (fills_at (spots_of mid)) (Told ∷ [])) is)) (λ x known. subst (λ (l : List Spot). IsReadyWith l x) (append-nil (spots_of new)) known) run;
-          after = newest_written begun mark table newest;
+          after = record { newest = newest_written begun mark table newest; lives = refl };
         }

@@ -8,8 +8,9 @@ use Rattle.mdv_survey.specs.declared.replica.Newest.{Newest}
 use Rattle.mdv_table.specs.Plan.{beside, same_place}
 use Rattle.mdv_survey.specs.declared.replica.Survey.{Survey}
 use Rattle.mdv_store.specs.Below.{Failures, Key, Lists, One, Place, Replica, Site, Table, Two, last_of, places_of, record_text}
-use Rattle.mdv_store.specs.Boot.{IsAdopted, IsEndBy, IsInHand, IsLost, IsWrittenTo, TakesAll, TakesClaimOrBoth, gone_found, last_found, need_of, seats_of}
+use Rattle.mdv_store.specs.Boot.{IsAdopted, IsEndBy, IsInHand, IsLost, IsShortAt, IsShortBy, IsWrittenTo, TakesAll, gone_found, last_found, need_of, seats_of}
 use Rattle.mdv_store.specs.Opened.{Opened}
+use Rattle.mdv_store.specs.Progress.{Claimed, Progress, Rewritten, Settled, all_written}
 use Rattle.mdv_store.specs.Seats.{drive_of, replicas_of}
 use Rattle.mdv_store.specs.Settled.{gone_of, seats_now}
 use Rattle.mdv_store.specs.Shares.{short_of}
@@ -62,7 +63,7 @@ module _ (survey : Survey) (newest : Newest) (replica : Replica) (seats : List S
   pub hand_read : (r : Replica) → Contains (replicas_of seats) r → Contains survey.replicas r
   hand_read r has = found_read (places_of newest.table.plan.lists) r (subst (λ (ss : List Seat). Contains (replicas_of ss) r) hand.seats_are has)
 
-module _ (failed : ℕ → Failures) (Wrote : Hand → Table → List Seat → Type 0) where
+module _ (failed : ℕ → Failures) (Wrote : Hand → Table → Progress → Type 0) where
   -- each active place's replica was read, and took all that was written
   pub adopted_each : (site : Site) (survey : Survey) (o : Opened) (a : IsAdopted failed Wrote site survey o) (n : Replica) → Contains (replicas_of o.seats) n
       → (r : Replica) × Contains (replicas_of (last_found survey a.newest a.replica)) r × (failed (drive_of r)).none × TakesAll a.number a.newest.table r n
@@ -81,29 +82,45 @@ module _ (failed : ℕ → Failures) (Wrote : Hand → Table → List Seat → T
   adopted_enough site survey o a = ap (λ (x : Opened). short_of (need_of site.key) o.seats x.table.plan.lists) a.is ∙ a.enough
 
   -- where it is lost a call failed on the drive of a replica that was read, and of some list these aren't enough
-  pub lost_read : (key : Key) (survey : Survey) (active listed : ℕ) → IsLost failed Wrote key survey active listed → (r : Replica) × Contains survey.replicas r × (failed (drive_of r)).some
-  lost_read key survey active listed lost = elim lost.short [
-    | inl first ↦ (
-        let Took = TakesClaimOrBoth lost.number (length (record_text lost.newest.table)) in
-        let fewer = short_fewer failed Took More (need_of key) (more_suffices (need_of key)) lost.newest.table.plan.lists lost.seats first.now (record { active = active; listed = listed }) first.left lost.drawn.enough first.few in
-        let one = some_lost failed Took lost.seats first.now first.left fewer in
-        (one.0, hand_read survey lost.newest lost.replica lost.seats lost.drawn.hand one.0 one.1, one.2))
-    | inr again ↦ (
-        let Took = TakesAll lost.number lost.newest.table in
-        let last = last_found survey lost.newest lost.replica in
-        let list = last_of lost.newest.table.plan.lists in
-        let fewer = short_fewer failed Took More (need_of key) (more_suffices (need_of key)) (One list) last again.1.now (record { active = active; listed = listed }) again.1.left (last_enough survey lost.newest lost.replica lost.seats lost.drawn.hand lost.drawn.enough) again.1.few in
-        let one = some_lost failed Took last again.1.now again.1.left fewer in
-        (one.0, found_read survey lost.newest lost.replica lost.seats lost.drawn.hand list one.0 one.1, one.2))
-  ]
+  module _ (key : Key) (survey : Survey) (active listed : ℕ) (lost : IsLost failed Wrote key survey active listed) where
+    abbrev share : Share
+    share = record { active = active; listed = listed }
 
-  pub lost_short : (key : Key) (survey : Survey) (active listed : ℕ) → IsLost failed Wrote key survey active listed → (lists : Lists) × (now : List Seat) × (short_of (need_of key) now lists ≡ Some (record { active = active; listed = listed }))
-  lost_short key survey active listed lost = elim lost.short [ inl first ↦ (lost.newest.table.plan.lists, first.now, first.few) | inr again ↦ (One (last_of lost.newest.table.plan.lists), again.1.now, again.1.few) ]
+    abbrev lists : Lists
+    lists = lost.newest.table.plan.lists
+
+    abbrev last : List Seat
+    last = last_found survey lost.newest lost.replica
+
+    abbrev Short : Progress → Type 0
+    Short progress = IsShortAt failed key lost.number lost.newest.table lost.seats last (gone_found survey lost.newest lost.replica) progress share
+
+    by_short : (Took : Replica → Replica → Type 0) (from : Lists) (seats now : List Seat) → short_of More seats from ≡ None → IsShortBy failed Took key from seats now share → (r : Replica) × Contains (replicas_of seats) r × (failed (drive_of r)).some
+    by_short Took from seats now enough short = some_lost failed Took seats now short.left (short_fewer failed Took More (need_of key) (more_suffices (need_of key)) from seats now share short.left enough short.few)
+
+    pub lost_read : (r : Replica) × Contains survey.replicas r × (failed (drive_of r)).some
+    lost_read = by lost.progress lost.short where
+      in_hand : (Took : Replica → Replica → Type 0) (now : List Seat) → IsShortBy failed Took key lists lost.seats now share → (r : Replica) × Contains survey.replicas r × (failed (drive_of r)).some
+      in_hand Took now short = (let one = by_short Took lists lost.seats now lost.drawn.enough short in (one.0, hand_read survey lost.newest lost.replica lost.seats lost.drawn.hand one.0 one.1, one.2))
+
+      by : (progress : Progress) → Short progress → (r : Replica) × Contains survey.replicas r × (failed (drive_of r)).some
+      by (Claimed now) short = in_hand _ now short
+      by (Rewritten now) short = in_hand _ now short
+      by (Settled now gone) (settles, short, over) =
+          let one = by_short (TakesAll lost.number lost.newest.table) (One (last_of lists)) last now (last_enough survey lost.newest lost.replica lost.seats lost.drawn.hand lost.drawn.enough) short in
+          (one.0, found_read survey lost.newest lost.replica lost.seats lost.drawn.hand (last_of lists) one.0 one.1, one.2)
+
+    pub lost_short : (from : Lists) × (now : List Seat) × (short_of (need_of key) now from ≡ Some share)
+    lost_short = by lost.progress lost.short where
+      by : (progress : Progress) → Short progress → (from : Lists) × (now : List Seat) × (short_of (need_of key) now from ≡ Some share)
+      by (Claimed now) short = (lists, now, short.few)
+      by (Rewritten now) short = (lists, now, short.few)
+      by (Settled now gone) (settles, short, over) = (One (last_of lists), now, short.few)
 
 -- An end, told of what was written by what that leads to.
-module _ (failed : ℕ → Failures) (One Other : Hand → Table → List Seat → Type 0) (so : (hand : Hand) (table : Table) (gone : List Seat) → One hand table gone → Other hand table gone) where
-  written_more : (newest : Newest) (replica : Replica) (seats : List Seat) (number : ℕ) (gone : List Seat) → IsWrittenTo One newest replica seats number gone → IsWrittenTo Other newest replica seats number gone
-  written_more newest replica seats number gone is = record { hand = is.hand; identity_is = is.identity_is; number_is = is.number_is; seats_are = is.seats_are; wrote = so is.hand newest.table gone is.wrote }
+module _ (failed : ℕ → Failures) (One Other : Hand → Table → Progress → Type 0) (so : (hand : Hand) (table : Table) (progress : Progress) → One hand table progress → Other hand table progress) where
+  written_more : (newest : Newest) (replica : Replica) (seats : List Seat) (number : ℕ) (progress : Progress) → IsWrittenTo One newest replica seats number progress → IsWrittenTo Other newest replica seats number progress
+  written_more newest replica seats number progress is = record { hand = is.hand; identity_is = is.identity_is; number_is = is.number_is; seats_are = is.seats_are; wrote = so is.hand newest.table progress is.wrote }
 
   pub wrote_more : (site : Site) (survey : Survey) (e : BootEnd) → IsEndBy failed One site survey e → IsEndBy failed Other site survey e
   wrote_more site survey (end.Adopted o) is = record {
@@ -114,7 +131,7 @@ module _ (failed : ℕ → Failures) (One Other : Hand → Table → List Seat �
     drawn = is.drawn;
     gone = is.gone;
     over = is.over;
-    written = written_more is.newest is.replica is.seats is.number is.gone is.written;
+    written = written_more is.newest is.replica is.seats is.number (all_written is.newest.table.plan.lists o.seats is.gone) is.written;
     left = is.left;
     enough = is.enough;
     is = is.is;
@@ -122,6 +139,6 @@ module _ (failed : ℕ → Failures) (One Other : Hand → Table → List Seat �
   wrote_more site survey end.Empty is = is
   wrote_more site survey (end.TwoDatabases a b) is = is
   wrote_more site survey (end.NoQuorum readable needed) is = is
-  wrote_more site survey (end.Lost active listed) is = record { newest = is.newest; replica = is.replica; seats = is.seats; number = is.number; drawn = is.drawn; written = written_more is.newest is.replica is.seats is.number [] is.written; short = is.short }
+  wrote_more site survey (end.Lost active listed) is = record { newest = is.newest; replica = is.replica; seats = is.seats; number = is.number; drawn = is.drawn; progress = is.progress; written = written_more is.newest is.replica is.seats is.number is.progress is.written; short = is.short }
   wrote_more site survey end.Spent is = is
   wrote_more site survey end.Memory is = is

@@ -11,6 +11,7 @@ use Rattle.mdv_table.specs.Tests.{same_place}
 use Rattle.mdv_store.specs.Below.{Failures, Identity, Key, Lists, One, Open, Place, Replica, Site, Table, Two, greatest, last_of, places_of, record_text, settled, slot_blocks, with_slot}
 use Rattle.mdv_store.specs.Opened.{Opened}
 use Rattle.mdv_store.specs.Seats.{AreLeft, IsSpareOf, TakesClaim, TakesSlot}
+use Rattle.mdv_store.specs.Progress.{Claimed, Progress, Rewritten, Settled, all_written}
 use Rattle.mdv_store.specs.Settled.{gone_of, settles}
 use Rattle.mdv_store.specs.Shares.{short_of}
 use Rattle.mdv_store.specs.Text.{blocks_for}
@@ -59,10 +60,6 @@ abbrev pub TakesBoth : ℕ → ℕ → Replica → Replica → Type 0
 TakesBoth number bytes r n =
     (slot : _) × IsSpareOf r.head slot × (n ≡ record r { head = with_slot (record r.head { claim = number }) slot (Open (record { boot = number; count = 0 }) bytes) })
 
--- a replica behind the first pass, or behind both
-abbrev pub TakesClaimOrBoth : ℕ → ℕ → Replica → Replica → Type 0
-TakesClaimOrBoth number bytes r n = TakesClaim number r n ⊎ TakesBoth number bytes r n
-
 -- and behind the record with the new list alone, where the table has two lists
 abbrev pub TakesBy : Lists → ℕ → Table → Replica → Replica → Type 0
 TakesBy (One list) number table r n = TakesBoth number (length (record_text table)) r n
@@ -87,17 +84,17 @@ pub record IsDrawn (survey : Survey) (newest : Newest) (replica : Replica) (seat
   pub number_is : number ≡ greatest_number replica.head.master.identity survey.replicas + 1
   pub small : number < 2 ^ 63
 
--- What was written of that table was written for its database, to these seats, under that number; and some are left with it that the new list lacks.
-pub record IsWrittenTo (Wrote : Hand → Table → List Seat → Type 0) (newest : Newest) (replica : Replica) (seats : List Seat) (number : ℕ) (gone : List Seat) : Type 0 where
+-- What was written of that table was written for its database, to these seats, under that number, and came so far.
+pub record IsWrittenTo (Wrote : Hand → Table → Progress → Type 0) (newest : Newest) (replica : Replica) (seats : List Seat) (number : ℕ) (progress : Progress) : Type 0 where
   pub hand : Hand
   pub identity_is : hand.identity ≡ replica.head.master.identity
   pub number_is : hand.number ≡ number
   pub seats_are : hand.seats ≡ seats
-  pub wrote : Wrote hand newest.table gone
+  pub wrote : Wrote hand newest.table progress
 
 -- Enough of each list took both. Where there are two the change of places is over then: the table with the new list alone was written to the places of that list, and enough of them took it, too. Of the others
 -- those that took both are left so, where no call on their drive failed.
-pub record IsAdopted (failed : ℕ → Failures) (Wrote : Hand → Table → List Seat → Type 0) (site : Site) (survey : Survey) (o : Opened) : Type 0 where
+pub record IsAdopted (failed : ℕ → Failures) (Wrote : Hand → Table → Progress → Type 0) (site : Site) (survey : Survey) (o : Opened) : Type 0 where
   pub newest : Newest
   pub replica : Replica
   pub seats : List Seat
@@ -105,32 +102,35 @@ pub record IsAdopted (failed : ℕ → Failures) (Wrote : Hand → Table → Lis
   pub drawn : IsDrawn survey newest replica seats number
   pub gone : List Seat
   pub over : AreLeft failed (TakesBoth number (length (record_text newest.table))) (gone_found survey newest replica) gone
-  pub written : IsWrittenTo Wrote newest replica seats number gone
+  pub written : IsWrittenTo Wrote newest replica seats number (all_written newest.table.plan.lists o.seats gone)
   pub left : AreLeft failed (TakesAll number newest.table) (last_found survey newest replica) o.seats
   pub enough : short_of (need_of site.key) o.seats (One (last_of newest.table.plan.lists)) ≡ None
   pub is : o ≡ record { key = site.key; identity = replica.head.master.identity; mark = record { boot = number; count = settles newest.table.plan.lists }; table = settled newest.table; seats = o.seats }
 
--- Of the first of these lists of which not enough is left so many places are left, and so many it has. A place that is left is one on whose drive no call failed, and took what was written; on each other one's drive one did.
-pub record IsShortBy (failed : ℕ → Failures) (Took : Replica → Replica → Type 0) (key : Key) (lists : Lists) (seats : List Seat) (active listed : ℕ) : Type 0 where
-  pub now : List Seat
+-- Of these places these are left: those on whose drives no call failed, each of which took what was written; and of the first list of which they aren't enough they are so much.
+pub record IsShortBy (failed : ℕ → Failures) (Took : Replica → Replica → Type 0) (key : Key) (lists : Lists) (seats now : List Seat) (share : Share) : Type 0 where
   pub left : AreLeft failed Took seats now
-  pub few : short_of (need_of key) now lists ≡ Some (record { active = active; listed = listed })
+  pub few : short_of (need_of key) now lists ≡ Some share
 
--- the new list of two is short of places that took the table with it alone
-abbrev pub IsShortAgain : (ℕ → Failures) → Key → ℕ → Table → List Seat → (active listed : ℕ) → Type 0
-IsShortAgain failed key number table seats active listed =
-    (settles table.plan.lists ≡ 1) × IsShortBy failed (TakesAll number table) key (One (last_of table.plan.lists)) seats active listed
+-- Not enough of a list is left behind what was written last, and so much: of a list of the table behind the claims, or behind the table; of its new one behind the table with that list alone. `last` and `lacked` are
+-- the places of the new list, or of the only one, and those that it lacks.
+abbrev pub IsShortAt : (ℕ → Failures) → Key → ℕ → Table → (seats last lacked : List Seat) → Progress → Share → Type 0
+IsShortAt failed key number table seats last lacked (Claimed now) share = IsShortBy failed (TakesClaim number) key table.plan.lists seats now share
+IsShortAt failed key number table seats last lacked (Rewritten now) share = IsShortBy failed (TakesBoth number (length (record_text table))) key table.plan.lists seats now share
+IsShortAt failed key number table seats last lacked (Settled now gone) share =
+    (settles table.plan.lists ≡ 1) × IsShortBy failed (TakesAll number table) key (One (last_of table.plan.lists)) last now share
+    × AreLeft failed (TakesBoth number (length (record_text table))) lacked gone
 
 -- Not enough of a list took the claim, or the table; or of the new one the table with that list alone.
-pub record IsLost (failed : ℕ → Failures) (Wrote : Hand → Table → List Seat → Type 0) (key : Key) (survey : Survey) (active listed : ℕ) : Type 0 where
+pub record IsLost (failed : ℕ → Failures) (Wrote : Hand → Table → Progress → Type 0) (key : Key) (survey : Survey) (active listed : ℕ) : Type 0 where
   pub newest : Newest
   pub replica : Replica
   pub seats : List Seat
   pub number : ℕ
   pub drawn : IsDrawn survey newest replica seats number
-  pub written : IsWrittenTo Wrote newest replica seats number []
-  pub short : IsShortBy failed (TakesClaimOrBoth number (length (record_text newest.table))) key newest.table.plan.lists seats active listed
-      ⊎ IsShortAgain failed key number newest.table (last_found survey newest replica) active listed
+  pub progress : Progress
+  pub written : IsWrittenTo Wrote newest replica seats number progress
+  pub short : IsShortAt failed key number newest.table seats (last_found survey newest replica) (gone_found survey newest replica) progress (record { active = active; listed = listed })
 
 -- not more than half of a list was found; or of each list enough was, but of one not more than half of those places have room for the text
 abbrev pub IsShort : Survey → (readable needed : ℕ) → Type 0
@@ -148,7 +148,7 @@ pub record WouldPass (survey : Survey) : Type 0 where
   pub spent : 2 ^ 63 ≤ greatest_number replica.head.master.identity survey.replicas + 1
 
 -- what a boot comes to by what it read, and wrote so; memory alone may be wanting whatever it was
-abbrev pub IsEndBy : (ℕ → Failures) → (Hand → Table → List Seat → Type 0) → Site → Survey → BootEnd → Type 0
+abbrev pub IsEndBy : (ℕ → Failures) → (Hand → Table → Progress → Type 0) → Site → Survey → BootEnd → Type 0
 IsEndBy failed Wrote site survey (end.Adopted o) = IsAdopted failed Wrote site survey o
 IsEndBy failed Wrote site survey end.Empty = IsChoice survey chosen.Empty
 IsEndBy failed Wrote site survey (end.TwoDatabases a b) = IsChoice survey (chosen.TwoDatabases a b)

@@ -8,6 +8,7 @@ use Rattle.mdv_store.specs.Below.{Geometry, Ghosts, Site, Table, Tale, last, rec
 use Rattle.mdv_store.specs.Booting.{has_written}
 use Rattle.mdv_store.specs.Counts.{MadeCallsBetween}
 use Rattle.mdv_store.specs.Opened.{Opened}
+use Rattle.mdv_store.specs.Progress.{Claimed, Progress, Rewritten, Settled}
 use Rattle.mdv_store.specs.Seats.{active_of}
 use Rattle.mdv_store.specs.Settled.{again_of, seats_now, settles}
 use Rattle.mdv_store.specs.Text.{blocks_for}
@@ -30,6 +31,17 @@ calls_at seats table = 8 * active_of seats + 6 * active_of (seats_now seats (aga
 
 abbrev pub blocks_at : List Seat → Table → ℕ
 blocks_at seats table = (3 + blocks_for (length (record_text table))) * active_of seats + (2 + blocks_for (length (record_text (settled table)))) * active_of (seats_now seats (again_of table.plan.lists))
+
+-- So many calls, and blocks, took writes that came so far, where none failed.
+abbrev pub calls_by : List Seat → Progress → ℕ
+calls_by seats (Claimed now) = 2 * active_of seats
+calls_by seats (Rewritten now) = 8 * active_of seats
+calls_by seats (Settled last gone) = 8 * active_of seats + 6 * active_of last
+
+abbrev pub blocks_by : List Seat → Table → Progress → ℕ
+blocks_by seats table (Claimed now) = active_of seats
+blocks_by seats table (Rewritten now) = (3 + blocks_for (length (record_text table))) * active_of seats
+blocks_by seats table (Settled last gone) = (3 + blocks_for (length (record_text table))) * active_of seats + (2 + blocks_for (length (record_text (settled table)))) * active_of last
 
 -- A table was written anew without a failed call, behind so many calls: eight at each place that was found, with a claim, two gates and its text; and where it
 -- had two lists, six more at each place of the new one, with two gates and the text with that list alone.

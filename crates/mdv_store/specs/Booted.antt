@@ -1,5 +1,5 @@
 -- What a boot answers: which drives came up, what was read of them, and what came of that.
-use Rattle.std.specs.Prelude.{◌≡◌, ◌⊎◌, ◌+◌, ◌*◌, ℕ, true, false, length, List, Contains, Some}
+use Rattle.std.specs.Prelude.{◌≡◌, ◌⊎◌, ◌+◌, ◌*◌, ℕ, Bool, true, false, length, List, Contains, Some}
 use Rattle.std.specs.Bool.{MatchBool}
 use Rattle.mdv_shelf.specs.Drives.{KeptAmong}
 use Rattle.mdv_shelf.specs.Shelves.{AtEachTale, AtEnd, DriveFailures}
@@ -16,10 +16,9 @@ use Rattle.mdv_base.specs.DriveSet.{no_drives}
 use Rattle.mdv_survey.specs.Counts.{AreLinesBy, MadeFew, MadeReads}
 use Rattle.mdv_store.specs.Boot.{IfAdopted, IsEndBy, IsOnce, is_memory}
 use Rattle.mdv_store.specs.Booting.{has_written}
-use Rattle.mdv_store.specs.Opened.{IsOpenedAt}
-use Rattle.mdv_store.specs.Taking.{Rewrites, drawn_open}
+use Rattle.mdv_store.specs.Progress.{Progress}
+use Rattle.mdv_store.specs.Taking.{LeftHold, Rewrites}
 use Rattle.mdv_store.specs.declared.booting.Hand.{Hand}
-use Rattle.mdv_store.specs.declared.seats.Seat.{Seat}
 
 -- How far a boot had come as its drives were up: each was read and synced, drive by drive, and the syncs of those that are up were all that was done.
 pub record WasBroughtUp {S : Type 0} (shelf : Ghosts S) (old new : S) (site : Site) (answer : Booted) : Type 0 where
@@ -43,6 +42,7 @@ pub record IsReadAt {S : Type 0} (shelf : Ghosts S) (old new : S) (g : Geometry)
   pub brought : WasBroughtUp shelf old new site answer
   pub looks : LooksBy shelf g site answer.up brought.ready calm begun
   pub reads : MadeFew shelf old looked (2 * length site.drives + reads_by site answer.up calm)
+  pub exact : answer.clean ≡ true → (t : Tale) → shelf.tale old ≡ Some t → (n : ℕ) × MadeReads shelf old looked (2 * length site.drives + n) × AreLinesBy g site answer.up no_drives (last t) site.lines n
   pub up : (drive : DriveNo) → has_drive calm drive ≡ true → has_drive answer.up drive ≡ true
   pub failed : (drive : DriveNo) → Contains site.drives drive → has_drive calm drive ≡ false → (DriveFailures shelf old begun drive.0).some × (DriveFailures shelf old new drive.0).some
   pub once : (t : Tale) → shelf.tale old ≡ Some t → (n : ℕ) × MadeReads shelf begun looked n × AreLinesBy g site calm no_drives (last t) site.lines n
@@ -52,16 +52,16 @@ pub record IsReadAt {S : Type 0} (shelf : Ghosts S) (old new : S) (g : Geometry)
   pub of : (t : Tale) → shelf.tale old ≡ Some t → IsSurveyOf g site calm (last t) survey
   pub none : (drive : DriveNo) → has_drive calm drive ≡ true → has_drive survey.failed drive ≡ false
 
--- What a boot wrote behind its last look; and what the places show in the end that the new list lacks, and that took the table: it, under the number's first mark, whatever a crash leaves.
-pub record WroteFor {S : Type 0} (shelf : Ghosts S) (old looked new : S) (g : Geometry) (site : Site) (hand : Hand) (table : Table) (gone : List Seat) : Type 0 where
-  pub rewrites : Rewrites shelf looked new site.key hand table
-  pub shows : AtEnd shelf (λ t u. IsOpenedAt g (drawn_open site.key hand table gone) u) old new
+-- What a boot wrote behind its last look, by just so many calls if it is clean; and what the places that are left hold in the end, whatever a crash leaves.
+pub record WroteFor {S : Type 0} (shelf : Ghosts S) (old looked new : S) (g : Geometry) (site : Site) (clean : Bool) (hand : Hand) (table : Table) (progress : Progress) : Type 0 where
+  pub rewrites : Rewrites shelf looked new site.key hand table clean progress
+  pub shows : AtEnd shelf (λ t u. LeftHold g site.key hand table progress u) old new
 
 -- A boot's answer: which drives came up, and its end and the letters of the listed places by what was read; on each drive of the site no call failed, or just one did, if memory wasn't wanting; it is clean where
 -- none failed on any of them, and else one did. What is open then has letters of just its listed places.
 pub record IsBooted {S : Type 0} (shelf : Ghosts S) (old new : S) (g : Geometry) (site : Site) (answer : Booted) : Type 0 where
   pub brought : WasBroughtUp shelf old new site answer
-  pub ended : (is_memory answer.end ≡ true) ⊎ ((survey : Survey) × (at : IsReadAt shelf old new g site answer survey) × IsEndBy (DriveFailures shelf old new) (WroteFor shelf old at.looked new g site) site survey answer.end × AreLettersOf site survey at.calm answer.letters)
+  pub ended : (is_memory answer.end ≡ true) ⊎ ((survey : Survey) × (at : IsReadAt shelf old new g site answer survey) × IsEndBy (DriveFailures shelf old new) (WroteFor shelf old at.looked new g site answer.clean) site survey answer.end × AreLettersOf site survey at.calm answer.letters)
   pub once : (is_memory answer.end ≡ true) ⊎ ((drive : DriveNo) → Contains site.drives drive → IsOnce (DriveFailures shelf old new drive.0))
   pub clean : MatchBool answer.clean
       ((is_memory answer.end ≡ false) × ((drive : DriveNo) → Contains site.drives drive → (DriveFailures shelf old new drive.0).none))

@@ -2,7 +2,7 @@
 use Rattle.std.specs.Prelude.{◌≡◌, ◌⊎◌, ◌<◌, ◌≤◌, ◌+◌, ◌^◌, ℕ, true, List, [], length, Contains, Option, None, Some, Result, Ok, Err}
 use Rattle.mdv_record.specs.Room.{least_slot_bytes}
 use Rattle.mdv_shelf.specs.Shelves.{AtEnd, DriveFailures}
-use Rattle.mdv_store_law.specs.Log.{IsLog, IsNewestTellable}
+use Rattle.mdv_store_law.specs.Log.{IsLog, IsNewestTellable, Lives}
 use Rattle.mdv_store.specs.Below.{Change, Core, Database, Event, Failures, Geometry, Ghosts, IsCommitRun, IsMade, IsNewest, IsOfGeometry, IsReadyWith, Log, Mark, RestStands, Spot, Table, Tale, TooLong, TracesFrom, asks_of, lists_of_spots, places_of, record_text, site_of}
 use Rattle.mdv_store.specs.Blank.{StayBlank}
 use Rattle.mdv_store.specs.Opened.{IsOpenedAt, Opened, shortage}
@@ -116,6 +116,11 @@ pub record CommitMoment (old : Opened) (next : Table) (t m : Tale) : Type 0 wher
 pub record IsNewestWritten (log : Log) (mark : Mark) (table : Table) : Type 0 where
   pub newest : IsNewest log mark table
   pub written : newest.version.is_written ≡ true
+
+-- and the database isn't about to be deleted
+pub record IsLiveWith (log : Log) (mark : Mark) (table : Table) : Type 0 where
+  pub newest : IsNewestWritten log mark table
+  pub lives : log.fate ≡ Lives
 
 -- its newest table is the next one, whose write was answered, and the `ok` of its change may be told
 pub record IsCommittedTo (g : Geometry) (new : Opened) (asked : Option Change) (log : Log) : Type 0 where

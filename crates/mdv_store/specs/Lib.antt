@@ -13,6 +13,7 @@ pub mod Opened
 pub mod Commit
 pub mod Listing
 pub mod Counts
+pub mod Progress
 pub mod Boot
 pub mod Letters
 pub mod Booting

@@ -3,21 +3,22 @@ use Rattle.std.specs.Prelude.{◌≡◌, ◌⊎◌, ◌<◌, ◌≤◌, ◌+◌,
 use Rattle.std.specs.Bool.{MatchBool}
 use Rattle.mdv_shelf.specs.Between.{RoseByAtLeast}
 use Rattle.mdv_shelf.specs.Shelves.{AtEachTale, AtEnd, DriveFailures, MadeCalls}
-use Rattle.mdv_shown.specs.Choice.{Seen, greatest_seen, spots_seen}
+use Rattle.mdv_shown.specs.Choice.{Seen, greatest_seen}
 use Rattle.mdv_standing.specs.Adopting.{drawn}
 use Rattle.mdv_standing.specs.Turning.{IsBootRead}
 use Rattle.mdv_survey.specs.Survey.{IsSurveyOf}
 use Rattle.mdv_survey.specs.declared.replica.Newest.{Newest}
-use Rattle.mdv_store.specs.Below.{Database, DriveNo, Failures, Geometry, Ghosts, IsOfGeometry, IsReadyWith, IsSound, IsSynced, Key, Lists, Mark, One, Replica, RestStands, Site, Slot, Table, Tale, Two, greatest, last, last_of, places_of, record_text, settled, site_of}
+use Rattle.mdv_store.specs.Below.{Database, DriveNo, Failures, Geometry, Ghosts, IsOfGeometry, IsReadyWith, IsSound, IsSynced, Key, Lists, Mark, One, Replica, RestStands, Site, Slot, Table, Tale, Two, greatest, has_drive, last, last_of, places_of, record_text, settled, site_of}
 use Rattle.mdv_store.specs.Blank.{StayBlank}
-use Rattle.mdv_store.specs.Boot.{IfAdopted, IsEndBy, IsOnce, IsShortAgain, IsShortBy, TakesAll, TakesBoth, TakesClaimOrBoth, greatest_number, is_memory, need_of, seats_of}
-use Rattle.mdv_store.specs.BootCounts.{IsAnewCounted, blocks_at, calls_at, most_blocks, most_calls}
-use Rattle.mdv_store.specs.Booting.{BootGoes, BootMoment, IsBootedTo, has_written}
+use Rattle.mdv_store.specs.Boot.{IfAdopted, IsEndBy, IsOnce, IsShortAt, TakesAll, TakesBoth, greatest_number, is_memory, need_of, seats_of}
+use Rattle.mdv_store.specs.BootCounts.{IsAnewCounted, blocks_at, blocks_by, calls_at, calls_by, most_blocks, most_calls}
+use Rattle.mdv_store.specs.Booting.{BootGoes, BootMomentOn, IsBootedOn, has_written}
 use Rattle.mdv_store.specs.Claims.{ClaimingEnds}
-use Rattle.mdv_store.specs.Commit.{AnyLog, AnyWorld, IsNewestWritten}
+use Rattle.mdv_store.specs.Commit.{AnyLog, AnyWorld, IsLiveWith}
 use Rattle.mdv_store.specs.Counts.{ArePassCounted, MadeCallsBetween}
 use Rattle.mdv_store.specs.Opened.{AreSeatsOf, IsOpenedAt, Opened, least_room}
 use Rattle.mdv_store.specs.Passing.{IsPassing, Passed, WentBy, claiming}
+use Rattle.mdv_store.specs.Progress.{Claimed, Progress, Rewritten, Settled, all_written}
 use Rattle.mdv_look.specs.Quiet.{IsQuiet}
 use Rattle.mdv_store.specs.Records.{Spells}
 use Rattle.mdv_store.specs.Seats.{AreHeld, AreLaid, AreLeft, AreNamed, HaveRoom, TakesClaim, TakesSlot, drive_of, replicas_of, seats_area, spots_of}
@@ -32,6 +33,7 @@ use Rattle.mdv_store.specs.declared.booting.Taken.{Taken}
 use Rattle.mdv_look.specs.declared.looking.Looked.{Looked}
 use Rattle.mdv_store.specs.declared.seats.Need.TheVariants.{More}
 use Rattle.mdv_store.specs.declared.seats.Seat.{Seat}
+use Rattle.mdv_store.specs.declared.seats.Share.{Share}
 
 abbrev pub drives_read : List Replica → List DriveNo
 drives_read replicas = map (λ (r : Replica). r.line.at.drive) replicas
@@ -109,7 +111,7 @@ IsBeingRewritten hand table t m = IsPassing (claiming hand.number) (replicas_of 
 pub record RewriteMoment (key : Key) (hand : Hand) (table : Table) (t m : Tale) : Type 0 where
   pub quiet : IsQuiet (seats_area hand.seats) t m
   pub only : IsBeingRewritten hand table t m
-  pub goes : (g : Geometry) (to : IsToAdopt g key hand table t) → BootGoes g (site_of g key) hand.identity table.plan.lists (spots_seen to.seen) (spots_of hand.seats) AnyWorld AnyLog t m
+  pub goes : (g : Geometry) (to : IsToAdopt g key hand table t) → BootGoes g (site_of g key) hand.identity table.plan.lists to.seen to.mark (spots_of hand.seats) AnyWorld AnyLog t m
   pub rest : (g : Geometry) (all : List Database) → IsToAdopt g key hand table t → RestStands (Spells g) g all hand.identity t → RestStands (Spells g) g all hand.identity m
   pub blank : (g : Geometry) → IsToAdopt g key hand table t → StayBlank g hand.identity t m
 
@@ -131,41 +133,55 @@ pub record WereSlotted {S : Type 0} (shelf : Ghosts S) (old new : S) (mark : Mar
   pub counted : ArePassCounted shelf old new 6 (2 + blocks_for (length (record_text table))) before now
   pub end : AtEnd shelf (WritingEnds before now mark table) old new
 
--- Where the table has two lists, of each of which enough took it, it was written again with the new one alone, to the places of that list; and else nothing more.
-abbrev pub WereSettled : {S : Type 0} → Ghosts S → S → S → Key → ℕ → Table → Lists → List Seat → Type 0
-WereSettled shelf old new key number table (One list) now = new ≡ old
-WereSettled shelf old new key number table (Two was next) now =
-    MatchOption (short_of (need_of key) now (Two was next)) ((last : List Seat) × WereSlotted shelf old new (second_mark number) (settled table) (seats_now now next) last) (λ share. new ≡ old)
-
--- The claim was written to each of the hand's places; and the table to each that took it, where enough did, and else nothing more.
-pub record WerePassed {S : Type 0} (shelf : Ghosts S) (old new : S) (key : Key) (hand : Hand) (table : Table) : Type 0 where
-  pub claimed : S
-  pub written : S
+-- The claims were written, behind which enough of each list is left, and then the table at each place that claimed.
+pub record WereRewritten {S : Type 0} (shelf : Ghosts S) (old new : S) (key : Key) (hand : Hand) (table : Table) (now : List Seat) : Type 0 where
+  pub mid : S
   pub between : List Seat
+  pub claimed : WereClaimed shelf old mid hand.number hand.seats between
+  pub enough : short_of (need_of key) between table.plan.lists ≡ None
+  pub slotted : WereSlotted shelf mid new (drawn hand.number) table between now
+
+-- Behind the table, too, enough of each of its lists is left; and it was written again with the new one alone, at the places of that list that took it.
+pub record WereSettled {S : Type 0} (shelf : Ghosts S) (old new : S) (key : Key) (hand : Hand) (table : Table) (last : List Seat) : Type 0 where
+  pub mid : S
   pub now : List Seat
-  pub first : WereClaimed shelf old claimed hand.number hand.seats between
-  pub second : MatchOption (short_of (need_of key) between table.plan.lists) (WereSlotted shelf claimed written (drawn hand.number) table between now) (λ share. (written ≡ claimed) × (now ≡ between))
-  pub behind : WereSettled shelf written new key hand.number table table.plan.lists now
+  pub rewritten : WereRewritten shelf old mid key hand table now
+  pub enough : short_of (need_of key) now table.plan.lists ≡ None
+  pub again : WereSlotted shelf mid new (second_mark hand.number) (settled table) (seats_now now (again_of table.plan.lists)) last
 
--- the database as both passes left it at these places
-abbrev pub drawn_open : Key → Hand → Table → List Seat → Opened
-drawn_open key hand table seats = record { key = key; identity = hand.identity; mark = drawn hand.number; table = table; seats = seats }
+-- the writes came so far, and nothing more was written
+abbrev pub CameSoFar : {S : Type 0} → Ghosts S → S → S → Key → Hand → Table → Progress → Type 0
+CameSoFar shelf old new key hand table (Claimed now) = WereClaimed shelf old new hand.number hand.seats now
+CameSoFar shelf old new key hand table (Rewritten now) = WereRewritten shelf old new key hand table now
+CameSoFar shelf old new key hand table (Settled last gone) = WereSettled shelf old new key hand table last
 
--- in the end these places show the table under the number's first mark, whatever a crash leaves
-abbrev pub GoneShow : Key → Hand → Table → List Seat → Tale → Tale → Type 0
-GoneShow key hand table gone t u = (g : Geometry) → IsToAdopt g key hand table t → IsOpenedAt g (drawn_open key hand table gone) u
+-- the database with that mark and table at these places
+abbrev pub open_with : Key → Hand → Mark → Table → List Seat → Opened
+open_with key hand mark table seats = record { key = key; identity = hand.identity; mark = mark; table = table; seats = seats }
 
--- and of all of them between these, of which some block was written
-pub record Rewrites {S : Type 0} (shelf : Ghosts S) (old new : S) (key : Key) (hand : Hand) (table : Table) : Type 0 where
+-- The places that are left hold what was written, whatever a crash leaves: the claim; or the table under the number's first mark; or that with the new list alone under its second one, and those that this list lacks still the first one.
+abbrev pub LeftHold : Geometry → Key → Hand → Table → Progress → Tale → Type 0
+LeftHold g key hand table (Claimed now) u = AreHeld g key hand.identity now u
+LeftHold g key hand table (Rewritten now) u = IsOpenedAt g (open_with key hand (drawn hand.number) table now) u
+LeftHold g key hand table (Settled last gone) u =
+    IsOpenedAt g (open_with key hand (second_mark hand.number) (settled table) last) u × IsOpenedAt g (open_with key hand (drawn hand.number) table gone) u
+
+-- of what is to be adopted
+abbrev pub LeftHoldOf : Key → Hand → Table → Progress → Tale → Tale → Type 0
+LeftHoldOf key hand table progress t u = (g : Geometry) → IsToAdopt g key hand table t → LeftHold g key hand table progress u
+
+-- and of all of them between these, of which some block was written; where no call failed just so many were made
+pub record Rewrites {S : Type 0} (shelf : Ghosts S) (old new : S) (key : Key) (hand : Hand) (table : Table) (calm : Bool) (progress : Progress) : Type 0 where
   pub moments : AtEachTale shelf (RewriteMoment key hand table) old new
   pub wrote : RoseByAtLeast 1 (shelf.written old) (shelf.written new)
   pub made : MadeRewriteCalls shelf old new hand table
-  pub passed : WerePassed shelf old new key hand table
+  pub exact : calm ≡ true → MadeCalls shelf old new (calls_by hand.seats progress) (blocks_by hand.seats table progress)
+  pub written : CameSoFar shelf old new key hand table progress
 
 -- and in the end, where enough places took the table
 pub record RewriteEnds (key : Key) (hand : Hand) (table : Table) (o : Opened) (t u : Tale) : Type 0 where
   pub opened : (g : Geometry) → IsToAdopt g key hand table t → IsOpenedAt g o u
-  pub goes : (g : Geometry) (to : IsToAdopt g key hand table t) → BootGoes g (site_of g key) hand.identity table.plan.lists (spots_seen to.seen) (spots_of hand.seats) (IsReadyWith (spots_of o.seats)) (λ log. IsNewestWritten log o.mark o.table) t u
+  pub goes : (g : Geometry) (to : IsToAdopt g key hand table t) → BootGoes g (site_of g key) hand.identity table.plan.lists to.seen to.mark (spots_of hand.seats) (IsReadyWith (spots_of o.seats)) (λ log. IsLiveWith log o.mark o.table) t u
 
 -- the opened database, behind both passes, and where the table had two lists with its new one alone
 pub record IsRewritten (failed : ℕ → Failures) (key : Key) (hand : Hand) (table : Table) (gone : List Seat) (o : Opened) : Type 0 where
@@ -174,19 +190,19 @@ pub record IsRewritten (failed : ℕ → Failures) (key : Key) (hand : Hand) (ta
   pub enough : short_of (need_of key) o.seats (One (last_of table.plan.lists)) ≡ None
   pub is : o ≡ record { key = key; identity = hand.identity; mark = record { boot = hand.number; count = settles table.plan.lists }; table = settled table; seats = o.seats }
 
--- not enough places of a list took the one or the other: those that are left took the claim, or both; or not enough of the new one took the table with it alone
-abbrev pub IsLostWith : (ℕ → Failures) → Key → Hand → Table → (active listed : ℕ) → Type 0
-IsLostWith failed key hand table active listed = IsShortBy failed (TakesClaimOrBoth hand.number (length (record_text table))) key table.plan.lists hand.seats active listed
-    ⊎ IsShortAgain failed key hand.number table (last_in hand.seats table.plan.lists) active listed
+-- not enough of a list is left behind what was written last
+abbrev pub IsLostWith : (ℕ → Failures) → Key → Hand → Table → Progress → Share → Type 0
+IsLostWith failed key hand table progress share =
+    IsShortAt failed key hand.number table hand.seats (last_in hand.seats table.plan.lists) (seats_now hand.seats (gone_of table.plan.lists)) progress share
 
-abbrev pub IsRewriteEnd : (ℕ → Failures) → Key → Hand → Table → List Seat → BootEnd → Type 0
-IsRewriteEnd failed key hand table gone (end.Adopted o) = IsRewritten failed key hand table gone o
-IsRewriteEnd failed key hand table gone end.Empty = ⊥
-IsRewriteEnd failed key hand table gone (end.TwoDatabases a b) = ⊥
-IsRewriteEnd failed key hand table gone (end.NoQuorum readable needed) = ⊥
-IsRewriteEnd failed key hand table gone (end.Lost active listed) = (gone ≡ []) × IsLostWith failed key hand table active listed
-IsRewriteEnd failed key hand table gone end.Spent = ⊥
-IsRewriteEnd failed key hand table gone end.Memory = ⊥
+abbrev pub IsRewriteEnd : (ℕ → Failures) → Key → Hand → Table → Progress → BootEnd → Type 0
+IsRewriteEnd failed key hand table progress (end.Adopted o) = (gone : List Seat) × (progress ≡ all_written table.plan.lists o.seats gone) × IsRewritten failed key hand table gone o
+IsRewriteEnd failed key hand table progress end.Empty = ⊥
+IsRewriteEnd failed key hand table progress (end.TwoDatabases a b) = ⊥
+IsRewriteEnd failed key hand table progress (end.NoQuorum readable needed) = ⊥
+IsRewriteEnd failed key hand table progress (end.Lost active listed) = IsLostWith failed key hand table progress (record { active = active; listed = listed })
+IsRewriteEnd failed key hand table progress end.Spent = ⊥
+IsRewriteEnd failed key hand table progress end.Memory = ⊥
 
 -- no call failed, or one did on a drive of these replicas
 abbrev pub IsCalmOver : {S : Type 0} → Ghosts S → S → S → List Replica → Bool → Type 0
@@ -195,14 +211,15 @@ IsCalmOver shelf old new replicas calm = MatchBool calm
     ((r : Replica) × Contains replicas r × (DriveFailures shelf old new (drive_of r)).some)
 
 pub record IsRewriteAnswer {S : Type 0} (shelf : Ghosts S) (old new : S) (key : Key) (hand : Hand) (table : Table) (taken : Taken) : Type 0 where
-  pub gone : List Seat
-  pub ended : IsRewriteEnd (DriveFailures shelf old new) key hand table gone taken.end
+  pub progress : Progress
+  pub ended : IsRewriteEnd (DriveFailures shelf old new) key hand table progress taken.end
   pub calm : IsCalmOver shelf old new (replicas_of hand.seats) taken.calm
   pub once : (drive : DriveNo) → IsOnce (DriveFailures shelf old new drive.0)
   pub wrote : RoseByAtLeast 1 (shelf.written old) (shelf.written new)
   pub made : MadeRewriteCalls shelf old new hand table
-  pub passed : WerePassed shelf old new key hand table
-  pub shows : AtEnd shelf (GoneShow key hand table gone) old new
+  pub exact : taken.calm ≡ true → MadeCalls shelf old new (calls_by hand.seats progress) (blocks_by hand.seats table progress)
+  pub written : CameSoFar shelf old new key hand table progress
+  pub shows : AtEnd shelf (LeftHoldOf key hand table progress) old new
 
 -- what an adoption costs
 pub record IsTakingCounted {S : Type 0} (shelf : Ghosts S) (old new : S) (taken : Taken) : Type 0 where
@@ -213,28 +230,30 @@ pub record IsTakingCounted {S : Type 0} (shelf : Ghosts S) (old new : S) (taken 
 abbrev pub StaySynced : {S : Type 0} → Ghosts S → S → S → Tale → Tale → Type 0
 StaySynced shelf old new t u = (drive : DriveNo) → IsSynced drive.0 t → ((DriveFailures shelf old new drive.0).some → ⊥) → IsSynced drive.0 u
 
--- What was read: the table of drives is sound, the site is one of it, and what was read of its replicas no crash takes back.
+-- What was read: the table of drives is sound, the site is one of it, and what was read of its replicas, on drives of which no read failed, no crash takes back.
 pub record WasRead (g : Geometry) (site : Site) (looked : Looked) (t : Tale) : Type 0 where
   pub sound : IsSound g
   pub site_is : site ≡ site_of g site.key
   pub of : IsSurveyOf g site looked.calm (last t) looked.survey
   pub synced : (r : Replica) → Contains looked.survey.replicas r → IsSynced (drive_of r) t
+  pub on : (r : Replica) → Contains looked.survey.replicas r → has_drive looked.calm r.line.at.drive ≡ true
+  pub none : (drive : DriveNo) → has_drive looked.calm drive ≡ true → has_drive looked.survey.failed drive ≡ false
 
--- what was written of what was read, and what the places show then that are left behind
-pub record WroteBy {S : Type 0} (shelf : Ghosts S) (old new : S) (site : Site) (looked : Looked) (hand : Hand) (table : Table) (gone : List Seat) : Type 0 where
-  pub rewrites : Rewrites shelf old new site.key hand table
-  pub shows : AtEnd shelf (λ t u. (g : Geometry) → WasRead g site looked t → IsOpenedAt g (drawn_open site.key hand table gone) u) old new
+-- what was written of what was read, and what the places that are left hold then
+pub record WroteBy {S : Type 0} (shelf : Ghosts S) (old new : S) (site : Site) (looked : Looked) (calm : Bool) (hand : Hand) (table : Table) (progress : Progress) : Type 0 where
+  pub rewrites : Rewrites shelf old new site.key hand table calm progress
+  pub shows : AtEnd shelf (λ t u. (g : Geometry) → WasRead g site looked t → LeftHold g site.key hand table progress u) old new
 
 -- What a boot makes of what it read: an end that follows from it, or memory was wanting; and it wrote nothing, or what it adopted.
 pub record IsTaken {S : Type 0} (shelf : Ghosts S) (old new : S) (site : Site) (looked : Looked) (taken : Taken) : Type 0 where
-  pub ended : (is_memory taken.end ≡ true) ⊎ IsEndBy (DriveFailures shelf old new) (WroteBy shelf old new site looked) site looked.survey taken.end
+  pub ended : (is_memory taken.end ≡ true) ⊎ IsEndBy (DriveFailures shelf old new) (WroteBy shelf old new site looked taken.calm) site looked.survey taken.end
   pub calm : IsCalmOver shelf old new looked.survey.replicas taken.calm
   pub once : (drive : DriveNo) → IsOnce (DriveFailures shelf old new drive.0)
   pub still : has_written taken.end ≡ false → new ≡ old
   pub laid : IfAdopted taken.end (λ o. AreLaid (shelf.sizes old) o.seats)
 
 abbrev pub TakingMoment : Site → Looked → BootEnd → Tale → Tale → Type 0
-TakingMoment site looked answer t m = (g : Geometry) → WasRead g site looked t → BootMoment g site answer t m
+TakingMoment site looked answer t m = (g : Geometry) → WasRead g site looked t → BootMomentOn looked.calm g site answer t m
 
 abbrev pub TakingEnds : Site → Looked → BootEnd → Tale → Tale → Type 0
-TakingEnds site looked answer t u = (g : Geometry) → WasRead g site looked t → IfAdopted answer (λ o. IsBootedTo g site o t u)
+TakingEnds site looked answer t u = (g : Geometry) → WasRead g site looked t → IfAdopted answer (λ o. IsBootedOn looked.calm g site o t u)

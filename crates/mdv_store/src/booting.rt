@@ -37,7 +37,8 @@ use std::alloc::{AllocError, Global};
 /// What a boot came to.
 #[derive(Drop)]
 pub enum BootEnd {
-    /// A table was found at more than half of the places of each of its lists, and written anew under the drawn number.
+    /// A table was found at more than half of the places of each of its lists, and written anew under the drawn number; and where it had two lists, once
+    /// more with the one that comes alone.
     Adopted(Store),
     /// No readable replica shows a table.
     Empty,
@@ -45,8 +46,8 @@ pub enum BootEnd {
     TwoDatabases { a: Identity, b: Identity },
     /// Not more than half of the places of a list of the newest table were found, the first one of which that is so: so many were, and so many are needed.
     NoQuorum { readable: u32, needed: u32 },
-    /// A table was found, and of a list of it, the first one of which that is so, not enough places took the claim, or then the table: fewer than half, or of
-    /// a set's no more than half.
+    /// A table was found, and of a list of it, the first one of which that is so, not enough places took the claim, or then the table, or of the one that
+    /// comes then the table with it alone: fewer than half, or of a set's no more than half.
     Lost { active: u32, listed: u32 },
     /// The number to draw would reach 2^63; nothing was written.
     Spent,
@@ -62,20 +63,22 @@ pub struct Booted {
     pub up: DriveSet,
     /// No call of the boot failed, on any drive. It isn't told of a boot that was refused memory.
     pub clean: bool,
-    /// What was seen of the places that the newest table lists; of none where no table was found. It isn't told of a boot that was refused memory.
+    /// What was seen of the places that the newest table lists, of two lists of those of the one that comes; of none where no table was found. It isn't
+    /// told of a boot that was refused memory.
     pub letters: Letters,
 }
 
 /// Brings the site's drives up: it reads the first block of each and syncs it, whatever came of those before. It looks at the site's slices on those
 /// that are up. A drive on which a read fails has no readable replica. Where one database shows tables, and of each list of the newest one more than
 /// half of the places were found, it draws one more than the greatest number there, writes it to each of these places as a claim, and then the table
-/// under it to each that took the claim. At least half of each list has to take both, and of a set's lists more than half.
+/// under it to each that took the claim. At least half of each list has to take both, and of a set's lists more than half. Where the table has two lists
+/// it is then written with the one that comes alone, under the next count, to those of its places that took it, and as many of them have to take that.
 pub fn boot<S: Shelf>(shelf: &mut S, alloc: Global, geometry: &Geometry, site: &Site) -> Booted
     requires sound { IsSound geometry.now }
     requires on_shelf { IsOnShelf (S.sizes shelf.old) site.now }
     requires of { site.now ≡ site_of geometry.now site.now.key }
     ensures answer { IsBooted S.Shelf shelf.old shelf.new geometry.now site.now result }
-    ensures moments { AtEachTale S.Shelf (BootMoment geometry.now site.now result.end) shelf.old shelf.new }
+    ensures moments { AtEachTale S.Shelf (BootMoment (λ drive. (DriveFailures S.Shelf shelf.old shelf.new drive).some) geometry.now site.now result.end) shelf.old shelf.new }
     ensures end { AtEnd S.Shelf (BootEnds (λ drive. (DriveFailures S.Shelf shelf.old shelf.new drive).some) geometry.now site.now result) shelf.old shelf.new }
     ensures counted { IsBootCounted S.Shelf shelf.old shelf.new geometry.now site.now result }
     ensures kept { KeptAmong S.Shelf shelf.old shelf.new site.now.drives }

@@ -18,5 +18,5 @@ pub use creating::{CreateFault, create, seats_asked};
 pub use law::seats_tell;
 pub use letters::{Lettered, Letters};
 pub use listing::room_of;
-pub use seats::{Need, Seat, Share};
+pub use seats::{Need, Seat, Share, short};
 pub use store::{CommitFault, Store};

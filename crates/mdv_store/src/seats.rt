@@ -220,7 +220,7 @@ pub struct Share {
 }
 
 /// The share of the first list of which not enough is active, the old one first. There is none where of each list enough is.
-pub(crate) fn short(seats: &[Seat], lists: &Lists, need: Need) -> Option<Share>
+pub fn short(seats: &[Seat], lists: &Lists, need: Need) -> Option<Share>
     ensures { result ≡ spec_short_of need seats.now lists.now }
 {
     match lists {

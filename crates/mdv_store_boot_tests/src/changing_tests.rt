@@ -1,5 +1,7 @@
 //! Boots while places change: a table lists the places that were and those that come, enough of each list is asked, and the change is over then.
-use mdv_store_tests::{Case, Committed, End, Found, Layout, Peeked, Step, first_of, name_of};
+use mdv_store_tests::{
+    Case, Committed, End, Found, Image, Layout, Peeked, Step, first_of, name_of,
+};
 use std::test::Fail;
 
 // The lines 2 k and 2 k + 1 are on drive k. Three places were, on the drives 0 to 2; and five come: that of drive 2, and of the drives 3, 4, 0 and 1 one each.
@@ -144,6 +146,41 @@ const CALLS: &[Case] = &[
         ],
     ),
     (
+        "three claims of the list that comes fail",
+        &[
+            Step::Fail(196),
+            Step::Fail(197),
+            Step::Fail(198),
+            Step::Changes(OLD, NEW, 1),
+            Step::BootsWithout(0, End::Lost(2, 5)),
+            Step::Peeks(Peeked::Table(1, 7)),
+            Step::Adopts(3, 1, 5),
+        ],
+    ),
+    (
+        "two tables of the old list fail",
+        &[
+            Step::Fail(206),
+            Step::Fail(207),
+            Step::Changes(OLD, NEW, 1),
+            Step::BootsWithout(0, End::Lost(1, 3)),
+            Step::Peeks(Peeked::Table(1, 7)),
+            Step::Adopts(3, 1, 5),
+        ],
+    ),
+    (
+        "three tables of the list that comes fail",
+        &[
+            Step::Fail(218),
+            Step::Fail(219),
+            Step::Fail(220),
+            Step::Changes(OLD, NEW, 1),
+            Step::BootsWithout(0, End::Lost(2, 5)),
+            Step::Peeks(Peeked::Table(1, 7)),
+            Step::Adopts(3, 1, 5),
+        ],
+    ),
+    (
         "one claim of both lists fails, and the place isn't written again",
         &[
             Step::Fail(196),
@@ -178,6 +215,17 @@ const CALLS: &[Case] = &[
             Step::Commits(3, Committed::Lost(2, 5)),
             Step::Back(0b10000),
             Step::Adopts(3, 3, 5),
+        ],
+    ),
+    (
+        "two of the last ones do: the old list is short then, but it isn't asked any more",
+        &[
+            Step::Fail(266),
+            Step::Fail(267),
+            Step::Changes(OLD, NEW, 1),
+            Step::BootsWithout(0, FIRST),
+            Step::Commits(2, Committed::Done),
+            Step::Adopts(3, 2, 5),
         ],
     ),
     (
@@ -216,6 +264,109 @@ const CALLS: &[Case] = &[
             Step::Adopts(3, 1, 5),
         ],
     ),
+    (
+        "the same, and the host crashes between the records",
+        &[
+            Step::Fail(248),
+            Step::Fail(249),
+            Step::Fail(250),
+            Step::Fail(251),
+            Step::Fail(252),
+            Step::Changes(OLD, NEW, 1),
+            Step::BootsWithout(0, End::Lost(0, 5)),
+            Step::Crash(Image::Stable),
+            Step::Peeks(Peeked::Table(1, 7)),
+            Step::Lose(0b00011),
+            Step::Peeks(Peeked::NoQuorum(1, 2)),
+            Step::Back(0b00011),
+            Step::Adopts(3, 1, 5),
+            Step::Lose(0b00011),
+            Step::Peeks(Peeked::Table(1, 5)),
+        ],
+    ),
+];
+
+// Of three places on three drives the first two stay. The change is laid by 100 calls, and three watch the drives. Then a boot reads and syncs each drive, looks at three slices, on each of which a place shows a table,
+// and takes two calls for each claim, from 115 on, six for each of the three tables, from 121 on, and six for each of the two tables of the list that comes, from 139 on.
+const WERE: &[usize] = &[0, 1, 2];
+
+const STAY: &[usize] = &[0, 1];
+
+const TWO: End = End::Adopted(Found {
+    fresh: 7,
+    boot: 2,
+    table: 1,
+    places: 2,
+});
+
+// Half of the list that comes suffices for a host's own database.
+const HALVES: &[Case] = &[
+    (
+        "one claim of the list that comes fails",
+        &[
+            Step::Fail(115),
+            Step::Changes(WERE, STAY, 1),
+            Step::BootsWithout(0, TWO),
+            Step::Commits(2, Committed::Done),
+            Step::Adopts(3, 2, 2),
+        ],
+    ),
+    (
+        "one of its tables fails, as both are written",
+        &[
+            Step::Fail(121),
+            Step::Changes(WERE, STAY, 1),
+            Step::BootsWithout(0, TWO),
+            Step::Adopts(3, 1, 2),
+        ],
+    ),
+    (
+        "or as it alone is",
+        &[
+            Step::Fail(139),
+            Step::Changes(WERE, STAY, 1),
+            Step::BootsWithout(0, TWO),
+            Step::Commits(2, Committed::Done),
+            Step::Lose(0b010),
+            Step::Commits(3, Committed::Lost(0, 2)),
+            Step::Back(0b010),
+            Step::Adopts(3, 2, 2),
+        ],
+    ),
+];
+
+// And doesn't for a set's.
+const SET_HALVES: &[Case] = &[
+    (
+        "one claim of the list that comes fails",
+        &[
+            Step::Fail(115),
+            Step::Changes(WERE, STAY, 1),
+            Step::BootsWithout(0, End::Lost(1, 2)),
+            Step::Peeks(Peeked::Table(1, 3)),
+            Step::Adopts(3, 1, 2),
+        ],
+    ),
+    (
+        "one of its tables fails, as both are written",
+        &[
+            Step::Fail(121),
+            Step::Changes(WERE, STAY, 1),
+            Step::BootsWithout(0, End::Lost(1, 2)),
+            Step::Peeks(Peeked::Table(1, 3)),
+            Step::Adopts(3, 1, 2),
+        ],
+    ),
+    (
+        "or as it alone is",
+        &[
+            Step::Fail(139),
+            Step::Changes(WERE, STAY, 1),
+            Step::BootsWithout(0, End::Lost(1, 2)),
+            Step::Peeks(Peeked::Table(1, 2)),
+            Step::Adopts(3, 1, 2),
+        ],
+    ),
 ];
 
 #[test]
@@ -229,5 +380,14 @@ fn each_list_is_asked(rt: HostRuntime) -> Result<(), Fail> {
 fn failed_calls_lose_places(rt: HostRuntime) -> Result<(), Fail> {
     let wrong = first_of(rt.alloc(), Layout::Five, CALLS)?;
     assert!(rt; wrong.is_none(), "{}: {wrong:?}", name_of(CALLS, wrong));
+    Ok(())
+}
+
+#[test]
+fn half_of_the_list_that_comes_is_enough_but_for_a_set(rt: HostRuntime) -> Result<(), Fail> {
+    let own = first_of(rt.alloc(), Layout::Three, HALVES)?;
+    assert!(rt; own.is_none(), "{}: {own:?}", name_of(HALVES, own));
+    let set = first_of(rt.alloc(), Layout::Shared, SET_HALVES)?;
+    assert!(rt; set.is_none(), "{}: {set:?}", name_of(SET_HALVES, set));
     Ok(())
 }

@@ -8,7 +8,7 @@ pub record EndsWithin (sizes : List ℕ) (line : SliceLine) : Type 0 where
   pub within : line.at.start + line.at.blocks ≤ slice_index_or sizes line.at.drive.0 0
   pub small : slice_index_or sizes line.at.drive.0 0 < 2 ^ 64
 
--- so many places of 16 blocks have room on it
-pub record HasRoom (sizes : List ℕ) (count : ℕ) (line : SliceLine) : Type 0 where
+-- so many places of so many blocks have room on it
+pub record HasRoom (sizes : List ℕ) (count blocks : ℕ) (line : SliceLine) : Type 0 where
   pub ends : EndsWithin sizes line
-  pub room : 16 + count * 16 ≤ line.at.blocks
+  pub room : 16 + count * blocks ≤ line.at.blocks

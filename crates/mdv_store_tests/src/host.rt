@@ -79,11 +79,12 @@ pub enum Peeked {
     Memory,
 }
 
-/// How a crash picks the values of blocks: what was stable, what was written last, or as the numbers from that seed are drawn.
+/// How a crash picks the values of blocks: what was stable, what was written last, that on these drives alone, or as the numbers from that seed are drawn.
 #[derive(Clone, Copy)]
 pub enum Image {
     Stable,
     Last,
+    LastOn(Drives),
     Drawn(u64),
 }
 
@@ -127,10 +128,10 @@ const VOLUME_BLOCKS: u64 = 2;
 /// The open database's active places lie on the drives.
 #[derive(Drop)]
 pub struct Host {
-    geometry: Geometry,
-    site: Site,
-    shelf: MemShelf,
-    store: Option<Store>,
+    pub geometry: Geometry,
+    pub site: Site,
+    pub shelf: MemShelf,
+    pub store: Option<Store>,
     letters: Letters,
     ghost sound: { IsSound geometry },
     ghost of: { site ≡ spec_site_of geometry site.key },
@@ -235,29 +236,31 @@ fn are_there(shelf: &MemShelf, site: &Site) -> bool
     are_drives(shelf, site.drives.as_slice()) && are_within(shelf, site.lines.as_slice())
 }
 
-// Whether a creation may be asked for these places.
-fn may_ask(shelf: &MemShelf, lines: &[SliceLine], count: u8) -> bool
-    ensures { IsTrue result → AreAsked (shelf_sizes shelf.now) lines.now count 16 }
+/// Whether these places may be asked for: so many on each slice, each of so many blocks.
+pub fn may_ask(shelf: &MemShelf, lines: &[SliceLine], count: u8, blocks: u32) -> bool
+    ensures { IsTrue result → AreAsked (shelf_sizes shelf.now) lines.now count blocks }
 {
-    if lines.is_empty() || lines.len() > 50 || count == 0 {
+    if lines.is_empty() || lines.len() > 50 || count == 0 || blocks < 16 || blocks > 8192 {
         return false;
     }
     lines.len() * usize::from(count) <= 50
-        && have_room(shelf, lines, count)
+        && have_room(shelf, lines, count, blocks)
         && are_lines_once(lines)
 }
 
-// Whether each slice has room for so many places of 16 blocks.
-fn have_room(shelf: &MemShelf, lines: &[SliceLine], count: u8) -> bool
-    ensures { IsTrue result → All (HasRoom (shelf_sizes shelf.now) count) lines.now }
+// Whether each slice has room for so many places of so many blocks.
+fn have_room(shelf: &MemShelf, lines: &[SliceLine], count: u8, blocks: u32) -> bool
+    ensures { IsTrue result → All (HasRoom (shelf_sizes shelf.now) count blocks) lines.now }
 {
-    lines.iter().all(|line| has_room(shelf, line, count))
+    lines
+        .iter()
+        .all(|line| has_room(shelf, line, count, blocks))
 }
 
-fn has_room(shelf: &MemShelf, line: &SliceLine, count: u8) -> bool
-    ensures { IsTrue result → HasRoom (shelf_sizes shelf.now) count line.now }
+fn has_room(shelf: &MemShelf, line: &SliceLine, count: u8, blocks: u32) -> bool
+    ensures { IsTrue result → HasRoom (shelf_sizes shelf.now) count blocks line.now }
 {
-    is_within(shelf, line) && line.at.blocks >= 16 + 16 * u64::from(count)
+    is_within(shelf, line) && line.at.blocks >= 16 + u64::from(count) * u64::from(blocks)
 }
 
 // Whether no slice is named twice.
@@ -472,7 +475,7 @@ impl Host {
         let lines = lines_on(alloc, &self.site, on)?;
         let lines = lines.as_slice();
         self.store = None;
-        if !may_ask(&self.shelf, lines, count) {
+        if !may_ask(&self.shelf, lines, count, BLOCKS) {
             return Err("places".into());
         }
         let shelf = &mut self.shelf;
@@ -735,8 +738,28 @@ fn choice_of(alloc: Global, site: &Site, image: Image) -> Result<Vec<u32>, Alloc
     match image {
         Image::Stable => Ok(Vec::new(alloc)),
         Image::Last => drawn(alloc, count, 0),
+        Image::LastOn(drives) => last_on(alloc, site, drives),
         Image::Drawn(seed) => drawn(alloc, count, seed),
     }
+}
+
+// The last number for each block of these drives, and the first one for each other.
+fn last_on(alloc: Global, site: &Site, drives: Drives) -> Result<Vec<u32>, AllocError> {
+    let mut choice = Vec::new(alloc);
+    for drive in 0..256u32 {
+        let number = if has(drives, drive) { LAST } else { 0 };
+        if let Some(blocks) = site.sizes.as_slice().get(drive as usize) {
+            push_all(&mut choice, *blocks, number)?;
+        }
+    }
+    Ok(choice)
+}
+
+fn push_all(choice: &mut Vec<u32>, count: u64, number: u32) -> Result<(), AllocError> {
+    for _ in 0..count {
+        choice.push(number)?;
+    }
+    Ok(())
 }
 
 // So many numbers drawn from the seed; of 0 each is the last.

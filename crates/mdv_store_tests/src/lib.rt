@@ -5,6 +5,6 @@ mod host;
 mod step;
 mod tables;
 
-pub use host::{Boot, Committed, Drives, End, Found, Host, Image, Made, Peeked, bit, has};
+pub use host::{Boot, Committed, Drives, End, Found, Host, Image, Made, Peeked, bit, has, may_ask};
 pub use step::{Case, Step, first_of, first_wrong, name_of};
 pub use tables::{Ground, Layout, local_on, shared_on};

@@ -16,8 +16,9 @@ use Rattle.mdv_base.specs.declared.name.Key.{Key}
 use Rattle.mdv_base.specs.declared.place.Place.{Place}
 use Rattle.mdv_databases.specs.Going.{IsCurrentOf}
 use Rattle.mdv_databases.specs.Meeting.{MayBeFound, is_on}
-use Rattle.mdv_databases.specs.Standing.{Stand}
-use Rattle.mdv_databases.proofs.Booting.{shown_current}
+use Rattle.mdv_databases.specs.Standing.{AreAnew, Stand}
+use Rattle.mdv_databases.proofs.Booting.{anew_current}
+use Rattle.mdv_databases.proofs.Going.{log_anew}
 use Rattle.mdv_databases.proofs.Lists.{current_in, current_key}
 use Rattle.mdv_name.specs.SliceIndex.{slice_at}
 use Rattle.mdv_name.specs.Sound.{IsSound}
@@ -57,6 +58,7 @@ use Rattle.mdv_standing.proofs.Looking.{looks}
 use Rattle.mdv_store.specs.Adopting.{WasReadOf}
 use Rattle.mdv_store.specs.Boot.{IsAdopted, IsDrawn, IsWrittenTo, greatest_number, is_seated, seat_for, seats_of}
 use Rattle.mdv_store.specs.Opened.{Opened, least_room}
+use Rattle.mdv_store.specs.Progress.{Claimed, Progress}
 use Rattle.mdv_store.specs.Records.{Spells}
 use Rattle.mdv_store.specs.Taking.{IsToAdopt, room_of}
 use Rattle.mdv_store.specs.Text.{blocks_for}
@@ -147,7 +149,7 @@ pub record IsAdoptable (survey : Survey) (newest : Newest) : Type 0 where
   pub seats : List Seat
   pub number : ℕ
   pub drawn : IsDrawn survey newest replica seats number
-  pub written : IsWrittenTo (λ hand of gone. Unit {0}) newest replica seats number []
+  pub written : IsWrittenTo (λ hand of progress. Unit {0}) newest replica seats number (Claimed [])
 
 -- what is so of a table stays so, once the change of its places is over
 abbrev pub IsStill : (Table → Type 0) → Type 0
@@ -164,8 +166,8 @@ pub record Adopts (g : Geometry) (site : Site) (content : Image) (table : Table)
   pub is_table : settled newest.table ≡ table
 
 -- what a boot has drawn and written it might adopt
-abbrev pub adoptable : (Wrote : _) (survey : Survey) (newest : Newest) (replica : Replica) (seats : List Seat) (number : ℕ) (gone : List Seat) → IsDrawn survey newest replica seats number → IsWrittenTo Wrote newest replica seats number gone → IsAdoptable survey newest
-adoptable Wrote survey newest replica seats number gone drawn written = record {
+abbrev pub adoptable : (Wrote : _) (survey : Survey) (newest : Newest) (replica : Replica) (seats : List Seat) (number : ℕ) (progress : Progress) → IsDrawn survey newest replica seats number → IsWrittenTo Wrote newest replica seats number progress → IsAdoptable survey newest
+adoptable Wrote survey newest replica seats number progress drawn written = record {
   replica = replica;
   seats = seats;
   number = number;
@@ -173,14 +175,14 @@ adoptable Wrote survey newest replica seats number gone drawn written = record {
   written = record { hand = written.hand; identity_is = written.identity_is; number_is = written.number_is; seats_are = written.seats_are; wrote = tt };
 }
 
-pub adopts_of : (calls : Outcomes) (host : Host) (content new : Image) (up : Drives) {e : BootEnd} (survey : Survey) (o : Opened) → IsReadOf calls host content up e survey → IsAdopted calls (λ hand of gone. WritesBy host.drives host.site.key content new hand.identity hand.number hand.seats of gone) host.site survey o → Adopts host.drives host.site content o.table
+pub adopts_of : (calls : Outcomes) (host : Host) (content new : Image) (up : Drives) {e : BootEnd} (survey : Survey) (o : Opened) → IsReadOf calls host content up e survey → IsAdopted calls (λ hand of progress. WritesBy host.drives host.site.key content new hand.identity hand.number hand.seats of progress) host.site survey o → Adopts host.drives host.site content o.table
 adopts_of calls host content new up survey o read a = record {
   calm = read.calm;
   survey = survey;
   survey_is = read.survey_is;
   of = read.of;
   newest = a.newest;
-  by = adoptable _ survey a.newest a.replica a.seats a.number a.gone a.drawn a.written;
+  by = adoptable _ survey a.newest a.replica a.seats a.number _ a.drawn a.written;
   is_table = sym (ap (λ (x : Opened). x.table) a.is);
 }
 
@@ -223,7 +225,7 @@ pub record IsFoundBy (g : Geometry) (log : Log) (table : Table) : Type 0 where
   pub holds : FoundHolds g log version number
   pub is_table : settled version.table ≡ table
 
-module _ (g : Geometry) (key : Key) (all : List Database) (t : Tale) (sound : IsSound g) (stand : Stand g all t) (calm : Drives) (survey : Survey) (survey_is : IsSurvey (site_of g key) calm survey) (of : IsSurveyOf g (site_of g key) calm (last t) survey)
+module _ (g : Geometry) (key : Key) (all : List Database) (t : Tale) (sound : IsSound g) (stand : Stand g all t) (anew : AreAnew all) (calm : Drives) (survey : Survey) (survey_is : IsSurvey (site_of g key) calm survey) (of : IsSurveyOf g (site_of g key) calm (last t) survey)
     (newest : Newest) (a : IsAdoptable survey newest) where
   abbrev site : Site
   site = site_of g key
@@ -299,7 +301,7 @@ module _ (g : Geometry) (key : Key) (all : List Database) (t : Tale) (sound : Is
 
   -- so the database is the key's current one
   current : IsCurrentOf all key a.written.hand.identity
-  current = shown_current g all key a.written.hand.identity t stand (record { replica = a.replica; found = of.each a.replica has_replica; its = is_own; shown = adoptable_shows site calm survey newest survey_is a })
+  current = anew_current g all key a.written.hand.identity t stand anew (record { replica = a.replica; found = of.each a.replica has_replica; its = is_own; shown = adoptable_shows site calm survey newest survey_is a })
 
   abbrev d : Database
   d = current.database
@@ -337,7 +339,7 @@ module _ (g : Geometry) (key : Key) (all : List Database) (t : Tale) (sound : Is
       let holds = found_holds (Spells g) g site a.written.hand.identity d.log w image to.seen to.s to.slot v (site_is g key sound) (stand.logs d (current_in key all d current.current)) look.world look.known
       (subst (λ (m : Mark). IsChosen to.seen to.s to.slot m) (sym found.is.marked) read.chosen) found.is.one_of
       (subst (λ (u : Table). covers (is_majority (is_in (spots_seen to.seen))) (spots_of site u.plan.lists) ≡ true) (sym same) read.quorum)
-      (none_stale site d.log to.seen v.mark (none_again d.log (stand.anew d (current_in key all d current.current)))) small in
+      (none_stale site d.log to.seen v.mark (none_again d.log (anew d (current_in key all d current.current)))) small in
       subst (λ (lg : Log). IsNewestBy g lg newest.table) (sym same_log) (record { version = v; one_of = found.is.one_of; number = greatest_seen to.seen + 1; holds = holds; is_table = same })
 
   -- each place that the table lists has its replica
@@ -349,7 +351,7 @@ module _ (g : Geometry) (key : Key) (all : List Database) (t : Tale) (sound : Is
       let have : HavePlaces (Spells g) site a.written.hand.identity d.log image =
       ⊎_elim (λ have. have)
       (λ shut. absurd (⊎_elim (λ none. none.none (spot_seen to.s) voted.number (record { holds = (look.world.shows.each to.s.line to.s.number to.s.first to.s.head own).holds; newest = voted.newest }))
-      (λ gone. live_or_gone _ gone.0 gone.1 (look.world.matches.there (stand.anew d (current_in key all d current.current)).lives)) shut)) look.world.listed in
+      (λ gone. live_or_gone _ gone.0 gone.1 (look.world.matches.there (anew d (current_in key all d current.current)).lives)) shut)) look.world.listed in
       have found.version p (subst (λ (lg : Log). Contains lg.family found.version) same_log found.one_of) (subst (λ (lg : Log). IsNotOlder found.version.mark lg.family) same_log found.holds.not_older) (subst (λ (u : Table). Contains (places_of u.plan.lists) p) (sym found.is_table) has)
 
   -- whose slots have room for the text
@@ -411,7 +413,7 @@ adopts_found host sound sees h t stands content reads table a =
     let same : contents t ≡ content = λ i drive block. reads drive block i in
     let survey_is = subst (λ (s : Site). IsSurvey s a.calm a.survey) sees a.survey_is in
     let of = subst (λ (c : Image). IsSurveyOf host.drives (site_of host.drives (key_of host)) a.calm c a.survey) (sym same) (subst (λ (s : Site). IsSurveyOf host.drives s a.calm content a.survey) sees a.of) in
-    let found = adopted_found host.drives (key_of host) h.databases t sound stands.databases a.calm a.survey survey_is of a.newest a.by in
+    let found = adopted_found host.drives (key_of host) h.databases t sound stands.databases stands.anew a.calm a.survey survey_is of a.newest a.by in
     record { version = found.version; one_of = found.one_of; number = found.number; holds = found.holds; is_table = ap settled found.is_table ∙ a.is_table }
 
 -- of drives that stand with a firm log some replica shows a table
@@ -421,7 +423,7 @@ firm_shows host h t stands firm content reads none =
     let began = stand_crashed host.drives h.databases t (contents t) [] stands.databases (last_image t) in
     let blank : HasNoTable host.drives (key_of host) (restarted (contents t) []) =
     λ identity. everywhere_begun (ShowsNoTable (Spells host.drives) (site_of host.drives (key_of host)) identity) (record { block = contents t; told = [] }) (subst (HasNoTableOn host.drives (key_of host)) (sym same) none identity) in
-    let loose = (nothing_told host.drives h.databases (key_of host) (restarted (contents t) []) began blank).0 in
+    let loose = (nothing_told host.drives h.databases (key_of host) (restarted (contents t) []) began blank (log_anew h.databases (key_of host) stands.anew).lives).0 in
     cc (firm, loose)
 
 -- A boot that found nothing: no replica that is found on these drives shows a table, and on each other one that it brings up a call failed.

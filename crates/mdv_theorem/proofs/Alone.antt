@@ -9,6 +9,7 @@ use Rattle.mdv_base.specs.declared.drive.DriveNo.{DriveNo}
 use Rattle.mdv_base.specs.declared.drive.SliceName.{SliceName}
 use Rattle.mdv_base.specs.declared.mark.Identity.{Identity}
 use Rattle.mdv_databases.proofs.Finding.{never_short, short_by}
+use Rattle.mdv_databases.proofs.Going.{log_anew}
 use Rattle.mdv_databases.specs.Meeting.{answers_on, is_on}
 use Rattle.mdv_engine_law.specs.Hosts.{key_of}
 use Rattle.mdv_engine_law.specs.Line.{IsReadOf, WritesBy, answered_by}
@@ -100,7 +101,7 @@ module _ (host : Host) (sound : IsSound host.drives) (site : host.site ≡ site_
     short_fallen readable needed short = elim (all_up (λ n. has_drive read.calm (record { 0 = n })) host.site.lines) [
       | inr one ↦ (one.0, one.1, fallen one.0 (subst (λ (x : Site). Contains x.lines one.0) site one.1) one.2)
       | inl all ↦
-          let why = short_by host.drives history.databases (key_of host) read.calm survey at sound stands.databases is of readable needed short in
+          let why = short_by host.drives history.databases (key_of host) read.calm survey at sound stands.databases is of stands.anew readable needed short in
           absurd (why.away (λ line has. calm_answers line.at.drive (all line (subst (λ (x : Site). Contains x.lines line) (sym site) has))))
     ]
 
@@ -114,15 +115,15 @@ module _ (host : Host) (sound : IsSound host.drives) (site : host.site ≡ site_
       never_few : length slices < 2 * count_by chosen slices → (readable needed : ℕ) → IsShort survey readable needed → ⊥
       never_few most readable needed short =
           let up = most_up host sound site slices places chosen (answers_on read.calm survey) made (λ slice place is_chosen has. on_calm slice place is_chosen has (has_drive read.calm place.drive) refl) most in
-          never_short host.drives history.databases (key_of host) read.calm survey at sound stands.databases is of lasting.firm places (λ v may. lasting.all v may)
+          never_short host.drives history.databases (key_of host) read.calm survey at sound stands.databases is of (log_anew history.databases (key_of host) stands.anew).lives lasting.firm places (λ v may. lasting.all v may)
           (subst (λ (x : Site). length places < 2 * count_by (λ (place : Place). is_on (answers_on read.calm survey) (slice_at x.lines place.slice)) places) site up) readable needed short
 
   abbrev By : BootEnd → Type 0
-  By e = (is_memory e ≡ true) ⊎ ((survey : Survey) × IsReadOf calls host l.kept.content l.boots.up e survey × IsEndBy calls (λ hand table gone. WritesBy host.drives host.site.key l.kept.content l.next.content hand.identity hand.number hand.seats table gone) host.site survey e)
+  By e = (is_memory e ≡ true) ⊎ ((survey : Survey) × IsReadOf calls host l.kept.content l.boots.up e survey × IsEndBy calls (λ hand table progress. WritesBy host.drives host.site.key l.kept.content l.next.content hand.identity hand.number hand.seats table progress) host.site survey e)
 
   two_never : (a b : Identity) (e : BootEnd) → By e → Ends (stop.TwoDatabases a b) ≡ answered_by e → ⊥
   two_never a b (end.TwoDatabases c d) (inl never) is_end = cc (never)
-  two_never a b (end.TwoDatabases c d) (inr (survey, read, choice)) is_end = finds_one host.drives (key_of host) read.calm at survey (of l.boots.up survey read) history.databases stands.databases c d choice
+  two_never a b (end.TwoDatabases c d) (inr (survey, read, choice)) is_end = finds_one host.drives (key_of host) read.calm at survey (of l.boots.up survey read) history.databases stands.databases stands.anew c d choice
   two_never a b (end.Adopted o) by is_end = cc (is_end)
   two_never a b end.Empty by is_end = cc (is_end)
   two_never a b (end.NoQuorum readable needed) by is_end = cc (is_end)

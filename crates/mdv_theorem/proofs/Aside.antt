@@ -1,5 +1,5 @@
 -- What a line on a volume of the open table is refused for: neither that there is no database, nor that the volume isn't there.
-use Rattle.std.proofs.Common.{◌≡◌, inl, inr, ℕ, Bool, true, false, List, [], ◌++◌, ◌+◌, Option, Some, All, sym, ◌∙◌, ap, subst, arith}
+use Rattle.std.proofs.Common.{◌≡◌, inl, inr, ℕ, Bool, true, false, List, [], ◌++◌, ◌+◌, Option, Some, All, refl, sym, ◌∙◌, ap, subst, arith}
 use Rattle.std.proofs.lemmas.List.Elements.{All-append, All-cons, All-nil}
 use Rattle.std.specs.List.{find}
 use Rattle.std.specs.Option.{is_none}
@@ -19,7 +19,7 @@ use Rattle.mdv_engine_law.specs.Replies.{refusal_line, text_of}
 use Rattle.mdv_engine_law.specs.declared.answer.Answer.{Answer}
 use Rattle.mdv_engine_law.specs.declared.answer.Answer.TheVariants.{Over}
 use Rattle.mdv_name.specs.SliceIndex.{slice_at}
-use Rattle.mdv_run_law.specs.Below.{Command, Create, Host, Line, MakeStripe, NoSuchSlice, OutOfMemory, OutOfRange, Print, Read, Refusal, ReplicaFull, SliceInUse, SliceName, VolId, Volume, Write, WrongKind}
+use Rattle.mdv_run_law.specs.Below.{Command, AddListed, AddPlaces, DropPlaces, Entry, Host, meant, Line, MakeStripe, NoSuchSlice, OutOfMemory, OutOfRange, Print, Read, Refusal, ReplicaFull, SliceInUse, SliceName, VolId, Volume, Write, WrongKind}
 use Rattle.mdv_run_law.specs.Run.{IsAnswered, IsSaid}
 use Rattle.mdv_table.specs.Change as table
 use Rattle.mdv_table.specs.Change.{is_db}
@@ -85,7 +85,9 @@ module _ (case : Case) (o : Opened) (opened : case.memory.opened ≡ Some o) (vo
       (subst (λ (b : Bool). All IsAside (where_so (not b || false) NoSuchVolume ++ where_so false NoSuchPool)) (sym there) (All-nil IsAside))
 
   held_aside : (command : Command) → IsAbout volume command → All IsAside (held case command)
-  held_aside (Create slices force count blocks) on = absurd on
+  held_aside (AddPlaces slices force count blocks) on = absurd on
+  held_aside (AddListed number force) on = absurd on
+  held_aside (DropPlaces slices force) on = absurd on
   held_aside (MakeStripe other slice) on = by_opened (λ p. held_of_change case.host p (change.MakeStripe other slice)) (change_aside case.host o other slice)
   held_aside (Read other at count) on =
       by_opened (λ p. held_of_read p other at count)
@@ -98,15 +100,17 @@ module _ (case : Case) (o : Opened) (opened : case.memory.opened ≡ Some o) (vo
 
 -- what is done is told by no refusal
 done_untold : (calls : Outcomes) (host : Host) (kept next : Kept) (command : Command) (answer : Answer) (r : Refusal) → Effect calls host kept command answer next → text_of answer ≡ refusal_line r → ⊥
-done_untold calls host kept next (Create slices force count blocks) answer r effect told = ok_is_none r (sym (ap text_of effect.0) ∙ told)
+done_untold calls host kept next (AddPlaces slices force count blocks) answer r effect told = ok_is_none r (sym (ap text_of effect.0) ∙ told)
+done_untold calls host kept next (AddListed number force) answer r effect told = effect
+done_untold calls host kept next (DropPlaces slices force) answer r effect told = effect
 done_untold calls host kept next (MakeStripe volume slice) answer r effect told = ok_is_none r (sym (ap text_of effect.0) ∙ told)
 done_untold calls host kept next (Read volume at count) answer r effect told = values_are_none at _ r (sym (ap text_of effect.3) ∙ told)
 done_untold calls host kept next (Write volume at block) answer r effect told = ok_is_none r (sym (ap text_of effect.3) ∙ told)
 done_untold calls host kept next (Print names) answer r (calm, o, opened, text, same) told = listing_is_none o.table.plan names r (sym (ap text_of text) ∙ told)
 
--- what a line that spells a command comes to
+-- what a line that spells a command comes to, by what it means
 pub data Commanded (calls : Outcomes) (host : Host) (kept : Kept) (command : Command) (answer : Answer) (next : Kept) : Type 0 where
-  came : CameTo calls host kept command answer next → Commanded calls host kept command answer next
+  came : CameTo calls host kept (meant kept.memory.entries command) answer next → Commanded calls host kept command answer next
   unread : answer ≡ refusing OutOfMemory → Commanded calls host kept command answer next
 
 pub commanded : (calls : Outcomes) (host : Host) (kept next : Kept) (text : List ℕ) (command : Command) (answer : Answer) → IsLine text (Exec command) → IsAnswered calls host kept text answer next → Commanded calls host kept command answer next
@@ -115,15 +119,15 @@ commanded calls host kept next text command answer is (inr (inl (spelled, spells
 commanded calls host kept next text command answer is (inr (inr (quiet, turned))) = unread turned.0
 
 -- what is so of the number of each refusal of the command, and of those of a failed call and of want of memory, is so of the one that is told
-module _ (Q : ℕ → Type 0) (of_fault : Q 23) (of_want : Q 24) (calls : Outcomes) (host : Host) (kept next : Kept) (command : Command) (of_refusal : (s : Refusal) → refusal_of (case_of host kept) command ≡ Some s → Q (number_of s))
+module _ (Q : ℕ → Type 0) (of_fault : Q 23) (of_want : Q 24) (calls : Outcomes) (host : Host) (kept next : Kept) (command : Command) (of_refusal : (s : Refusal) → refusal_of (case_of host kept) (meant kept.memory.entries command) ≡ Some s → Q (number_of s))
     (answer : Answer) (said : IsSaid answer) (r : Refusal) (told : text_of answer ≡ refusal_line r) where
   by_refusal : (s : Refusal) → answer ≡ refusing s → Q (number_of s) → Q (number_of r)
   by_refusal s is so = subst Q (one_number s r (sym (ap text_of is) ∙ told)) so
 
-  came_as : CameTo calls host kept command answer next → Q (number_of r)
+  came_as : CameTo calls host kept (meant kept.memory.entries command) answer next → Q (number_of r)
   came_as (refused quiet s why turned) = by_refusal s turned.0 (of_refusal s why)
   came_as (wanting quiet is left) = by_refusal OutOfMemory is of_want
-  came_as (done free effect) = absurd (done_untold calls host kept next command answer r effect told)
+  came_as (done free effect) = absurd (done_untold calls host kept next (meant kept.memory.entries command) answer r effect told)
   came_as (faulted free is left) = by_refusal IoFault is of_fault
   came_as (over end free is left) = (let never : IsSaid (Over end) = subst IsSaid is said in absurd never)
 
@@ -131,8 +135,18 @@ module _ (Q : ℕ → Type 0) (of_fault : Q 23) (of_want : Q 24) (calls : Outcom
   told_as (came is) = came_as is
   told_as (unread is) = by_refusal OutOfMemory is of_want
 
+-- a command on a volume means itself
+means_itself : (volume : VolId) (entries : List Entry) (command : Command) → IsAbout volume command → meant entries command ≡ command
+means_itself volume entries (AddPlaces slices force count blocks) on = absurd on
+means_itself volume entries (AddListed number force) on = absurd on
+means_itself volume entries (DropPlaces slices force) on = absurd on
+means_itself volume entries (MakeStripe other slice) on = refl
+means_itself volume entries (Read other at count) on = refl
+means_itself volume entries (Write other at block) on = refl
+means_itself volume entries (Print names) on = refl
+
 -- where this is kept the volume is in the open table: so a line on it is refused for neither of the two
 pub told_aside : (calls : Outcomes) (host : Host) (kept next : Kept) (o : Opened) → kept.memory.opened ≡ Some o → (volume : VolId) (of : Volume) → find (has_number volume) o.table.plan.volumes ≡ Some of → HasVolume o.table.plan.volumes volume of → (command : Command) → IsAbout volume command
     → (answer : Answer) → IsSaid answer → (r : Refusal) → text_of answer ≡ refusal_line r → Commanded calls host kept command answer next → IsAside r
 told_aside calls host kept next o opened volume of found has command on answer said r told is =
-    told_as IsAsideNumber (omega arith) (omega arith) calls host kept next command (λ s why. refused_aside (case_of host kept) o opened volume of found has command s on why) answer said r told is
+    told_as IsAsideNumber (omega arith) (omega arith) calls host kept next command (λ s why. refused_aside (case_of host kept) o opened volume of found has command s on (ap (refusal_of (case_of host kept)) (sym (means_itself volume kept.memory.entries command on)) ∙ why)) answer said r told is

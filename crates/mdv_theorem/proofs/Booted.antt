@@ -1,5 +1,6 @@
 -- A run of a life that ended for two databases, or for too few readable places, was ended by a boot.
 use Rattle.std.proofs.Common.{◌≡◌, inl, inr, ℕ, ◌+◌, ◌≤◌, Bool, true, false, List, [], ◌∷◌, ◌++◌, length, Option, Some, append-nil, append_assoc, refl, sym, ◌∙◌, ap, subst, arith}
+use Rattle.mdv_words.specs.Listed.{meant}
 use Rattle.mdv_engine_law.specs.Answers.{refusing}
 use Rattle.mdv_engine_law.specs.Commands as came
 use Rattle.mdv_engine_law.specs.Commands.{CameTo, ComesTo, Effect, GivesUp, KeepsTab}
@@ -23,7 +24,7 @@ use Rattle.mdv_shelf.specs.Tale.{Call, Gave, Synced, Tale, Then, Tore, Wrote, to
 use Rattle.mdv_words.specs.Line as words
 use Rattle.mdv_words.specs.Line.{Line}
 use Rattle.mdv_words.specs.declared.command.Command.{Command}
-use Rattle.mdv_words.specs.declared.command.Command.TheVariants.{Create, Print, Read, Write}
+use Rattle.mdv_words.specs.declared.command.Command.TheVariants.{AddListed, AddPlaces, DropPlaces, Print, Read, Write}
 use Rattle.mdv_words.specs.declared.command.Command.TheVariants as command
 use Rattle.mdv_theorem.proofs.Rising.{lines_rose, rose_itself, rose_to_more}
 
@@ -63,7 +64,9 @@ module _ (calls : Outcomes) (host : Host) (kept next : Kept) (answer : Answer) w
   refused_never r is of = (let never : ⊥ = subst IsOfBoot is of in never)
 
   effect_never : (cmd : Command) → Effect calls host kept cmd answer next → IsOfBoot answer → ⊥
-  effect_never (Create slices force count blocks) is of = (let never : ⊥ = subst IsOfBoot is.0 of in never)
+  effect_never (AddPlaces slices force count blocks) is of = (let never : ⊥ = subst IsOfBoot is.0 of in never)
+  effect_never (AddListed number force) is of = is
+  effect_never (DropPlaces slices force) is of = is
   effect_never (command.MakeStripe volume slice) is of = (let never : ⊥ = subst IsOfBoot is.0 of in never)
   effect_never (Read volume at count) is of = (let never : ⊥ = subst IsOfBoot is.3 of in never)
   effect_never (Write volume at block) is of = (let never : ⊥ = subst IsOfBoot is.3 of in never)
@@ -73,12 +76,16 @@ module _ (calls : Outcomes) (host : Host) (kept next : Kept) (answer : Answer) w
   gives_never cmd (stop.Lost active listed) gives of = of
   gives_never cmd stop.Spent gives of = of
   gives_never cmd stop.Memory gives of = of
-  gives_never (Create slices force count blocks) (stop.NoQuorum readable needed) gives of = gives
+  gives_never (AddPlaces slices force count blocks) (stop.NoQuorum readable needed) gives of = gives
+  gives_never (AddListed number force) (stop.NoQuorum readable needed) gives of = gives
+  gives_never (DropPlaces slices force) (stop.NoQuorum readable needed) gives of = gives
   gives_never (command.MakeStripe volume slice) (stop.NoQuorum readable needed) gives of = gives
   gives_never (Read volume at count) (stop.NoQuorum readable needed) gives of = gives
   gives_never (Write volume at block) (stop.NoQuorum readable needed) gives of = gives
   gives_never (Print names) (stop.NoQuorum readable needed) gives of = gives
-  gives_never (Create slices force count blocks) (stop.TwoDatabases a b) gives of = gives
+  gives_never (AddPlaces slices force count blocks) (stop.TwoDatabases a b) gives of = gives
+  gives_never (AddListed number force) (stop.TwoDatabases a b) gives of = gives
+  gives_never (DropPlaces slices force) (stop.TwoDatabases a b) gives of = gives
   gives_never (command.MakeStripe volume slice) (stop.TwoDatabases a b) gives of = gives
   gives_never (Read volume at count) (stop.TwoDatabases a b) gives of = gives
   gives_never (Write volume at block) (stop.TwoDatabases a b) gives of = gives
@@ -99,7 +106,7 @@ module _ (calls : Outcomes) (host : Host) (kept next : Kept) (answer : Answer) w
   line_boots : (spelled : Line) → ComesTo calls host kept spelled answer next → IsOfBoot answer → IsRebooted calls host kept answer next
   line_boots words.Boot is of = is
   line_boots (words.Tab lines) is of = absurd (tab_never lines is of)
-  line_boots (words.Exec cmd) is of = absurd (came_never cmd is of)
+  line_boots (words.Exec cmd) is of = absurd (came_never (meant kept.memory.entries cmd) is of)
 
   answered_boots : (text : List ℕ) → IsAnswered calls host kept text answer next → IsOfBoot answer → IsRebooted calls host kept answer next
   answered_boots text (inl (none, quiet, refused)) of = absurd (refused_never _ refused.0 of)

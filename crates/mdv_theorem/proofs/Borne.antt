@@ -8,8 +8,10 @@ use Rattle.mdv_base.specs.DriveSet.{Drives, has_drive}
 use Rattle.mdv_base.specs.declared.drive.DriveNo.{DriveNo}
 use Rattle.mdv_base.specs.declared.drive.SliceName.{SliceName}
 use Rattle.mdv_base.specs.declared.place.Place.{Place}
+use Rattle.mdv_databases.proofs.Going.{log_anew}
 use Rattle.mdv_databases.proofs.Meeting.{databases_meet}
 use Rattle.mdv_databases.specs.Meeting.{MostOn, is_on}
+use Rattle.mdv_words.specs.Listed.{meant}
 use Rattle.mdv_engine_law.proofs.Allowed.{allowed_clean, allowed_none}
 use Rattle.mdv_engine_law.specs.Answers.{accepted, refusing}
 use Rattle.mdv_engine_law.specs.Commands as came
@@ -42,14 +44,15 @@ use Rattle.mdv_shown.specs.Sites.{is_line_of, site_of}
 use Rattle.mdv_store.proofs.Seated.{seat_is}
 use Rattle.mdv_store.proofs.Sitting.{replica_of}
 use Rattle.mdv_standing.proofs.Named.{line_found}
-use Rattle.mdv_store.specs.Boot.{IsEndBy, TakesAll, TakesClaimOrBoth, is_memory, last_found, seats_of}
+use Rattle.mdv_store.specs.Boot.{IsEndBy, IsShortAt, IsShortBy, TakesAll, TakesBoth, gone_found, is_memory, last_found, seats_of}
+use Rattle.mdv_store.specs.Progress.{Claimed, Progress, Rewritten, Settled}
 use Rattle.mdv_store.specs.Settled.{settles}
 use Rattle.mdv_store.specs.Text.{blocks_for}
 use Rattle.mdv_table.specs.Plan.{last_of, places_of}
 use Rattle.mdv_store.proofs.Adoptions.{takes_stay}
 use Rattle.mdv_store.specs.Create.{replica_on, seats_asked, table_of}
 use Rattle.mdv_store.specs.Opened.{Opened}
-use Rattle.mdv_store.specs.Seats.{AreLeft, TakesSlot, drive_of, replicas_of}
+use Rattle.mdv_store.specs.Seats.{AreLeft, TakesClaim, TakesSlot, drive_of, replicas_of}
 use Rattle.mdv_store.specs.declared.booting.BootEnd.{BootEnd}
 use Rattle.mdv_store.specs.declared.booting.BootEnd.TheVariants as end
 use Rattle.mdv_store.specs.declared.seats.Seat.{Seat}
@@ -67,7 +70,7 @@ use Rattle.mdv_words.specs.Line as words
 use Rattle.mdv_words.specs.Line.{Line}
 use Rattle.mdv_words.specs.declared.command.Command.{Command}
 use Rattle.mdv_words.specs.declared.command.Command.TheVariants as command
-use Rattle.mdv_words.specs.declared.command.Command.TheVariants.{Create, Print, Read, Write}
+use Rattle.mdv_words.specs.declared.command.Command.TheVariants.{AddListed, AddPlaces, DropPlaces, Print, Read, Write}
 use Rattle.mdv_theorem.specs.Exchanges.{Asks, Exchange, IsTold}
 use Rattle.mdv_theorem.specs.Observed.{HalfLieOn, MostLieOn}
 use Rattle.mdv_theorem.proofs.Adopted.{IsAdoptable, IsBlind, adoptable, blind_bare, blind_boot, firm_shows, lists_one, seat_has, seats_list}
@@ -214,7 +217,7 @@ module _ (calm : ℕ → Bool) where
       memory_bears b same = opened_bears b (ap (λ (m : Memory). m.opened) same) (ap (λ (m : Memory). m.clean) same)
 
       -- a creation is taken only where nothing is open, and no call failed in the last boot
-      never_free : (slices : List SliceName) (force : Bool) (count blocks : ℕ) → IsAllowed (case_of host kept) (Create slices force count blocks) → Bears kept → ⊥
+      never_free : (slices : List SliceName) (force : Bool) (count blocks : ℕ) → IsAllowed (case_of host kept) (AddPlaces slices force count blocks) → Bears kept → ⊥
       never_free slices force count blocks free (inl b) = never_shut kept.memory.opened b.o (allowed_none (case_of host kept) slices force count blocks free) b.opened
       never_free slices force count blocks free (inr b) = false≢true (sym b.unclean ∙ allowed_clean (case_of host kept) slices force count blocks free)
 
@@ -227,7 +230,9 @@ module _ (calm : ℕ → Bool) where
       told_bears r is b = subst (λ (a : Answer). IsBorneBy a next) (sym is) b
 
       effect_borne : (cmd : Command) → IsAllowed (case_of host kept) cmd → Bears kept → Effect calls host kept cmd answer next → IsBorneBy answer next
-      effect_borne (Create slices force count blocks) free b is = absurd (never_free slices force count blocks free b)
+      effect_borne (AddPlaces slices force count blocks) free b is = absurd (never_free slices force count blocks free b)
+      effect_borne (AddListed number force) free b is = absurd is
+      effect_borne (DropPlaces slices force) free b is = absurd is
       effect_borne (command.MakeStripe volume slice) free b is = subst (λ (a : Answer). IsBorneBy a next) (sym is.0) (inl (record {
         o = is.3.opened;
         opened = ap (λ (m : Memory). m.opened) is.3.memory;
@@ -239,7 +244,9 @@ module _ (calm : ℕ → Bool) where
       effect_borne (Print names) free b is = subst (λ (a : Answer). IsBorneBy a next) (sym is.3) (memory_bears b is.4.memory)
 
       gives_borne : (cmd : Command) (over : Ended) → IsAllowed (case_of host kept) cmd → Bears kept → GivesUp calls host kept cmd over next → IsNoLoss over
-      gives_borne (Create slices force count blocks) (stop.Lost active listed) free b gives = never_free slices force count blocks free b
+      gives_borne (AddPlaces slices force count blocks) (stop.Lost active listed) free b gives = never_free slices force count blocks free b
+      gives_borne (AddListed number force) (stop.Lost active listed) free b gives = gives
+      gives_borne (DropPlaces slices force) (stop.Lost active listed) free b gives = gives
       gives_borne (command.MakeStripe volume slice) (stop.Lost active listed) free b gives =
           let left = left_borne (TakesSlot _ _) (λ r n took. ap (λ (x : Replica). x.line) took.2) gives.0.table.plan.lists gives.0.seats gives.2.lost.new.seats gives.2.lost.lost.tried.left (its_borne b gives.0 gives.1) in
           let few = ap (λ (t : Table). short_of Half gives.2.lost.new.seats t.plan.lists) (sym (ap (λ (x : Opened). x.table) gives.2.lost.lost.is)) ∙ gives.2.lost.few in
@@ -253,14 +260,18 @@ module _ (calm : ℕ → Bool) where
       gives_borne cmd stop.Memory free b gives = tt
 
       wanting_bears : (cmd : Command) → Bears kept → Wanting host kept cmd next → Bears next
-      wanting_bears (Create slices force count blocks) b left = opened_bears b (ap (λ (m : Memory). m.opened) left.1.memory) (ap (λ (m : Memory). m.clean) left.1.memory)
+      wanting_bears (AddPlaces slices force count blocks) b left = opened_bears b (ap (λ (m : Memory). m.opened) left.1.memory) (ap (λ (m : Memory). m.clean) left.1.memory)
+      wanting_bears (AddListed number force) b left = absurd left
+      wanting_bears (DropPlaces slices force) b left = absurd left
       wanting_bears (command.MakeStripe volume slice) b left = memory_bears b left.1.memory
       wanting_bears (Read volume at count) b left = memory_bears b left.1.memory
       wanting_bears (Write volume at block) b left = absurd left
       wanting_bears (Print names) b left = memory_bears b left.1.memory
 
       fault_bears : (cmd : Command) → Bears kept → Fault calls host kept cmd next → Bears next
-      fault_bears (Create slices force count blocks) b is = opened_bears b (ap (λ (m : Memory). m.opened) is.memory) (ap (λ (m : Memory). m.clean) is.memory)
+      fault_bears (AddPlaces slices force count blocks) b is = opened_bears b (ap (λ (m : Memory). m.opened) is.memory) (ap (λ (m : Memory). m.clean) is.memory)
+      fault_bears (AddListed number force) b is = absurd is
+      fault_bears (DropPlaces slices force) b is = absurd is
       fault_bears (command.MakeStripe volume slice) b is = absurd is
       fault_bears (Read volume at count) b is = memory_bears b is.3.memory
       fault_bears (Write volume at block) b is = memory_bears b is.3
@@ -282,7 +293,7 @@ module _ (calm : ℕ → Bool) where
         line_borne : (spelled : Line) → Bears kept → ComesTo calls host kept spelled answer next → IsBorneBy answer next
         line_borne words.Boot b is = boots is
         line_borne (words.Tab lines) b is = tab_borne lines b is
-        line_borne (words.Exec cmd) b is = came_borne cmd b is
+        line_borne (words.Exec cmd) b is = came_borne (meant kept.memory.entries cmd) b is
 
         pub answered_borne : (text : List ℕ) → Bears kept → IsAnswered calls host kept text answer next → IsBorneBy answer next
         answered_borne text b (inl (none, quiet, refused)) = told_bears _ refused.0 (memory_bears b refused.1.memory)
@@ -299,11 +310,11 @@ module _ (calm : ℕ → Bool) where
 
       -- a creation on them that was told `ok`
       pub made_bears : (kept next : Kept) (one : Exchange) (answer : Answer) → IsAnswered calls host kept one.text answer next → IsSaid answer → IsTold one (text_of answer)
-          → (force : Bool) (count blocks : ℕ) → Asks one (Create slices force count blocks) → IsTold one ok_line → Bears next
+          → (force : Bool) (count blocks : ℕ) → Asks one (AddPlaces slices force count blocks) → IsTold one ok_line → Bears next
       made_bears kept next one answer comes said told_it force count blocks asks told =
-          let done = granted_done host calls kept next one answer comes said told_it (Create slices force count blocks) asks told in
+          let done = granted_done host calls kept next one answer comes said told_it (AddPlaces slices force count blocks) asks told in
           let is = done.1.1 in
-          let form = commands_are_in_form one.text (Create slices force count blocks) asks.1 in
+          let form = commands_are_in_form one.text (AddPlaces slices force count blocks) asks.1 in
           let identity = identity_of host kept.memory.begun in
           let seats = seats_asked (key_of host) identity (lines_asked host slices) count blocks in
           let own : (r : Replica) → Contains (replicas_of seats) r → Contains host.site.lines r.line = λ r has. (is.formed r has).1.found.one_of in
@@ -349,14 +360,14 @@ module _ (calm : ℕ → Bool) where
 
           -- the table that it may adopt has their list
           lists_are : (newest : Newest) → IsAdoptable survey newest → newest.table.plan.lists ≡ One was.places
-          lists_are newest a = lists_one host.drives (key_of host) was.history.databases t sound was.stands.databases read.calm survey read.survey_is of newest a was.places (λ v may. was.lasting.all v may)
+          lists_are newest a = lists_one host.drives (key_of host) was.history.databases t sound was.stands.databases was.stands.anew read.calm survey read.survey_is of newest a was.places (λ v may. was.lasting.all v may)
 
           -- so is what it has in hand and writes anew
           in_hand_borne : (newest : Newest) (a : IsAdoptable survey newest) → AreBorne a.seats newest.table.plan.lists
           in_hand_borne newest a =
-              let are = seats_list host.drives (key_of host) was.history.databases t sound was.stands.databases read.calm survey read.survey_is of newest a was.places (λ v may. was.lasting.all v may) in
+              let are = seats_list host.drives (key_of host) was.history.databases t sound was.stands.databases was.stands.anew read.calm survey read.survey_is of newest a was.places (λ v may. was.lasting.all v may) in
               subst (AreBorne a.seats) (sym (lists_are newest a))
-              (borne_list on a.seats (λ s has there. seat_has host.drives (key_of host) was.history.databases t sound was.stands.databases read.calm survey read.survey_is of newest a calm answered s has there) was.places are half_calm)
+              (borne_list on a.seats (λ s has there. seat_has host.drives (key_of host) was.history.databases t sound was.stands.databases was.stands.anew read.calm survey read.survey_is of newest a calm answered s has there) was.places are half_calm)
 
           -- and what it has of its last list
           last_borne : (newest : Newest) (a : IsAdoptable survey newest) → AreBorne (last_found survey newest a.replica) (One (last_of newest.table.plan.lists))
@@ -377,7 +388,7 @@ module _ (calm : ℕ → Bool) where
           never_empty most empty =
               let blind = blind_boot calls host kept.content up survey read empty in
               let most_calm : MostOn host.drives (key_of host) calm was.places = most_up host sound refl slices was.places most.chosen calm was.made (lies_calm most.chosen most.each) most.most in
-              let found = databases_meet host.drives was.history.databases (key_of host) was.places calm t was.stands.databases was.lasting.firm (λ v may. was.lasting.all v may) most_calm in
+              let found = databases_meet host.drives was.history.databases (key_of host) was.places calm t was.stands.databases (log_anew was.history.databases (key_of host) was.stands.anew).lives was.lasting.firm (λ v may. was.lasting.all v may) most_calm in
               sees blind found.0 (subst (λ (c : Image). IsFoundIn host.drives host.site c found.0) (sym same) found.1) found.2 found.3 (blind.up found.0.line.at.drive.0) refl
             where
               sees : (blind : IsBlind host calls kept.content) (r : Replica) → IsFoundIn host.drives host.site kept.content r → calm r.line.at.drive.0 ≡ true → shows r.head ≡ true → (b : Bool) → blind.up r.line.at.drive.0 ≡ b → ⊥
@@ -397,7 +408,7 @@ module _ (calm : ℕ → Bool) where
           empty_unclean true calm_all empty = elim more [ inl most ↦ absurd (never_empty most empty) | inr apart ↦ absurd (never_calm apart empty calm_all) ]
 
         abbrev EndsBy : BootEnd → Drives → Type 0
-        EndsBy e up = (is_memory e ≡ true) ⊎ ((survey : Survey) × IsReadOf calls host kept.content up e survey × IsEndBy calls (λ hand table gone. WritesBy host.drives host.site.key kept.content next.content hand.identity hand.number hand.seats table gone) host.site survey e)
+        EndsBy e up = (is_memory e ≡ true) ⊎ ((survey : Survey) × IsReadOf calls host kept.content up e survey × IsEndBy calls (λ hand table progress. WritesBy host.drives host.site.key kept.content next.content hand.identity hand.number hand.seats table progress) host.site survey e)
 
         end_borne : (e : BootEnd) (up : Drives) (clean : Bool) → IsUpBy calls host e up clean → EndsBy e up → answer ≡ answered_by e → (answer ≡ accepted → next.memory ≡ booted_with (opened_by e) up clean kept.memory.begun) → IsBorneBy answer next
         end_borne (end.Adopted o) up clean by_calls (inl never) is memory = absurd (false≢true never)
@@ -406,7 +417,7 @@ module _ (calm : ℕ → Bool) where
           opened = ap (λ (m : Memory). m.opened) (memory is);
           borne = subst (AreBorne o.seats) (sym (ap (λ (x : Opened). x.table.plan.lists) a.is))
               (left_borne (TakesAll a.number a.newest.table) (λ r n took. ap (λ (x : Replica). x.line) (takes_stay a.number a.newest.table r n took)) (One (last_of a.newest.table.plan.lists)) (last_found survey a.newest a.replica) o.seats a.left
-              (last_borne up survey read a.newest (adoptable _ survey a.newest a.replica a.seats a.number a.gone a.drawn a.written)));
+              (last_borne up survey read a.newest (adoptable _ survey a.newest a.replica a.seats a.number _ a.drawn a.written)));
         }))
         end_borne end.Empty up clean by_calls (inl never) is memory = absurd (false≢true never)
         end_borne end.Empty up clean by_calls (inr (survey, read, empty)) is memory = subst (λ (x : Answer). IsBorneBy x next) (sym is) (inr (record {
@@ -417,17 +428,24 @@ module _ (calm : ℕ → Bool) where
         end_borne (end.NoQuorum readable needed) up clean by_calls by is memory = subst (λ (x : Answer). IsBorneBy x next) (sym is) tt
         end_borne (end.Lost active listed) up clean by_calls (inl never) is memory = absurd (false≢true never)
         end_borne (end.Lost active listed) up clean by_calls (inr (survey, read, lost)) is memory =
-            let its = adoptable _ survey lost.newest lost.replica lost.seats lost.number [] lost.drawn lost.written in
-            absurd (elim lost.short [
-              | inl first ↦
-                  borne_half first.now lost.newest.table.plan.lists (record { active = active; listed = listed })
-                  (left_borne (TakesClaimOrBoth _ _) claimed lost.newest.table.plan.lists lost.seats first.now first.left (in_hand_borne up survey read lost.newest its)) first.few
-              | inr again ↦ never_again up survey read lost.newest.table.plan.lists (lists_are up survey read lost.newest its) again.0
-            ])
+            absurd (never lost.progress lost.short)
           where
-            claimed : (r n : Replica) → TakesClaimOrBoth lost.number (length (record_text lost.newest.table)) r n → n.line ≡ r.line
-            claimed r n (inl one) = ap (λ (x : Replica). x.line) one
-            claimed r n (inr both) = ap (λ (x : Replica). x.line) both.2
+            its : IsAdoptable survey lost.newest
+            its = adoptable _ survey lost.newest lost.replica lost.seats lost.number lost.progress lost.drawn lost.written
+
+            line_kept : (r n : Replica) → TakesClaim lost.number r n → n.line ≡ r.line
+            line_kept r n took = ap (λ (x : Replica). x.line) took
+
+            both_kept : (r n : Replica) → TakesBoth lost.number (length (record_text lost.newest.table)) r n → n.line ≡ r.line
+            both_kept r n took = ap (λ (x : Replica). x.line) took.2
+
+            borne_now : (Took : Replica → Replica → Type 0) → ((r n : Replica) → Took r n → n.line ≡ r.line) → (now : List Seat) → IsShortBy calls Took host.site.key lost.newest.table.plan.lists lost.seats now (record { active = active; listed = listed }) → ⊥
+            borne_now Took kept_line now short = borne_half now lost.newest.table.plan.lists (record { active = active; listed = listed }) (left_borne Took kept_line lost.newest.table.plan.lists lost.seats now short.left (in_hand_borne up survey read lost.newest its)) short.few
+
+            never : (progress : Progress) → IsShortAt calls host.site.key lost.number lost.newest.table lost.seats (last_found survey lost.newest lost.replica) (gone_found survey lost.newest lost.replica) progress (record { active = active; listed = listed }) → ⊥
+            never (Claimed now) short = borne_now (TakesClaim lost.number) line_kept now short
+            never (Rewritten now) short = borne_now (TakesBoth lost.number (length (record_text lost.newest.table))) both_kept now short
+            never (Settled now gone) (settled, short, over) = never_again up survey read lost.newest.table.plan.lists (lists_are up survey read lost.newest its) settled
         end_borne end.Spent up clean by_calls by is memory = subst (λ (x : Answer). IsBorneBy x next) (sym is) tt
         end_borne end.Memory up clean by_calls by is memory = subst (λ (x : Answer). IsBorneBy x next) (sym is) tt
 

@@ -31,7 +31,7 @@ use Rattle.mdv_store.specs.declared.seats.Seat.{Seat}
 use Rattle.mdv_survey.specs.declared.replica.Replica.{Replica}
 use Rattle.mdv_engine_law.specs.Line.{Memory}
 use Rattle.mdv_volumes.proofs.Lists.{contains_behind, contains_first, first_or_behind}
-use Rattle.mdv_words.specs.declared.command.Command.TheVariants.{Create}
+use Rattle.mdv_words.specs.declared.command.Command.TheVariants.{AddPlaces}
 use Rattle.mdv_theorem.proofs.Lines.{never_in}
 use Rattle.mdv_databases.specs.Meeting.{is_on}
 use Rattle.mdv_databases.proofs.Finding.{count_weaker}
@@ -129,7 +129,7 @@ module _ (host : Host) (sound : IsSound host.drives) (sees : SeesOwn host) where
       line = record { name = slice; at = at }
 
   -- A creation that nothing refuses: each of its replicas was found where a boot looks.
-  module _ (key : Key) (identity : Identity) (memory : Memory) (slices : List SliceName) (force : Bool) (count blocks : ℕ) (some : 1 ≤ count) (free : IsAllowed (record { host = host; memory = memory }) (Create slices force count blocks))
+  module _ (key : Key) (identity : Identity) (memory : Memory) (slices : List SliceName) (force : Bool) (count blocks : ℕ) (some : 1 ≤ count) (free : IsAllowed (record { host = host; memory = memory }) (AddPlaces slices force count blocks))
       (formed : (r : Replica) → Contains (replicas_of (seats_asked key identity (lines_asked host slices) count blocks)) r → Contains host.site.lines r.line) where
     abbrev lines : List SliceLine
     lines = lines_asked host slices

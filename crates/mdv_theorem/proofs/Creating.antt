@@ -16,7 +16,7 @@ use Rattle.mdv_store.specs.Create.{seats_asked}
 use Rattle.mdv_store.specs.Opened.{Opened}
 use Rattle.mdv_table.specs.Slices.{IsSound}
 use Rattle.mdv_words.proofs.Form.{commands_are_in_form}
-use Rattle.mdv_words.specs.declared.command.Command.TheVariants.{Create}
+use Rattle.mdv_words.specs.declared.command.Command.TheVariants.{AddPlaces}
 use Rattle.mdv_theorem.specs.Exchanges.{Asks, Exchange, IsTold}
 use Rattle.mdv_base.specs.declared.name.Key.{Key}
 use Rattle.mdv_replica.specs.declared.replica.Slot.{Slot}
@@ -61,12 +61,12 @@ pub record IsMadeThere (lines : List SliceLine) (slices : List SliceName) (kept 
   pub bare : o.table.plan.volumes ≡ []
 
 module _ (host : Host) (sound : IsSound host.drives) (sees : SeesOwn host) (calls : Outcomes) (kept next : Kept) (one : Exchange) (answer : Answer) (comes : IsAnswered calls host kept one.text answer next) (said : IsSaid answer) (told_it : IsTold one (text_of answer))
-    (slices : List SliceName) (force : Bool) (count blocks : ℕ) (asks : Asks one (Create slices force count blocks)) (told : IsTold one ok_line) where
+    (slices : List SliceName) (force : Bool) (count blocks : ℕ) (asks : Asks one (AddPlaces slices force count blocks)) (told : IsTold one ok_line) where
   pub made_there : IsMadeThere host.site.lines slices next
   made_there =
-      let done = granted_done host calls kept next one answer comes said told_it (Create slices force count blocks) asks told in
+      let done = granted_done host calls kept next one answer comes said told_it (AddPlaces slices force count blocks) asks told in
       let is = done.1.1 in
-      let form = commands_are_in_form one.text (Create slices force count blocks) asks.1 in
+      let form = commands_are_in_form one.text (AddPlaces slices force count blocks) asks.1 in
       record {
         places = places_in (seats_asked (key_of host) (identity_of host kept.memory.begun) (lines_asked host slices) count blocks);
         made = made_on host sound sees (key_of host) (identity_of host kept.memory.begun) kept.memory slices force count blocks form.1.0 done.0 (λ r has. subst (λ (s : Site). Contains s.lines r.line) (sym sees) (is.formed r has).1.found.one_of);
@@ -80,9 +80,9 @@ module _ (host : Host) (sound : IsSound host.drives) (sees : SeesOwn host) (call
   pub shown_there : IsShownBy host.drives (key_of host) made_there.o next.content
   unfolding made_there
   shown_there =
-      let done = granted_done host calls kept next one answer comes said told_it (Create slices force count blocks) asks told in
+      let done = granted_done host calls kept next one answer comes said told_it (AddPlaces slices force count blocks) asks told in
       let is = done.1.1 in
-      let form = commands_are_in_form one.text (Create slices force count blocks) asks.1 in
+      let form = commands_are_in_form one.text (AddPlaces slices force count blocks) asks.1 in
       let identity = identity_of host kept.memory.begun in
       let seats = seats_asked (key_of host) identity (lines_asked host slices) count blocks in
       let some = asked_some host sound sees (key_of host) identity kept.memory slices force count blocks form.1.0 done.0 (λ r has. subst (λ (s : Site). Contains s.lines r.line) (sym sees) (is.formed r has).1.found.one_of) form.0 in

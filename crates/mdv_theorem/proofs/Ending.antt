@@ -2,6 +2,7 @@
 use Rattle.std.proofs.Common.{◌≡◌, inl, inr, ℕ, ◌+◌, ◌≤◌, Bool, true, false, List, length, refl, sym, ap, subst, arith}
 use Rattle.mdv_base.proofs.Causes.{rose_of_once, rose_within}
 use Rattle.mdv_base.specs.declared.refusal.Refusal.{Refusal}
+use Rattle.mdv_words.specs.Listed.{meant}
 use Rattle.mdv_engine_law.specs.Answers.{accepted, refusing}
 use Rattle.mdv_engine_law.specs.Commands as came
 use Rattle.mdv_engine_law.specs.Commands.{CameTo, ComesTo, Effect, Fault, GivesUp, KeepsTab, Wanting}
@@ -20,7 +21,7 @@ use Rattle.mdv_shelf.specs.Failing.{Outcomes}
 use Rattle.mdv_words.specs.Line as words
 use Rattle.mdv_words.specs.Line.{Line}
 use Rattle.mdv_words.specs.declared.command.Command.{Command}
-use Rattle.mdv_words.specs.declared.command.Command.TheVariants.{Create, Print, Read, Write}
+use Rattle.mdv_words.specs.declared.command.Command.TheVariants.{AddListed, AddPlaces, DropPlaces, Print, Read, Write}
 use Rattle.mdv_words.specs.declared.command.Command.TheVariants as command
 use Rattle.mdv_theorem.specs.Observed.{MayEnd, RunsEnd}
 use Rattle.mdv_theorem.proofs.Rising.{lines_rose, next_rose, rose_itself, rose_to_more}
@@ -40,18 +41,22 @@ module _ (host : Host) (is_host : IsOfTable host) (calls : Outcomes) (kept next 
   ok_end is = subst IsEnd (sym is) tt
 
   effect_end : (cmd : Command) → Effect calls host kept cmd answer next → IsEnd answer
-  effect_end (Create slices force count blocks) is = ok_end is.0
+  effect_end (AddPlaces slices force count blocks) is = ok_end is.0
+  effect_end (AddListed number force) is = absurd is
+  effect_end (DropPlaces slices force) is = absurd is
   effect_end (command.MakeStripe volume slice) is = ok_end is.0
   effect_end (Read volume at count) is = subst IsEnd (sym is.3) tt
   effect_end (Write volume at block) is = ok_end is.3
   effect_end (Print names) is = subst IsEnd (sym is.3) tt
 
   gives_end : (cmd : Command) (end : Ended) → HoldsAt kept → GivesUp calls host kept cmd end next → IsEnd (Ends end)
-  gives_end (Create slices force count blocks) (stop.Lost active listed) holds gives = lost_creation host is_host calls (key_of host) (identity_of host kept.memory.begun) (lines_asked host slices) count blocks next.content gives.formed refl active listed gives.lost
-  gives_end (Create slices force count blocks) (stop.NoQuorum readable needed) holds gives = absurd gives
-  gives_end (Create slices force count blocks) (stop.TwoDatabases a b) holds gives = absurd gives
-  gives_end (Create slices force count blocks) stop.Spent holds gives = tt
-  gives_end (Create slices force count blocks) stop.Memory holds gives = tt
+  gives_end (AddPlaces slices force count blocks) (stop.Lost active listed) holds gives = lost_creation host is_host calls (key_of host) (identity_of host kept.memory.begun) (lines_asked host slices) count blocks next.content gives.formed refl active listed gives.lost
+  gives_end (AddPlaces slices force count blocks) (stop.NoQuorum readable needed) holds gives = absurd gives
+  gives_end (AddPlaces slices force count blocks) (stop.TwoDatabases a b) holds gives = absurd gives
+  gives_end (AddPlaces slices force count blocks) stop.Spent holds gives = tt
+  gives_end (AddPlaces slices force count blocks) stop.Memory holds gives = tt
+  gives_end (AddListed number force) end holds gives = absurd gives
+  gives_end (DropPlaces slices force) end holds gives = absurd gives
   gives_end (command.MakeStripe volume slice) (stop.Lost active listed) holds gives = lost_change host is_host calls gives.0 _ active listed (holds gives.0 gives.1) gives.2.lost
   gives_end (command.MakeStripe volume slice) (stop.NoQuorum readable needed) holds gives = absurd gives
   gives_end (command.MakeStripe volume slice) (stop.TwoDatabases a b) holds gives = absurd gives
@@ -76,7 +81,7 @@ module _ (host : Host) (is_host : IsOfTable host) (calls : Outcomes) (kept next 
   line_end : (spelled : Line) → HoldsAt kept → ComesTo calls host kept spelled answer next → IsEnd answer
   line_end words.Boot holds is = boot_ends host is_host calls kept next answer is
   line_end (words.Tab lines) holds is = tab_end lines is
-  line_end (words.Exec cmd) holds is = came_end cmd holds is
+  line_end (words.Exec cmd) holds is = came_end (meant kept.memory.entries cmd) holds is
 
   answered_end : (text : List ℕ) → HoldsAt kept → IsAnswered calls host kept text answer next → IsEnd answer
   answered_end text holds (inl (none, quiet, refused)) = subst IsEnd (sym refused.0) tt
@@ -94,15 +99,19 @@ module _ (host : Host) (is_host : IsOfTable host) (calls : Outcomes) (kept next 
   opened_holds holds is = holds_same host is_host kept next is holds
 
   wanting_holds : (cmd : Command) → HoldsAt kept → Wanting host kept cmd next → HoldsAt next
-  wanting_holds (Create slices force count blocks) holds left = opened_holds holds (ap (λ (m : Memory). m.opened) left.1.memory)
+  wanting_holds (AddPlaces slices force count blocks) holds left = opened_holds holds (ap (λ (m : Memory). m.opened) left.1.memory)
+  wanting_holds (AddListed number force) holds left = absurd left
+  wanting_holds (DropPlaces slices force) holds left = absurd left
   wanting_holds (command.MakeStripe volume slice) holds left = stays_holds holds left.1
   wanting_holds (Read volume at count) holds left = stays_holds holds left.1
   wanting_holds (Write volume at block) holds left = absurd left
   wanting_holds (Print names) holds left = stays_holds holds left.1
 
   effect_holds : (cmd : Command) → HoldsAt kept → Effect calls host kept cmd answer next → HoldsAt next
-  effect_holds (Create slices force count blocks) holds is =
+  effect_holds (AddPlaces slices force count blocks) holds is =
       holds_open host is_host next is.1.opened (ap (λ (m : Memory). m.opened) is.1.memory) (made_held host is_host calls (key_of host) (identity_of host kept.memory.begun) (lines_asked host slices) count blocks next.content is.1.formed refl is.1.opened is.1.made)
+  effect_holds (AddListed number force) holds is = absurd is
+  effect_holds (DropPlaces slices force) holds is = absurd is
   effect_holds (command.MakeStripe volume slice) holds is =
       holds_open host is_host next is.3.opened (ap (λ (m : Memory). m.opened) is.3.memory) (changed_held host is_host calls is.1 is.3.opened _ (holds is.1 is.2) is.3.committed)
   effect_holds (Read volume at count) holds is = stays_holds holds is.4
@@ -110,7 +119,9 @@ module _ (host : Host) (is_host : IsOfTable host) (calls : Outcomes) (kept next 
   effect_holds (Print names) holds is = stays_holds holds is.4
 
   fault_holds : (cmd : Command) → HoldsAt kept → Fault calls host kept cmd next → HoldsAt next
-  fault_holds (Create slices force count blocks) holds is = opened_holds holds (ap (λ (m : Memory). m.opened) is.memory)
+  fault_holds (AddPlaces slices force count blocks) holds is = opened_holds holds (ap (λ (m : Memory). m.opened) is.memory)
+  fault_holds (AddListed number force) holds is = absurd is
+  fault_holds (DropPlaces slices force) holds is = absurd is
   fault_holds (command.MakeStripe volume slice) holds is = absurd is
   fault_holds (Read volume at count) holds is = stays_holds holds is.3
   fault_holds (Write volume at block) holds is = same_holds holds is.3
@@ -131,7 +142,7 @@ module _ (host : Host) (is_host : IsOfTable host) (calls : Outcomes) (kept next 
   line_holds : (spelled : Line) → HoldsAt kept → IsSaid answer → ComesTo calls host kept spelled answer next → HoldsAt next
   line_holds words.Boot holds said is = boot_holds host is_host calls kept next answer is said
   line_holds (words.Tab lines) holds said is = tab_holds lines holds is
-  line_holds (words.Exec cmd) holds said is = came_holds cmd holds said is
+  line_holds (words.Exec cmd) holds said is = came_holds (meant kept.memory.entries cmd) holds said is
 
   answered_holds : (text : List ℕ) → HoldsAt kept → IsSaid answer → IsAnswered calls host kept text answer next → HoldsAt next
   answered_holds text holds said (inl (none, quiet, refused)) = stays_holds holds refused.1

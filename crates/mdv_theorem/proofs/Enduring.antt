@@ -18,7 +18,7 @@ use Rattle.mdv_run_law.specs.Run.{started}
 use Rattle.mdv_volumes.proofs.Lists.{first_or_behind}
 use Rattle.mdv_words.proofs.Lines.{one_line}
 use Rattle.mdv_words.specs.Line.{Exec}
-use Rattle.mdv_words.specs.declared.command.Command.TheVariants.{Create}
+use Rattle.mdv_words.specs.declared.command.Command.TheVariants.{AddPlaces}
 use Rattle.mdv_theorem.specs.Exchanges.{Asks, Exchange, IsOn, ShowsThere, exchanges_by}
 use Rattle.mdv_theorem.specs.Observed.{HaveAnswered, MostAnswered, VolumesStay}
 use Rattle.mdv_theorem.specs.Running.{AllAnswered, Running}
@@ -39,10 +39,10 @@ use Rattle.mdv_theorem.proofs.Tables.{IsCarried, Keeps, NeverBlind, Offers, keep
 use Rattle.mdv_store.specs.Opened.{Opened}
 
 -- a line that makes a database shows no volume
-never_shows : (one : Exchange) (volume : VolId) (slices : List SliceName) (force : Bool) (count blocks : ℕ) → Asks one (Create slices force count blocks) → ShowsThere volume one → ⊥
+never_shows : (one : Exchange) (volume : VolId) (slices : List SliceName) (force : Bool) (count blocks : ℕ) → Asks one (AddPlaces slices force count blocks) → ShowsThere volume one → ⊥
 never_shows one volume slices force count blocks asks shows =
-    let same : Exec shows.command ≡ Exec (Create slices force count blocks) = one_line one.text (Exec shows.command) (Exec (Create slices force count blocks)) shows.asks asks in
-    let one_command : shows.command ≡ Create slices force count blocks = cc (same) in
+    let same : Exec shows.command ≡ Exec (AddPlaces slices force count blocks) = one_line one.text (Exec shows.command) (Exec (AddPlaces slices force count blocks)) shows.asks asks in
+    let one_command : shows.command ≡ AddPlaces slices force count blocks = cc (same) in
     subst (IsOn volume) one_command shows.on
 
 module _ (drives : Geometry) (name : List ℕ) (before : List Ran) (script : Script) (sound : IsSound drives) (of_table : Contains drives.hosts name) (run : Running drives name before script) (here : List Exchange) (one : Exchange) (at : Reached run here one) where

@@ -265,11 +265,15 @@ module _ (drives : Geometry) (name : List ℕ) (made : Image) (before : List Ran
       (Contains-append_right (told_by answered.first) (told_by (answered.own ++ answered.later)) deed behind)
 
   -- A database whose creation was told is found, for a table of it was written.
-  pub created_written : (one : Exchange) (slices : List SliceName) (force : Bool) (count blocks : ℕ) → Contains (exchanges_by name before) one → Asks one (command.Create slices force count blocks) → IsTold one ok_line → is_firm database ≡ true
-  created_written one slices force count blocks has asks told = told_written None (log_told None (deed_among one (command.Create slices force count blocks) (Created own_key) (λ done acks. acks) has asks told))
+  pub created_written : (one : Exchange) (slices : List SliceName) (force : Bool) (count blocks : ℕ) → Contains (exchanges_by name before) one → Asks one (command.AddPlaces slices force count blocks) → IsTold one ok_line → is_firm database ≡ true
+  created_written one slices force count blocks has asks told = told_written None (log_told None (deed_among one (command.AddPlaces slices force count blocks) (Created own_key) (λ done acks. acks) has asks told))
 
-  pub created_found : (one : Exchange) (slices : List SliceName) (force : Bool) (count blocks : ℕ) → Contains (exchanges_by name before) one → Asks one (command.Create slices force count blocks) → IsTold one ok_line → HasNoTableOn own.drives own_key (last t) → ⊥
+  pub created_found : (one : Exchange) (slices : List SliceName) (force : Bool) (count blocks : ℕ) → Contains (exchanges_by name before) one → Asks one (command.AddPlaces slices force count blocks) → IsTold one ok_line → HasNoTableOn own.drives own_key (last t) → ⊥
   created_found one slices force count blocks has asks told = firm_found (created_written one slices force count blocks has asks told)
+
+  -- so is one that an entry says
+  pub listed_found : (one : Exchange) (number : ℕ) (force : Bool) → Contains (exchanges_by name before) one → Asks one (command.AddListed number force) → IsTold one ok_line → HasNoTableOn own.drives own_key (last t) → ⊥
+  listed_found one number force has asks told = firm_found (told_written None (log_told None (deed_among one (command.AddListed number force) (Created own_key) (λ done acks. acks) has asks told)))
 
   -- So is a volume whose making was told, on the slice that was named.
   pub stripe_found : (one : Exchange) (volume : VolId) (slice : SliceName) → Contains (exchanges_by name before) one → Asks one (command.MakeStripe volume slice) → IsTold one ok_line → IsFoundWith drives name t (HasStripe own.drives volume slice)
@@ -285,7 +289,9 @@ module _ (drives : Geometry) (name : List ℕ) (made : Image) (before : List Ran
 
   -- A volume that was shown to be there is found: there is a database, and each table that may be found of it has the volume.
   pub shown_found : (one : Exchange) (volume : VolId) (spelled : Command) → Contains (exchanges_by name before) one → Asks one spelled → IsOn volume spelled → IsGranted one spelled → IsFoundWith drives name t (HasMap volume)
-  shown_found one volume (command.Create slices force count blocks) has asks on granted = absurd on
+  shown_found one volume (command.AddPlaces slices force count blocks) has asks on granted = absurd on
+  shown_found one volume (command.AddListed number force) has asks on granted = absurd on
+  shown_found one volume (command.DropPlaces slices force) has asks on granted = absurd on
   shown_found one volume (command.MakeStripe other slice) has asks on granted = subst (λ (n : VolId). IsFoundWith drives name t (HasMap n)) on (made_found one other slice has asks granted)
   shown_found one volume (command.Read other at count) has asks on granted =
       subst (λ (n : VolId). IsFoundWith drives name t (HasMap n)) on (read_found one other at count (values_reply granted.0 granted.1) has asks granted.2 (values_want granted.0 granted.1) (λ is. values_are_none granted.0 granted.1 is.0 is.1))

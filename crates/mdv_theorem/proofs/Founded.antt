@@ -37,7 +37,7 @@ use Rattle.mdv_volumes.proofs.Found.{AreLasting}
 use Rattle.mdv_volumes.proofs.Owners.{AreEach}
 use Rattle.mdv_volumes.specs.Databases.{log_of}
 use Rattle.mdv_volumes.specs.History.{History}
-use Rattle.mdv_words.specs.declared.command.Command.TheVariants.{Create}
+use Rattle.mdv_words.specs.declared.command.Command.TheVariants.{AddPlaces}
 use Rattle.mdv_theorem.specs.Exchanges.{Asks, Exchange, IsTold, exchanges, exchanges_by, exchanges_of}
 use Rattle.mdv_theorem.specs.Running.{IsMomentOf, Lived, Running, Runs, no_run, run_on}
 use Rattle.mdv_theorem.proofs.Counting.{AreMadeOn}
@@ -89,7 +89,7 @@ first_line : (host : Host) (stretch : Stretch) (n : ℕ) (from to : At) (left : 
 first_line host stretch n from to left (no_line bytes at) = inl (refl, refl)
 first_line host stretch n from to left (one_more bytes at mid end piece behind some line_told shown lines) = inr (record { mid = mid; piece = piece; behind = behind; parts = refl; line_told = line_told; after = lines })
 
-module _ (given : Given) (drives : Geometry) (name : List ℕ) (sound : IsSound drives) (of_table : Contains drives.hosts name) (image : Image) (made : Exchange) (slices : List SliceName) (force : Bool) (count blocks : ℕ) (asks : Asks made (Create slices force count blocks)) (told : IsTold made ok_line) where
+module _ (given : Given) (drives : Geometry) (name : List ℕ) (sound : IsSound drives) (of_table : Contains drives.hosts name) (image : Image) (made : Exchange) (slices : List SliceName) (force : Bool) (count blocks : ℕ) (asks : Asks made (AddPlaces slices force count blocks)) (told : IsTold made ok_line) where
   abbrev own : Host
   own = host_of drives name 0
 
@@ -101,7 +101,7 @@ module _ (given : Given) (drives : Geometry) (name : List ℕ) (sound : IsSound 
       let h = now drives name image ran t sound of_table life in
       let is = its drives name image ran t sound of_table life in
       let same : is_of o.identity r ≡ true = subst (λ (i : Identity). same_identity r.head.master.identity i ≡ true) shown.own.of_identity (same_identity_self r.head.master.identity) in
-      let version = shown_version own.drives (Local name) h.databases t is.history.stands.databases o.identity r same shown.own shown.slot o.mark o.table shown.newest in
+      let version = shown_version own.drives (Local name) h.databases t is.history.stands.databases is.history.stands.anew o.identity r same shown.own shown.slot o.mark o.table shown.newest in
       let alike = alike_from_new own.drives (Local name) is.history.es (its_course drives name image ran t sound of_table life) (runs_keep drives name ran is.history.es is.history.come) in
       record {
         places = places;

@@ -31,7 +31,7 @@ use Rattle.mdv_volumes.proofs.Tables.{tables_lie}
 use Rattle.mdv_words.specs.Line as words
 use Rattle.mdv_words.specs.Line.{IsLine, Line}
 use Rattle.mdv_words.specs.declared.command.Command.{Command}
-use Rattle.mdv_words.specs.declared.command.Command.TheVariants.{Create, Print, Read, Write}
+use Rattle.mdv_words.specs.declared.command.Command.TheVariants.{AddListed, AddPlaces, DropPlaces, Print, Read, Write}
 use Rattle.mdv_words.specs.declared.command.Command.TheVariants as command
 use Rattle.mdv_theorem.specs.Exchanges.{Asks, Exchange, IsTold, MayBeWritten, MayHaveBegun}
 use Rattle.mdv_theorem.proofs.Agreeing.{own_sound}
@@ -167,7 +167,9 @@ module _ (drives : Geometry) (name : List ℕ) where
         contains_one e = contains_first e []
 
       pub command_leaves : (spelled : Command) → Asks one spelled → MayHaveBegun one → WritesOnly its_host (asked_by its_host spelled) memory t u → AreLeft (one ∷ []) t u
-      command_leaves (Create slices force count blocks) asks begun wrote = site_leaves (one ∷ []) t u wrote.0
+      command_leaves (AddPlaces slices force count blocks) asks begun wrote = site_leaves (one ∷ []) t u wrote.0
+      command_leaves (AddListed number force) asks begun wrote = site_leaves (one ∷ []) t u wrote.0
+      command_leaves (DropPlaces slices force) asks begun wrote = none_leaves (one ∷ []) t u wrote
       command_leaves (command.MakeStripe other slice) asks begun wrote = site_leaves (one ∷ []) t u (λ d b out. wrote d b (into.1 d b out))
       command_leaves (Read other at count) asks begun wrote = none_leaves (one ∷ []) t u wrote
       command_leaves (Write other at new) asks begun (inl kept) = none_leaves (one ∷ []) t u kept

@@ -143,7 +143,9 @@ module _ (drives : Geometry) (name : List ℕ) where
     same_ask : (spelled : Line) → asked_by_line its spelled ≡ asked_by_line host spelled
     same_ask Boot = refl
     same_ask (Tab lines) = refl
-    same_ask (Exec (command.Create slices force count blocks)) = refl
+    same_ask (Exec (command.AddPlaces slices force count blocks)) = refl
+    same_ask (Exec (command.AddListed number force)) = refl
+    same_ask (Exec (command.DropPlaces slices force)) = refl
     same_ask (Exec (command.MakeStripe volume slice)) = refl
     same_ask (Exec (command.Read volume at count)) = refl
     same_ask (Exec (command.Write volume at block)) = refl

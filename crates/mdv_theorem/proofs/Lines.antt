@@ -55,7 +55,9 @@ module _ (host : Host) where
   spelled_begins : (one : Exchange) (spelled : Line) → IsLine one.text spelled → MayHaveBegun one → (deed : Deed) → Contains (deeds (asked_by_line host spelled)) deed → MayBegin (key_of host) deed one
   spelled_begins one Boot is begun deed has = absurd (never_in deed has)
   spelled_begins one (Tab lines) is begun deed has = absurd (never_in deed has)
-  spelled_begins one (Exec (command.Create slices force count blocks)) is begun deed has = subst (λ (d : Deed). MayBegin (key_of host) d one) (the_only _ deed has) refl
+  spelled_begins one (Exec (command.AddPlaces slices force count blocks)) is begun deed has = subst (λ (d : Deed). MayBegin (key_of host) d one) (the_only _ deed has) refl
+  spelled_begins one (Exec (command.AddListed number force)) is begun deed has = subst (λ (d : Deed). MayBegin (key_of host) d one) (the_only _ deed has) refl
+  spelled_begins one (Exec (command.DropPlaces slices force)) is begun deed has = absurd (never_in deed has)
   spelled_begins one (Exec (command.MakeStripe volume slice)) is begun deed has = subst (λ (d : Deed). MayBegin (key_of host) d one) (the_only _ deed has) (record { asks = is; begun = begun })
   spelled_begins one (Exec (command.Read volume at count)) is begun deed has = absurd (never_in deed has)
   spelled_begins one (Exec (command.Write volume at block)) is begun deed has = subst (λ (d : Deed). MayBegin (key_of host) d one) (the_only _ deed has) (block, refl, record { asks = is; begun = begun })

@@ -150,7 +150,7 @@ module _ (host : Host) (is_host : IsOfTable host) where
     -- a boot: what it opens, and why it is over
     module _ (kept next : Kept) (answer : Answer) where
       abbrev By : BootEnd → Drives → Type 0
-      By end up = (is_memory end ≡ true) ⊎ ((survey : Survey) × IsReadOf calls host kept.content up end survey × IsEndBy calls (λ hand table gone. WritesBy host.drives host.site.key kept.content next.content hand.identity hand.number hand.seats table gone) host.site survey end)
+      By end up = (is_memory end ≡ true) ⊎ ((survey : Survey) × IsReadOf calls host kept.content up end survey × IsEndBy calls (λ hand table progress. WritesBy host.drives host.site.key kept.content next.content hand.identity hand.number hand.seats table progress) host.site survey end)
 
       open_end : (end : BootEnd) (up : Drives) (clean : Bool) → By end up → answer ≡ answered_by end → (answer ≡ accepted → next.memory ≡ booted_with (opened_by end) up clean kept.memory.begun) → IsSaid answer → Holds next
       open_end (end.Adopted o) up clean (inl never) is memory said = absurd (false≢true never)

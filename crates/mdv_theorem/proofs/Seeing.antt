@@ -34,6 +34,7 @@ use Rattle.mdv_theorem.specs.Running.{AllAnswered, Running}
 use Rattle.mdv_theorem.proofs.Adopted.{IsBlind, blind_bare}
 use Rattle.mdv_theorem.proofs.Agreeing.{own_sound}
 use Rattle.mdv_theorem.proofs.Counting.{AreMadeOn, most_up}
+use Rattle.mdv_databases.proofs.Going.{log_anew}
 use Rattle.mdv_databases.proofs.Meeting.{databases_meet}
 use Rattle.mdv_theorem.proofs.Steps.{Failed, Reached}
 use Rattle.mdv_theorem.proofs.Sure.{open_lasting}
@@ -75,7 +76,7 @@ module _ (drives : Geometry) (name : List ℕ) (before : List Ran) (script : Scr
     most_sees : (h : History) (t : Tale) (content : Image) → StandsAt host h t → AreLasting host.drives (ListsThese places) (log_of h.databases (key_of host)) → IsSame content (contents t) → (calls : Outcomes) → IsOfRun calls → IsBlind host calls content → ⊥
     most_sees h t content stands lasting reads calls unfailed blind =
         let up = most_up host its_sound refl slices places most.chosen blind.up made (λ slice at is has. by slice at is has (blind.up at.drive.0) refl) most.most in
-        let found = databases_meet host.drives h.databases (key_of host) places blind.up t stands.databases lasting.firm (λ v may. lasting.all v may) up in
+        let found = databases_meet host.drives h.databases (key_of host) places blind.up t stands.databases (log_anew h.databases (key_of host) stands.anew).lives lasting.firm (λ v may. lasting.all v may) up in
         let same : contents t ≡ content = λ i drive block. reads drive block i in
         let none = blind.none found.0 (subst (λ (c : Image). IsFoundIn host.drives host.site c found.0) same found.1) found.2 in
         let shown = found.3 in

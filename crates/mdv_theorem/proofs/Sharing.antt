@@ -4,8 +4,8 @@ use Rattle.mdv_base.specs.declared.mark.Identity.{Identity}
 use Rattle.mdv_base.specs.declared.mark.Mark.{Mark}
 use Rattle.mdv_base.specs.declared.name.Key.{Key}
 use Rattle.mdv_databases.specs.Going.{IsCurrentOf}
-use Rattle.mdv_databases.specs.Standing.{Stand}
-use Rattle.mdv_databases.proofs.Booting.{shown_current}
+use Rattle.mdv_databases.specs.Standing.{AreAnew, Stand}
+use Rattle.mdv_databases.proofs.Booting.{anew_current}
 use Rattle.mdv_databases.proofs.Lists.{current_in, current_key}
 use Rattle.mdv_name.specs.declared.geometry.Geometry.{Geometry}
 use Rattle.mdv_quorum.specs.Standing.{newest_at}
@@ -114,13 +114,13 @@ pub record HasVersion (lg : Log) (table : Table) : Type 0 where
   pub one_of : Contains lg.family version
   pub is_table : version.table ≡ table
 
-module _ (g : Geometry) (key : Key) (all : List Database) (t : Tale) (stand : Stand g all t) (identity : Identity) (r : Replica) (its : is_of identity r ≡ true) (own : IsOwn (Spells g) (site_of g key) identity r.line r.number (last t) r.first r.head)
+module _ (g : Geometry) (key : Key) (all : List Database) (t : Tale) (stand : Stand g all t) (anew : AreAnew all) (identity : Identity) (r : Replica) (its : is_of identity r ≡ true) (own : IsOwn (Spells g) (site_of g key) identity r.line r.number (last t) r.first r.head)
     (slot : Slot) (mark : Mark) (table : Table) (newest : IsNewestOf (Spells g) (at_of r) (last t r.line.at.drive.0) r.head slot mark table) where
   abbrev site : Site
   site = site_of g key
 
   current : IsCurrentOf all key identity
-  current = shown_current g all key identity t stand (record { replica = r; found = own.found; its = its; shown = open_shows r.head slot mark newest.shows.bytes newest.shows.gate })
+  current = anew_current g all key identity t stand anew (record { replica = r; found = own.found; its = its; shown = open_shows r.head slot mark newest.shows.bytes newest.shows.gate })
 
   abbrev d : Database
   d = current.database

@@ -15,7 +15,7 @@ use Rattle.mdv_engine_law.specs.Commands.{IsAllowed, case_of}
 use Rattle.mdv_engine_law.proofs.Allowed.{allowed_clean, allowed_none}
 use Rattle.mdv_run_law.proofs.Placing.{never_shut}
 use Rattle.mdv_base.specs.declared.drive.SliceName.{SliceName}
-use Rattle.mdv_words.specs.declared.command.Command.TheVariants.{Create}
+use Rattle.mdv_words.specs.declared.command.Command.TheVariants.{AddPlaces}
 use Rattle.mdv_theorem.proofs.Adopted.{IsBlind}
 use Rattle.mdv_theorem.proofs.Agreeing.{own_sound}
 use Rattle.mdv_theorem.proofs.Parting.{cut}
@@ -108,15 +108,15 @@ module _ (drives : Geometry) (name : List ℕ) (before : List Ran) (script : Scr
 
     -- where what is open is one of these, or a boot would adopt one, no line makes a database
     pub never_made : (Q : Table → Type 0) → IsCarried host.drives Q → (from : Kept) (es : List Exchange) → Keeps host Q from → Steps host (Failed run) from es at.kept → (made : Exchange) → Contains es made
-        → (slices : List SliceName) (force : Bool) (count blocks : ℕ) → Asks made (Create slices force count blocks) → IsTold made ok_line → ⊥
+        → (slices : List SliceName) (force : Bool) (count blocks : ℕ) → Asks made (AddPlaces slices force count blocks) → IsTold made ok_line → ⊥
     never_made Q carried from es keeps steps made has slices force count blocks asks told =
         let c = cut es made has in
         let parts = steps_cut host (Failed run) c.front (made ∷ c.rest) from at.kept (subst (λ (l : List Exchange). Steps host (Failed run) from l at.kept) c.is steps) in
         let step = stepped host (Failed run) parts.0 at.kept made c.rest parts.2 in
         let to = keeps_steps host its_sound refl Q carried (Failed run) from parts.0 c.front keeps parts.1 in
-        let done = granted_done host step.calls step.kept step.mid made step.answer step.comes step.said step.told (Create slices force count blocks) asks told in
+        let done = granted_done host step.calls step.kept step.mid made step.answer step.comes step.said step.told (AddPlaces slices force count blocks) asks told in
         by step.kept (keeps_steps host its_sound refl Q carried (Failed run) parts.0 step.kept [] to step.before) done.0
       where
-        by : (kept : Kept) → Keeps host Q kept → IsAllowed (case_of host kept) (Create slices force count blocks) → ⊥
+        by : (kept : Kept) → Keeps host Q kept → IsAllowed (case_of host kept) (AddPlaces slices force count blocks) → ⊥
         by kept (up o opened is) free = never_shut kept.memory.opened o (allowed_none (case_of host kept) slices force count blocks free) opened
         by kept (off none down offers) free = never_clean kept.memory.clean down (allowed_clean (case_of host kept) slices force count blocks free)

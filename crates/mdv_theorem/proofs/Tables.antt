@@ -8,6 +8,8 @@ use Rattle.mdv_base.specs.declared.name.VolId.{VolId}
 use Rattle.mdv_base.specs.declared.drive.SliceName.{SliceName}
 use Rattle.mdv_base.specs.declared.refusal.Refusal.{Refusal}
 use Rattle.mdv_base.specs.declared.refusal.Refusal.TheVariants.{IoFault, OutOfMemory, ReplicaFull}
+use Rattle.mdv_words.specs.Listed.{Replicas, as_listed, listed_by, meant}
+use Rattle.mdv_run_law.specs.Below.{Entry}
 use Rattle.mdv_engine_law.specs.Answers.{accepted, refusing}
 use Rattle.mdv_engine_law.specs.Commands as came
 use Rattle.mdv_engine_law.specs.Commands.{CameTo, ComesTo, Effect, Fault, IsAllowed, KeepsTab, Wanting, case_of}
@@ -45,7 +47,7 @@ use Rattle.mdv_words.proofs.Lines.{one_line}
 use Rattle.mdv_words.specs.Line as words
 use Rattle.mdv_words.specs.Line.{IsLine, Line}
 use Rattle.mdv_words.specs.declared.command.Command.{Command}
-use Rattle.mdv_words.specs.declared.command.Command.TheVariants.{Create, Print, Read, Write}
+use Rattle.mdv_words.specs.declared.command.Command.TheVariants.{AddListed, AddPlaces, DropPlaces, Print, Read, Write}
 use Rattle.mdv_words.specs.declared.command.Command.TheVariants as command
 use Rattle.mdv_theorem.specs.Exchanges.{Asks, Exchange, IsGranted, IsOn, IsTold, ShowsThere}
 use Rattle.mdv_theorem.proofs.Steps.{Steps, no_step, one_step, skipped, told_once, sure_first}
@@ -172,7 +174,7 @@ module _ (host : Host) (sound : IsSound host.drives) (sees : SeesOwn host) where
   -- what a boot comes to that is answered
   pub has_come_up : (calls : Outcomes) (kept next : Kept) (answer : Answer) → IsRebooted calls host kept answer next → IsSaid answer → HasComeUp host calls kept next
   has_come_up calls kept next answer r said = by r.end r.by r.beside r.answer_is r.memory where
-    by : (e : BootEnd) → (is_memory e ≡ true) ⊎ ((survey : Survey) × IsReadOf calls host kept.content r.up e survey × IsEndBy calls (λ hand of gone. WritesBy host.drives host.site.key kept.content next.content hand.identity hand.number hand.seats of gone) host.site survey e) → IsSameBeside (boot_area host.site (has_written e)) kept.content next.content
+    by : (e : BootEnd) → (is_memory e ≡ true) ⊎ ((survey : Survey) × IsReadOf calls host kept.content r.up e survey × IsEndBy calls (λ hand of progress. WritesBy host.drives host.site.key kept.content next.content hand.identity hand.number hand.seats of progress) host.site survey e) → IsSameBeside (boot_area host.site (has_written e)) kept.content next.content
         → answer ≡ answered_by e → (answer ≡ accepted → next.memory ≡ booted_with (opened_by e) r.up r.clean kept.memory.begun) → HasComeUp host calls kept next
     by (ending.Adopted o) (inl never) beside is memory = absurd (cc (never))
     by (ending.Adopted o) (inr (survey, read, a)) beside is memory = adopted o (ap (λ (m : Memory). m.opened) (memory is)) (adopts_of calls host kept.content next.content r.up survey o read a) beside
@@ -215,7 +217,7 @@ module _ (host : Host) (sound : IsSound host.drives) (sees : SeesOwn host) where
       by (adopted later now adopts beside) = rests later now (inl (offers.each later.table adopts)) beside
       by (empty none blind same) = falls blind none (not_clean kept next offers.found none same after) same
 
-    never_created : (slices : List SliceName) (force : Bool) (count blocks : ℕ) → IsAllowed (case_of host kept) (Create slices force count blocks) → ⊥
+    never_created : (slices : List SliceName) (force : Bool) (count blocks : ℕ) → IsAllowed (case_of host kept) (AddPlaces slices force count blocks) → ⊥
     never_created slices force count blocks free = never_shut kept.memory.opened o (allowed_none (case_of host kept) slices force count blocks free) opened
 
     committed : (volume : VolId) (slice : SliceName) (its : Opened) → its ≡ o → IsLine text (words.Exec (command.MakeStripe volume slice)) → answer ≡ accepted → IsAllowed (case_of host kept) (command.MakeStripe volume slice)
@@ -229,28 +231,51 @@ module _ (host : Host) (sound : IsSound host.drives) (sees : SeesOwn host) where
         (subst (λ (t : Table). IsLater host.drives text answer o.table t) (sym table_is) (inr (volume, slice, spelled, ok, after)))
         (λ drive block out. made.beside drive block (subst (λ (x : Opened). seats_area x.seats drive block ≡ false) (sym same) (outside_open host sees kept o sure opened drive block out)))
 
-    open_done : (cmd : Command) → IsLine text (words.Exec cmd) → IsAllowed (case_of host kept) cmd → Effect calls host kept cmd answer next → Line_of
-    open_done (Create slices force count blocks) spelled free effect = absurd (never_created slices force count blocks free)
+    -- the line spells the command, or it makes a database
+    abbrev Spelled : Command → Type 0
+    Spelled (AddPlaces slices force count blocks) = Unit {0}
+    Spelled cmd = IsLine text (words.Exec cmd)
+
+    spelled_as : (entries : List Entry) (cmd : Command) → IsLine text (words.Exec cmd) → Spelled (meant entries cmd)
+    spelled_as entries (AddPlaces slices force count blocks) spelled = tt
+    spelled_as entries (AddListed number force) spelled = by (listed_by entries number) where
+      by : (said : Option Replicas) → Spelled (as_listed number force said)
+      by (Some r) = tt
+      by None = spelled
+    spelled_as entries (DropPlaces slices force) spelled = spelled
+    spelled_as entries (command.MakeStripe volume slice) spelled = spelled
+    spelled_as entries (Read volume at count) spelled = spelled
+    spelled_as entries (Write volume at block) spelled = spelled
+    spelled_as entries (Print names) spelled = spelled
+
+    open_done : (cmd : Command) → Spelled cmd → IsAllowed (case_of host kept) cmd → Effect calls host kept cmd answer next → Line_of
+    open_done (AddPlaces slices force count blocks) spelled free effect = absurd (never_created slices force count blocks free)
+    open_done (AddListed number force) spelled free effect = absurd effect
+    open_done (DropPlaces slices force) spelled free effect = absurd effect
     open_done (command.MakeStripe volume slice) spelled free (ok, its, also, made) = committed volume slice its (opened_twice kept.memory.opened o its opened also) spelled ok free made
     open_done (Read volume at count) spelled free effect = stays effect.4
     open_done (Write volume at block) spelled free (calm, place, there, ok, memory, put) = writes volume at block spelled memory place there (may_be_put place (block ∷ []) kept.content next.content put) (inl ok)
     open_done (Print names) spelled free effect = stays effect.4
 
-    open_faulted : (cmd : Command) → IsLine text (words.Exec cmd) → IsAllowed (case_of host kept) cmd → answer ≡ refusing IoFault → Fault calls host kept cmd next → Line_of
-    open_faulted (Create slices force count blocks) spelled free told fault = absurd (never_created slices force count blocks free)
+    open_faulted : (cmd : Command) → Spelled cmd → IsAllowed (case_of host kept) cmd → answer ≡ refusing IoFault → Fault calls host kept cmd next → Line_of
+    open_faulted (AddPlaces slices force count blocks) spelled free told fault = absurd (never_created slices force count blocks free)
+    open_faulted (AddListed number force) spelled free told fault = absurd fault
+    open_faulted (DropPlaces slices force) spelled free told fault = absurd fault
     open_faulted (command.MakeStripe volume slice) spelled free told fault = absurd fault
     open_faulted (Read volume at count) spelled free told fault = stays fault.3
     open_faulted (Write volume at block) spelled free told (place, failed, there, memory, put) = writes volume at block spelled memory place there put (inr told)
     open_faulted (Print names) spelled free told fault = absurd fault
 
     open_wanting : (cmd : Command) → Wanting host kept cmd next → Line_of
-    open_wanting (Create slices force count blocks) wants = absurd (never_created slices force count blocks wants.0)
+    open_wanting (AddPlaces slices force count blocks) wants = absurd (never_created slices force count blocks wants.0)
+    open_wanting (AddListed number force) wants = absurd wants
+    open_wanting (DropPlaces slices force) wants = absurd wants
     open_wanting (command.MakeStripe volume slice) wants = stays wants.1
     open_wanting (Read volume at count) wants = stays wants.1
     open_wanting (Write volume at block) wants = absurd wants
     open_wanting (Print names) wants = stays wants.1
 
-    open_came : (cmd : Command) → IsLine text (words.Exec cmd) → CameTo calls host kept cmd answer next → IsSaid answer → Line_of
+    open_came : (cmd : Command) → Spelled cmd → CameTo calls host kept cmd answer next → IsSaid answer → Line_of
     open_came cmd spelled (came.refused quiet r why left) said = stays left.1
     open_came cmd spelled (came.wanting quiet told wants) said = open_wanting cmd wants
     open_came cmd spelled (came.done free effect) said = open_done cmd spelled free effect
@@ -265,7 +290,7 @@ module _ (host : Host) (sound : IsSound host.drives) (sees : SeesOwn host) where
     open_comes : (spelled : Line) → IsLine text spelled → ComesTo calls host kept spelled answer next → IsSaid answer → Line_of
     open_comes words.Boot spelled comes said = open_boot comes said
     open_comes (words.Tab lines) spelled comes said = open_tab lines comes
-    open_comes (words.Exec cmd) spelled comes said = open_came cmd spelled comes said
+    open_comes (words.Exec cmd) spelled comes said = open_came (meant kept.memory.entries cmd) (spelled_as kept.memory.entries cmd spelled) comes said
 
     pub open_line : IsAnswered calls host kept text answer next → IsSaid answer → OpenLine host calls text answer o kept next
     open_line (inl (none, quiet, refused)) said = stays refused.1
@@ -281,23 +306,29 @@ module _ (host : Host) (sound : IsSound host.drives) (sees : SeesOwn host) where
     idles same = idle (ap (λ (m : Memory). m.opened) same.memory ∙ none) (ap (λ (m : Memory). m.clean) same.memory) same.content
 
     shut_done : (cmd : Command) → IsAllowed (case_of host kept) cmd → Effect calls host kept cmd answer next → Shut_line
-    shut_done (Create slices force count blocks) free (ok, made) = let now : next.memory.opened ≡ Some made.opened = ap (λ (m : Memory). m.opened) made.memory in created (allowed_clean (case_of host kept) slices force count blocks free)
+    shut_done (AddPlaces slices force count blocks) free (ok, made) = let now : next.memory.opened ≡ Some made.opened = ap (λ (m : Memory). m.opened) made.memory in created (allowed_clean (case_of host kept) slices force count blocks free)
         ((λ o is. subst (λ (x : Opened). x.table.plan.volumes ≡ []) (opened_twice next.memory.opened o made.opened is now) (ap (λ (x : Opened). x.table.plan.volumes) made.made.is)), (λ gone. absurd (never_shut next.memory.opened made.opened gone now)))
+    shut_done (AddListed number force) free effect = absurd effect
+    shut_done (DropPlaces slices force) free effect = absurd effect
     shut_done (command.MakeStripe volume slice) free (ok, its, opened, made) = absurd (never_shut kept.memory.opened its none opened)
     shut_done (Read volume at count) free effect = idles effect.4
     shut_done (Write volume at block) free (calm, place, there, ok, memory, put) = absurd (never_shut kept.memory.opened there.lies.0 none there.lies.1)
     shut_done (Print names) free (calm, its, opened, told, same) = absurd (never_shut kept.memory.opened its none opened)
 
     shut_faulted : (cmd : Command) → IsAllowed (case_of host kept) cmd → Fault calls host kept cmd next → Shut_line
-    shut_faulted (Create slices force count blocks) free unmade = let gone : next.memory.opened ≡ None = ap (λ (m : Memory). m.opened) unmade.memory ∙ none in created (allowed_clean (case_of host kept) slices force count blocks free)
+    shut_faulted (AddPlaces slices force count blocks) free unmade = let gone : next.memory.opened ≡ None = ap (λ (m : Memory). m.opened) unmade.memory ∙ none in created (allowed_clean (case_of host kept) slices force count blocks free)
         ((λ o is. absurd (never_shut next.memory.opened o gone is)), (λ still. unmade.content))
+    shut_faulted (AddListed number force) free fault = absurd fault
+    shut_faulted (DropPlaces slices force) free fault = absurd fault
     shut_faulted (command.MakeStripe volume slice) free fault = absurd fault
     shut_faulted (Read volume at count) free fault = idles fault.3
     shut_faulted (Write volume at block) free (place, failed, there, memory, put) = absurd (never_shut kept.memory.opened there.lies.0 none there.lies.1)
     shut_faulted (Print names) free fault = absurd fault
 
     shut_wanting : (cmd : Command) → Wanting host kept cmd next → Shut_line
-    shut_wanting (Create slices force count blocks) (free, unbegun) = idle (ap (λ (m : Memory). m.opened) unbegun.memory ∙ none) (ap (λ (m : Memory). m.clean) unbegun.memory) unbegun.content
+    shut_wanting (AddPlaces slices force count blocks) (free, unbegun) = idle (ap (λ (m : Memory). m.opened) unbegun.memory ∙ none) (ap (λ (m : Memory). m.clean) unbegun.memory) unbegun.content
+    shut_wanting (AddListed number force) wants = absurd wants
+    shut_wanting (DropPlaces slices force) wants = absurd wants
     shut_wanting (command.MakeStripe volume slice) wants = idles wants.1
     shut_wanting (Read volume at count) wants = idles wants.1
     shut_wanting (Write volume at block) wants = absurd wants
@@ -318,7 +349,7 @@ module _ (host : Host) (sound : IsSound host.drives) (sees : SeesOwn host) where
     shut_comes : (spelled : Line) → ComesTo calls host kept spelled answer next → IsSaid answer → Shut_line
     shut_comes words.Boot comes said = booted comes
     shut_comes (words.Tab lines) comes said = shut_tab lines comes
-    shut_comes (words.Exec cmd) comes said = shut_came cmd comes said
+    shut_comes (words.Exec cmd) comes said = shut_came (meant kept.memory.entries cmd) comes said
 
     pub shut_line : IsAnswered calls host kept text answer next → IsSaid answer → ShutLine host calls answer kept next
     shut_line (inl (free, quiet, refused)) said = idles refused.1
@@ -405,7 +436,9 @@ open_keeps host P kept o (off none down offers) opened = absurd (never_shut kept
 
 -- what was told of a command that was granted is no refusal
 pub granted_is_none : (one : Exchange) (cmd : Command) (r : Refusal) → IsGranted one cmd → IsTold one (refusal_line r) → ⊥
-granted_is_none one (Create slices force count blocks) r granted told = ok_is_none r (told_once one ok_line (refusal_line r) granted told)
+granted_is_none one (AddPlaces slices force count blocks) r granted told = ok_is_none r (told_once one ok_line (refusal_line r) granted told)
+granted_is_none one (AddListed number force) r granted told = ok_is_none r (told_once one ok_line (refusal_line r) granted told)
+granted_is_none one (DropPlaces slices force) r granted told = ok_is_none r (told_once one ok_line (refusal_line r) granted told)
 granted_is_none one (command.MakeStripe volume slice) r granted told = ok_is_none r (told_once one ok_line (refusal_line r) granted told)
 granted_is_none one (Read volume at count) r (from, blocks, values) told = values_are_none from blocks r (told_once one (values_reply from blocks) (refusal_line r) values told)
 granted_is_none one (Write volume at block) r granted told = ok_is_none r (told_once one ok_line (refusal_line r) granted told)
@@ -415,19 +448,19 @@ module _ (host : Host) (calls : Outcomes) (kept next : Kept) (one : Exchange) (a
   unrefusing : (cmd : Command) (r : Refusal) → IsGranted one cmd → answer ≡ refusing r → ⊥
   unrefusing cmd r granted is = granted_is_none one cmd r granted (subst (λ (a : Answer). IsTold one (text_of a)) is told)
 
-  came_done : (cmd : Command) → IsGranted one cmd → CameTo calls host kept cmd answer next → IsAllowed (case_of host kept) cmd × Effect calls host kept cmd answer next
-  came_done cmd granted (came.refused quiet r why left) = absurd (unrefusing cmd r granted left.0)
-  came_done cmd granted (came.wanting quiet is wants) = absurd (unrefusing cmd OutOfMemory granted is)
-  came_done cmd granted (came.done free effect) = (free, effect)
-  came_done cmd granted (came.faulted free is fault) = absurd (unrefusing cmd IoFault granted is)
-  came_done cmd granted (came.over end free over gives) = absurd (let never : ⊥ = subst IsSaid over said in never)
+  came_done : (cmd means : Command) → IsGranted one cmd → CameTo calls host kept means answer next → IsAllowed (case_of host kept) means × Effect calls host kept means answer next
+  came_done cmd means granted (came.refused quiet r why left) = absurd (unrefusing cmd r granted left.0)
+  came_done cmd means granted (came.wanting quiet is wants) = absurd (unrefusing cmd OutOfMemory granted is)
+  came_done cmd means granted (came.done free effect) = (free, effect)
+  came_done cmd means granted (came.faulted free is fault) = absurd (unrefusing cmd IoFault granted is)
+  came_done cmd means granted (came.over end free over gives) = absurd (let never : ⊥ = subst IsSaid over said in never)
 
-  -- a command that was granted was done
-  pub granted_done : (cmd : Command) → Asks one cmd → IsGranted one cmd → IsAllowed (case_of host kept) cmd × Effect calls host kept cmd answer next
+  -- a command that was granted was done, by what it means
+  pub granted_done : (cmd : Command) → Asks one cmd → IsGranted one cmd → IsAllowed (case_of host kept) (meant kept.memory.entries cmd) × Effect calls host kept (meant kept.memory.entries cmd) answer next
   granted_done cmd asks granted = by comes where
-    by : IsAnswered calls host kept one.text answer next → IsAllowed (case_of host kept) cmd × Effect calls host kept cmd answer next
+    by : IsAnswered calls host kept one.text answer next → IsAllowed (case_of host kept) (meant kept.memory.entries cmd) × Effect calls host kept (meant kept.memory.entries cmd) answer next
     by (inl (none, quiet, refused)) = absurd (none (words.Exec cmd) asks)
-    by (inr (inl (spelled, is, does))) = came_done cmd granted (subst (λ (l : Line). ComesTo calls host kept l answer next) (one_line one.text spelled (words.Exec cmd) is asks) does)
+    by (inr (inl (spelled, is, does))) = came_done cmd (meant kept.memory.entries cmd) granted (subst (λ (l : Line). ComesTo calls host kept l answer next) (one_line one.text spelled (words.Exec cmd) is asks) does)
     by (inr (inr (quiet, refused))) = absurd (unrefusing cmd OutOfMemory granted refused.0)
 
   module _ (volume : VolId) (after : IsSure host next) where
@@ -450,8 +483,10 @@ module _ (host : Host) (calls : Outcomes) (kept next : Kept) (one : Exchange) (a
         let run = map_is_run host.drives made.opened.table other lies.0 lies.1 in
         has_volume other run.0 run.1 run.2 same (made.opened, now, subst (λ (v : Map). IsMapOf host.drives made.opened.table other v) run.3 lies.1)
 
-    on_there : (cmd : Command) → IsOn volume cmd → IsAllowed (case_of host kept) cmd × Effect calls host kept cmd answer next → HasThere host volume next
-    on_there (Create slices force count blocks) on done = absurd on
+    on_there : (cmd : Command) → IsOn volume cmd → IsAllowed (case_of host kept) (meant kept.memory.entries cmd) × Effect calls host kept (meant kept.memory.entries cmd) answer next → HasThere host volume next
+    on_there (AddPlaces slices force count blocks) on done = absurd on
+    on_there (AddListed number force) on done = absurd on
+    on_there (DropPlaces slices force) on done = absurd on
     on_there (command.MakeStripe other slice) on (free, (ok, its, opened, made)) = made_there other slice its on free opened made
     on_there (Read other at count) on (free, (calm, from, there, values, stays)) = has_volume other from.drive there.first there.blocks on (moved other from.drive there.first there.blocks stays.memory there.lies)
     on_there (Write other at block) on (free, (calm, place, there, ok, memory, put)) = has_volume other place.drive there.first there.blocks on (moved other place.drive there.first there.blocks memory there.lies)

@@ -13,7 +13,7 @@ use Rattle.mdv_status.specs.Telling.{replies_in}
 use Rattle.mdv_status.specs.Values.{significant, values_reply}
 use Rattle.mdv_words.specs.Line.{Exec, IsLine}
 use Rattle.mdv_words.specs.declared.command.Command.{Command}
-use Rattle.mdv_words.specs.declared.command.Command.TheVariants.{Create, MakeStripe, Print, Read, Write}
+use Rattle.mdv_words.specs.declared.command.Command.TheVariants.{AddListed, AddPlaces, DropPlaces, MakeStripe, Print, Read, Write}
 
 -- a line, and the whole reply to it, where one was told
 pub record Exchange : Type 0 where
@@ -48,7 +48,9 @@ IsTold one reply = one.reply ≡ Some reply
 
 -- the command makes the volume, reads it or writes it
 abbrev pub IsOn : VolId → Command → Type 0
-IsOn volume (Create slices force count blocks) = ⊥
+IsOn volume (AddPlaces slices force count blocks) = ⊥
+IsOn volume (AddListed number force) = ⊥
+IsOn volume (DropPlaces slices force) = ⊥
 IsOn volume (MakeStripe other slice) = other ≡ volume
 IsOn volume (Read other at count) = other ≡ volume
 IsOn volume (Write other at block) = other ≡ volume
@@ -56,7 +58,9 @@ IsOn volume (Print names) = ⊥
 
 -- the command makes the volume, reads it or writes it, or prints it and nothing else
 abbrev pub IsAbout : VolId → Command → Type 0
-IsAbout volume (Create slices force count blocks) = ⊥
+IsAbout volume (AddPlaces slices force count blocks) = ⊥
+IsAbout volume (AddListed number force) = ⊥
+IsAbout volume (DropPlaces slices force) = ⊥
 IsAbout volume (MakeStripe other slice) = other ≡ volume
 IsAbout volume (Read other at count) = other ≡ volume
 IsAbout volume (Write other at block) = other ≡ volume

@@ -29,10 +29,10 @@ use Rattle.mdv_shown.specs.Sites.{site_of}
 use Rattle.mdv_status.specs.Telling.{replies_in}
 use Rattle.mdv_status.specs.Values.{printed_reply, values_reply}
 use Rattle.mdv_words.specs.declared.command.Command.{Command}
-use Rattle.mdv_words.specs.declared.command.Command.TheVariants.{Create, Print, Read}
+use Rattle.mdv_words.specs.declared.command.Command.TheVariants.{Print, Read}
 use Rattle.mdv_theorem.specs.Exchanges.{Asks, Exchange, IsAbout, IsAcknowledged, IsTold, TellsBlock, exchanges_by, exchanges_of}
 use Rattle.mdv_theorem.specs.Running.{AllAnswered, HasAnswered, Lived, LivesOn, Running, Runs, WentOn, exchanges_now, ran_on}
-use Rattle.mdv_theorem.specs.Words.{HasBegun, HasDatabase, HeldAtFirst, IsMadeOn, IsOrWasWritten, IsThere, Listed, MayLie, listed_line}
+use Rattle.mdv_theorem.specs.Words.{HasBegun, HasDatabase, HeldAtFirst, IsMadeOn, IsOrWasWritten, IsThere, Listed, MakesDatabase, MayLie, listed_line}
 
 -- How a run may end whose script could be read and whose replies could be told: with NoQuorum where fewer places were readable than are needed; with Panic only where fewer than half are active and a
 -- call failed on a drive on which replicas may lie.
@@ -130,7 +130,7 @@ abbrev pub DatabasesStay : Type 0
 DatabasesStay =
     (drives : Geometry) (name : List ℕ) (before : List Ran) (script : Script) → Contains drives.hosts name → (run : Running drives name before script)
     → (one : Exchange) (earlier : List Exchange) (command : Command) → Answered run one earlier → HaveAnswered run earlier → HasDatabase earlier → Asks one command
-    → (IsTold one (refusal_line NoDatabase) → ⊥) × ((slices : List SliceName) (force : Bool) (count blocks : ℕ) → command ≡ Create slices force count blocks → IsTold one ok_line → ⊥)
+    → (IsTold one (refusal_line NoDatabase) → ⊥) × (MakesDatabase command → IsTold one ok_line → ⊥)
 
 -- where lines show a volume to be there, none behind them on it, or that prints it alone, is told that it isn't, or that there is no database, as long as enough drives answer for the database
 abbrev pub VolumesStay : Type 0

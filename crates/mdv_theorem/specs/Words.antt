@@ -12,12 +12,14 @@ use Rattle.mdv_name.specs.declared.geometry.Geometry.{Geometry}
 use Rattle.mdv_name.specs.declared.slice_lines.SliceAt.{SliceAt}
 use Rattle.mdv_shelf.specs.Everywhere.{Image}
 use Rattle.mdv_words.specs.declared.command.Command.{Command}
-use Rattle.mdv_words.specs.declared.command.Command.TheVariants.{Create, MakeStripe, Print, Read, Write}
+use Rattle.mdv_words.specs.declared.command.Command.TheVariants.{AddListed, AddPlaces, DropPlaces, MakeStripe, Print, Read, Write}
 use Rattle.mdv_theorem.specs.Exchanges.{Asks, Exchange, IsGranted, IsSameBlock, IsTold, MayBeMade, MayBeWritten, MayHaveBegun, ShowsThere}
 
 -- the command takes the volume away: none does so far
 abbrev pub TakesAway : VolId → Command → Type 0
-TakesAway volume (Create slices force count blocks) = ⊥
+TakesAway volume (AddPlaces slices force count blocks) = ⊥
+TakesAway volume (AddListed number force) = ⊥
+TakesAway volume (DropPlaces slices force) = ⊥
 TakesAway volume (MakeStripe other slice) = ⊥
 TakesAway volume (Read other at count) = ⊥
 TakesAway volume (Write other at block) = ⊥
@@ -45,7 +47,9 @@ HasBegun volume lines = IsThere volume lines
 
 -- the command takes the database away: none does so far
 abbrev pub TakesDatabase : Command → Type 0
-TakesDatabase (Create slices force count blocks) = ⊥
+TakesDatabase (AddPlaces slices force count blocks) = ⊥
+TakesDatabase (AddListed number force) = ⊥
+TakesDatabase (DropPlaces slices force) = ⊥
 TakesDatabase (MakeStripe volume slice) = ⊥
 TakesDatabase (Read volume at count) = ⊥
 TakesDatabase (Write volume at block) = ⊥
@@ -58,13 +62,21 @@ pub record MayTakeDatabase (one : Exchange) : Type 0 where
   pub takes : TakesDatabase command
   pub begun : MayHaveBegun one
 
--- the command is done with a database alone, or makes one: each so far
+-- the command is done with a database alone, or makes one: each so far, but that which drops places, of which nothing is said yet
 abbrev pub NeedsDatabase : Command → Type 0
-NeedsDatabase (Create slices force count blocks) = Unit {0}
+NeedsDatabase (AddPlaces slices force count blocks) = Unit {0}
+NeedsDatabase (AddListed number force) = Unit {0}
+NeedsDatabase (DropPlaces slices force) = ⊥
 NeedsDatabase (MakeStripe volume slice) = Unit {0}
 NeedsDatabase (Read volume at count) = Unit {0}
 NeedsDatabase (Write volume at block) = Unit {0}
 NeedsDatabase (Print names) = Unit {0}
+
+-- the command makes a database, where it is told `ok`
+abbrev pub MakesDatabase : Command → Type 0
+MakesDatabase (AddPlaces slices force count blocks) = Unit {0}
+MakesDatabase (AddListed number force) = Unit {0}
+MakesDatabase other = ⊥
 
 -- one of these lines made a database, or was done with one, as it was told, and none behind it may have taken it away
 pub record HasDatabase (lines : List Exchange) : Type 0 where
@@ -87,7 +99,7 @@ pub record IsMadeOn (slices : List SliceName) (lines : List Exchange) : Type 0 w
   pub before : List Exchange
   pub behind : List Exchange
   pub parts : lines ≡ before ++ made ∷ behind
-  pub asks : Asks made (Create slices force count blocks)
+  pub asks : Asks made (AddPlaces slices force count blocks)
   pub told : IsTold made ok_line
   pub stays : (one : Exchange) → Contains behind one → MayTakeDatabase one → ⊥
 

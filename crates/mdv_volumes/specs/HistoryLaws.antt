@@ -1,6 +1,6 @@
 -- Laws of histories: of each volume, of databases and of deeds, over crashes, boots, writes and reads.
 use Rattle.std.specs.Prelude.{◌≡◌, ◌⊎◌, ◌+◌, ◌<◌, ◌≤◌, ℕ, true, List, [], ◌∷◌, ◌++◌, length, slice_index_or, Bool, if◌then◌else◌, map, Option, Some, None, All, Contains}
-use Rattle.mdv_volumes.specs.Below.{AllOnDisk, AllRead, Among, AreApart, AreDisjoint, Area, Change, Follows, Geometry, HasDriveBlock, HasNoReplica, Identity, Image, IsBeside, IsCurrentOf, IsOfGeometry, Key, KeptOutside, Lists, Map, MayLeave, One, Place, Rewriting, Spells, Stand, Table, Tale, Two, Version, VolId, area_of_map, is_firm, last, only, opening, restarted, site_area, site_of, with_events}
+use Rattle.mdv_volumes.specs.Below.{AllOnDisk, AllRead, Among, AreApart, AreDisjoint, Area, Change, Follows, Geometry, HasDriveBlock, HasNoReplica, Identity, Image, IsBeside, IsCurrentOf, IsOfGeometry, Key, KeptOutside, Map, MayLeave, One, Place, Rewriting, Spells, Stand, Table, Tale, Version, VolId, area_of_map, is_firm, last, only, opening, restarted, site_area, site_of, with_events, AreAnew, Lists, Two}
 use Rattle.mdv_store_law.specs.Changes.{KeepsPlaces, list_after}
 use Rattle.mdv_store_law.specs.Log as log
 use Rattle.mdv_store_law.specs.Machine.{AreAll, all_of}
@@ -199,7 +199,7 @@ AreLater = AreAll IsLater
 -- each table that is made by a change is ready.
 abbrev pub DatabasesGo : Type 0
 DatabasesGo = (g : Geometry) (h : History) (key : Key) (identity : Identity) (es : List log.Event) (t m : Tale) → Stands g h t → IsCurrentOf h.databases key identity → AreLater es
-    → log.IsCourse g (log_of h.databases key) es → Stand g (with_events key es h.databases) m → KeptOutside (site_area (site_of g key)) t m
+    → log.IsCourse g (log_of h.databases key) es → Stand g (with_events key es h.databases) m → AreAnew (with_events key es h.databases) → KeptOutside (site_area (site_of g key)) t m
     → ((table : Table) → IsAsked es table → IsReady g h key t table) → IsLifted g h key es m
 
 -- a database of the key was begun, and its earlier one is over
@@ -209,7 +209,7 @@ pub record IsNewlyBegun (g : Geometry) (h : History) (key : Key) (identity : Ide
 
 -- A creation begins, where no table of its key was written, so that all stand.
 abbrev pub CreationsGo : Type 0
-CreationsGo = (g : Geometry) (h : History) (key : Key) (identity : Identity) (t : Tale) → Stands g h t → MayBegin h.databases key identity → Stand g (with_creation key identity h.databases) t → IsNewlyBegun g h key identity t
+CreationsGo = (g : Geometry) (h : History) (key : Key) (identity : Identity) (t : Tale) → Stands g h t → MayBegin h.databases key identity → Stand g (with_creation key identity h.databases) t → AreAnew (with_creation key identity h.databases) → IsNewlyBegun g h key identity t
 
 -- the creation of a key's database, or a change of it, came to the newest table, and wasn't told
 pub record IsTellable (g : Geometry) (h : History) (key : Key) (asked : Option Change) : Type 0 where

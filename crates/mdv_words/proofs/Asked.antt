@@ -35,6 +35,7 @@ use Rattle.mdv_words.proofs.Entries.{BeginsSmall, Kept, KeepsEntry, begins_small
 
 abbrev pub Keeps : Command → Type 0
 Keeps (Command.AddReplicas slices options force) = (1 ≤ length slices) × IfSome options.count IsCount × IfSome options.blocks IsLength
+Keeps (Command.DeleteReplicas slices force) = 1 ≤ length slices
 Keeps (Command.Make entry force) = KeepsEntry entry
 Keeps (Command.Read volume at count) = 1 ≤ count
 Keeps _ = Unit {0}
@@ -89,6 +90,11 @@ added_keeps : (gs : List Given) (ps : List Part) → AreBounded gs → Holds (ad
 added_keeps gs (Replicas n ∷ []) is = passed (only (codes "af") gs) (Some (Command.AddListed n (has 102 gs))) tt
 added_keeps gs ps is = on_slices (record { count = count_given gs; blocks = length_given gs }) (has 102 gs) (front slice_of ps) (behind slice_of ps) is.0 is.1
 
+deleted_keeps : (force : Bool) (slices : List SliceName) (ps : List Part) → Holds (on_some (some_of slices ps) (λ ss. Some (Command.DeleteReplicas ss force)))
+deleted_keeps force [] ps = tt
+deleted_keeps force (s ∷ ss) [] = omega arith
+deleted_keeps force (s ∷ ss) (p ∷ ps) = tt
+
 listed_keeps : (gs : List Given) (set : Option (List ℕ)) (ps : List Part) → Holds (listed_of gs set ps)
 listed_keeps gs set [] = tt
 listed_keeps gs set (p ∷ ps) = tt
@@ -96,7 +102,7 @@ listed_keeps gs set (p ∷ ps) = tt
 metadb_keeps : (gs : List Given) (set : Option (List ℕ)) (ps : List Part) → AreBounded gs → Holds (metadb_of gs set ps)
 metadb_keeps gs set ps is =
     either (has 97 gs) _ _ (passed (only (codes "afcl") gs) (added_of gs ps) (added_keeps gs ps is)) (
-    either (has 100 gs) _ _ (passed (only (codes "df") gs) (deleted_of gs ps) (behind_it (some_slices ps) _ (λ ss. tt))) (
+    either (has 100 gs) _ _ (passed (only (codes "df") gs) (deleted_of gs ps) (deleted_keeps (has 102 gs) (front slice_of ps) (behind slice_of ps))) (
     passed (only (codes "is") gs) (listed_of gs set ps) (listed_keeps gs set ps)))
 
 make_keeps : (force : Bool) (entry : Option Entry) → Kept entry → Holds (on_some entry (λ e. Some (Command.Make e force)))

@@ -1,5 +1,5 @@
--- The volume of a stripe that an entry makes has a number below 8192.
-use Rattle.std.proofs.Common.{ℕ, ◌<◌, Bool, true, false, cond, Option, None, Some, List, [], ◌∷◌}
+-- The volume of a stripe that an entry makes has a number below 8192, and an entry of replicas names a slice or more, and numbers that replicas may have.
+use Rattle.std.proofs.Common.{ℕ, ◌<◌, ◌≤◌, Bool, true, false, cond, Option, None, Some, List, [], ◌∷◌, length, arith}
 use Rattle.std.specs.Prelude.{IfSome, nat_le}
 use Rattle.mdv_base.specs.declared.drive.SliceName.{SliceName}
 use Rattle.mdv_base.specs.declared.name.PoolId.{PoolId}
@@ -22,6 +22,7 @@ use Rattle.mdv_tab.specs.declared.entry.Row.{Row}
 use Rattle.mdv_tab.specs.Form.{ends_mirror, mirror_with, mirror_of, raid_with, raid_of, soft_of, room_of, ends_pool, ends_replicas, replicas_of, lettered_of, volume_entry, entry_of}
 use Rattle.mdv_tab.specs.Options.{mirror_options, on_some, pass_of, raid_options}
 use Rattle.mdv_tab.specs.Stripe.{ends_stripe, split_rows, stripe_of, with_rows}
+use Rattle.mdv_words.proofs.Options.{AreBounded, options_bounded}
 
 -- what holds of either of two, and of what follows
 pub if_either : {A : Type 0} (P : A → Type 0) (b : Bool) (x y : Option A) → IfSome x P → IfSome y P → IfSome (cond b x y) P
@@ -34,6 +35,7 @@ if_then P (Some b) next holds = holds b
 
 abbrev pub KeepsEntry : Entry → Type 0
 KeepsEntry (Stripe name rows spares) = name.volume.0 < 8192
+KeepsEntry (Entry.Replicas number options slices) = (1 ≤ length slices) × AreBounded options
 KeepsEntry _ = Unit {0}
 
 abbrev pub Kept : Option Entry → Type 0
@@ -74,14 +76,16 @@ pool_keeps : (name : PoolName) (slices : List SliceName) (ps : List Part) → Ke
 pool_keeps name slices [] = tt
 pool_keeps name slices (p ∷ ps) = tt
 
-replicas_end : (number : ℕ) (options : ReplicaOptions) (slices : List SliceName) (ps : List Part) → Kept (ends_replicas number options slices ps)
-replicas_end number options [] ps = tt
-replicas_end number options (s ∷ ss) [] = tt
-replicas_end number options (s ∷ ss) (p ∷ ps) = tt
+replicas_end : (number : ℕ) (options : ReplicaOptions) (slices : List SliceName) (ps : List Part) → AreBounded options → Kept (ends_replicas number options slices ps)
+replicas_end number options [] ps are = tt
+replicas_end number options (s ∷ ss) [] are = (omega arith, are)
+replicas_end number options (s ∷ ss) (p ∷ ps) are = tt
 
 replicas_keep : (number : ℕ) (ps : List Part) → Kept (replicas_of number ps)
-replicas_keep number ps =
-    if_then KeepsEntry (split_replica_options ps) (λ r. ends_replicas number r.0 (front slice_of r.1) (behind slice_of r.1)) (λ r. replicas_end number r.0 (front slice_of r.1) (behind slice_of r.1))
+replicas_keep number ps = by (split_replica_options ps) (options_bounded ps) where
+  by : (read : Option (ReplicaOptions × List Part)) → IfSome read (λ r. AreBounded r.0) → Kept (on_some read (λ r. ends_replicas number r.0 (front slice_of r.1) (behind slice_of r.1)))
+  by None are = tt
+  by (Some r) are = replicas_end number r.0 (front slice_of r.1) (behind slice_of r.1) are
 
 rows_keep : (name : VolName) (read : Option (List Row × List Part)) → name.volume.0 < 8192 → Kept (with_rows name read)
 rows_keep name None small = tt

@@ -18,11 +18,11 @@ use Rattle.mdv_words.proofs.Asked.{Keeps, command_keeps}
 abbrev Formed : Option Command → Type 0
 Formed command = IfSome command IsInForm
 
-count_formed : (count : Option ℕ) → IfSome count IsCount → IsCount (count_or_default count)
+pub count_formed : (count : Option ℕ) → IfSome count IsCount → IsCount (count_or_default count)
 count_formed None is = (omega arith, omega arith)
 count_formed (Some n) is = is
 
-length_formed : (blocks : Option ℕ) → IfSome blocks IsLength → IsLength (blocks_or_default blocks)
+pub length_formed : (blocks : Option ℕ) → IfSome blocks IsLength → IsLength (blocks_or_default blocks)
 length_formed None is = (omega arith, omega arith)
 length_formed (Some n) is = is
 
@@ -44,6 +44,8 @@ local_formed (Some s) command is = tt
 
 built_formed : (asked : Wanted) → Keeps asked → Formed (built_of asked)
 built_formed (wanted.AddReplicas slices options force) keeps = (keeps.0, count_formed options.count keeps.1, length_formed options.blocks keeps.2)
+built_formed (wanted.AddListed number force) keeps = tt
+built_formed (wanted.DeleteReplicas slices force) keeps = keeps
 built_formed (wanted.Make (Stripe name rows spares) force) keeps = stripe_formed name rows spares keeps
 built_formed (wanted.Read volume at count) keeps = local_formed volume.set (Command.Read volume.volume at count) keeps
 built_formed (wanted.Write volume at block) keeps = local_formed volume.set (Command.Write volume.volume at block) tt

@@ -16,7 +16,7 @@ use Rattle.mdv_grammar.specs.declared.line.Line.TheVariants as grammar
 use Rattle.mdv_grammar.specs.declared.line.WordsFault.{WordsFault}
 use Rattle.mdv_grammar.specs.declared.line.WordsFault.TheVariants.{BadLine, Memory}
 use Rattle.mdv_words.specs.declared.command.Command.{Command}
-use Rattle.mdv_words.specs.declared.command.Command.TheVariants.{Create, MakeStripe, Print, Read, Write}
+use Rattle.mdv_words.specs.declared.command.Command.TheVariants.{AddListed, AddPlaces, DropPlaces, MakeStripe, Print, Read, Write}
 use Rattle.mdv_words.specs.declared.line.Line.{Line as ReadLine}
 use Rattle.mdv_words.specs.declared.line.Line.TheVariants as read
 
@@ -52,7 +52,7 @@ blocks_or_default (Some blocks) = blocks
 
 -- so many replicas on each of the slices
 abbrev pub creation_of : List SliceName → Option ℕ → Option ℕ → Bool → Command
-creation_of slices count blocks force = Create slices force (count_or_default count) (blocks_or_default blocks)
+creation_of slices count blocks force = AddPlaces slices force (count_or_default count) (blocks_or_default blocks)
 
 -- a row of one slice, with no interlace
 abbrev pub slice_of_row : List Component → Option ℕ → Option SliceName
@@ -79,10 +79,12 @@ abbrev pub print_of : Option (List ℕ) → List Named → Bool → Option Comma
 print_of None names true = Some (Print names)
 print_of set names printed = None
 
--- The commands that are built, among all that a line may ask: `metadb -a [-f] [-c COUNT] [-l BLOCKS] SLICE ..`, `metainit [-f] dN 1 1 SLICE`, whose `-f`
--- changes nothing, `read`, `write`, and `metastat -p [NAME ..]`.
+-- The commands that are built, among all that a line may ask: `metadb -a [-f] [-c COUNT] [-l BLOCKS] SLICE ..`, `metadb -a [-f] mddbNN`, `metadb -d [-f] SLICE ..`,
+-- `metainit [-f] dN 1 1 SLICE`, whose `-f` changes nothing, `read`, `write`, and `metastat -p [NAME ..]`.
 abbrev pub built_of : Wanted → Option Command
 built_of (wanted.AddReplicas slices options force) = Some (creation_of slices options.count options.blocks force)
+built_of (wanted.AddListed number force) = Some (AddListed number force)
+built_of (wanted.DeleteReplicas slices force) = Some (DropPlaces slices force)
 built_of (wanted.Make (Stripe name rows spares) force) = stripe_of name rows spares
 built_of (wanted.Read volume at count) = on_local volume.set (Read volume.volume at count)
 built_of (wanted.Write volume at block) = on_local volume.set (Write volume.volume at block)
@@ -115,7 +117,9 @@ IsLength blocks = (16 ≤ blocks) × (blocks ≤ 8192)
 
 -- what each command of a line keeps
 abbrev pub IsInForm : Command → Type 0
-IsInForm (Create slices force count blocks) = (1 ≤ length slices) × IsCount count × IsLength blocks
+IsInForm (AddPlaces slices force count blocks) = (1 ≤ length slices) × IsCount count × IsLength blocks
+IsInForm (AddListed number force) = Unit {0}
+IsInForm (DropPlaces slices force) = 1 ≤ length slices
 IsInForm (MakeStripe volume slice) = volume.0 < 8192
 IsInForm (Read volume at count) = 1 ≤ count
 IsInForm (Write volume at block) = Unit {0}

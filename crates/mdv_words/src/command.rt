@@ -17,7 +17,7 @@ const DEFAULT_BLOCKS: u32 = 8192;
 #[derive(Drop)]
 pub enum Command {
     /// `metadb -a SLICE ..`, or with `-f`, `-c COUNT` or `-l BLOCKS`
-    Create {
+    AddPlaces {
         /// One or more; a line may name a slice twice.
         slices: Items<SliceName>,
         force: bool,
@@ -25,6 +25,17 @@ pub enum Command {
         count: u8,
         /// Blocks of each replica, 16 to 8192.
         blocks: u32,
+    },
+    /// `metadb -a mddbNN`, or with `-f`: as the entry of that number says, of those of the last `tab` block
+    AddListed {
+        number: u8,
+        force: bool,
+    },
+    /// `metadb -d SLICE ..`, or with `-f`
+    DropPlaces {
+        /// One or more; a line may name a slice twice.
+        slices: Items<SliceName>,
+        force: bool,
     },
     /// `metainit dN 1 1 SLICE`, or with `-f`
     MakeStripe {
@@ -49,7 +60,7 @@ pub enum Command {
     },
 }
 
-fn count_of(options: &ReplicaOptions) -> u8
+pub(crate) fn count_of(options: &ReplicaOptions) -> u8
     ensures { result ≡ count_or_default options.now.count }
 {
     match options.count {
@@ -58,7 +69,7 @@ fn count_of(options: &ReplicaOptions) -> u8
     }
 }
 
-fn blocks_of(options: &ReplicaOptions) -> u32
+pub(crate) fn blocks_of(options: &ReplicaOptions) -> u32
     ensures { result ≡ blocks_or_default options.now.blocks }
 {
     match options.blocks {
@@ -70,7 +81,7 @@ fn blocks_of(options: &ReplicaOptions) -> u32
 fn creation(slices: Items<SliceName>, options: &ReplicaOptions, force: bool) -> Command
     ensures { result ≡ creation_of slices options.now.count options.now.blocks force }
 {
-    Command::Create {
+    Command::AddPlaces {
         slices,
         force,
         count: count_of(options),
@@ -138,6 +149,8 @@ pub(crate) fn built(asked: Asked) -> Option<Command>
             options,
             force,
         } => Some(creation(slices, &options, force)),
+        Asked::AddListed { number, force } => Some(Command::AddListed { number, force }),
+        Asked::DeleteReplicas { slices, force } => Some(Command::DropPlaces { slices, force }),
         Asked::Make {
             entry: Entry::Stripe { name, rows, spares },
             ..

@@ -4,8 +4,10 @@
 mod command;
 mod law;
 mod line;
+mod listed;
 
 pub use command::Command;
-pub use law::{commands_are_in_form, reads_one_line};
+pub use law::{commands_are_in_form, entries_are_in_form, reads_one_line};
 pub use line::{Line, read_line};
+pub use listed::{Listed, replicas_listed};
 pub use mdv_grammar::WordsFault;

@@ -3,4 +3,4 @@ use Rattle.mdv_databases.proofs.Finding.{short_by}
 use Rattle.mdv_databases.proofs.law.boots_go.Goals as goal
 
 pub returns : goal.returns
-returns c = record { moments = boot_moment; ends = boot_end; shown = shown_current; one = one_shown; short = λ g all key up survey readable needed t sound stand is of. short_by g all key up survey t sound stand is of readable needed }
+returns c = record { moments = boot_moment; ends = boot_end; shown = shown_current; one = one_shown; short = λ g all key up survey readable needed t sound stand anew is of. short_by g all key up survey t sound stand is of anew readable needed }

@@ -2,6 +2,7 @@ use Rattle.std.proofs.Common.{refl, ap}
 use Rattle.mdv_engine_law.specs.declared.answer.Ended.TheVariants as ended
 use Rattle.mdv_engine.specs.Below.{answered_by}
 use Rattle.mdv_engine.proofs.Booting.{all_moments, empty_cause, empty_counted, empty_end, fitting_cause, fitting_counted, fitting_end, fitting_well, lost_cause, over_counted, over_end, short_cause, spent_cause, two_cause, wanting_cause}
+use Rattle.mdv_engine.proofs.Listed.{none_listed}
 use Rattle.mdv_engine.proofs.engine.boot_from.Goals as goal
 
 pub returns-in-Adopted-clause-moments : goal.returns-in-Adopted-clause-moments
@@ -66,7 +67,7 @@ returns-in-Adopted-clause-answer g c =
 
 pub returns-in-Empty-clause-answer : goal.returns-in-Empty-clause-answer
 returns-in-Empty-clause-answer g c =
-    rw c.booted-in-Empty.ensures (record { cause = empty_cause g.S.Shelf c.args.shelf.now c.boot-end.new.shelf c.args.host.now c.requires c.boot-end.result c.boot-end.ensures.answer c.boot-end.ensures.kept c.args.begun c.in-Empty.is; well = (record { database = tt }, refl, refl) })
+    rw c.booted-in-Empty.ensures (record { cause = empty_cause g.S.Shelf c.args.shelf.now c.boot-end.new.shelf c.args.host.now c.requires c.boot-end.result c.boot-end.ensures.answer c.boot-end.ensures.kept c.args.begun c.in-Empty.is; well = (record { database = tt; entries = none_listed }, refl, refl) })
 
 pub returns-in-TwoDatabases-clause-answer : goal.returns-in-TwoDatabases-clause-answer
 returns-in-TwoDatabases-clause-answer g c =

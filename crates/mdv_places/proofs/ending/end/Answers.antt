@@ -11,6 +11,7 @@ use Rattle.mdv_store.specs.Seats.{IsLaid}
 use Rattle.mdv_survey.proofs.Seating.{start_fits}
 use Rattle.mdv_places.specs.Below.{Ghosts, Opened, PlaceAt, Replica, at_of}
 use Rattle.mdv_places.specs.Ending.{EndMoment, HasEnded, IsSole}
+use Rattle.mdv_places.proofs.Calling.{ended_by}
 use Rattle.mdv_places.proofs.Deleting.{end_ends, end_moment, sole_first, sole_has}
 use Rattle.mdv_places.proofs.ending.end.Goals as goal
 use Rattle.mdv_places.proofs.ending.end.Goals.{After-unwrap-replica, After-wipe}
@@ -61,6 +62,9 @@ returns-in_err-wipe-clause-answer g c =
     err_of shelf from to o (Err fault) is stopped = stopped
     err_of shelf from to o (Ok done) is stopped = absurd (cc (is))
 
+pub returns-in_err-wipe-clause-by : goal.returns-in_err-wipe-clause-by
+returns-in_err-wipe-clause-by g c = ended_by g.S.Shelf c.args.shelf.now c.wipe.new.shelf c.args.store c.from_residual.result (returns-in_err-wipe-clause-answer g c)
+
 pub returns-in_err-wipe-clause-moments : goal.returns-in_err-wipe-clause-moments
 returns-in_err-wipe-clause-moments g c =
     let u = (goal.at.returns-in_err-wipe-clause-moments g c).After-unwrap-replica in
@@ -79,6 +83,9 @@ returns-clause-answer g c =
           (one_gone g.S.Shelf (Blanks c.at.result) c.at.result.drive c.args.shelf.now c.wipe.new.shelf c.wipe.ensures.moments c.wipe.ensures.kept
           (both_ends (Wiping c.at.result) (λ _ v. IsWiped c.at.result v) _ _ c.wipe.ensures.moments c.in_ok-wipe.ensures.settled) c.in_ok-wipe.ensures.cause.calm c.in_ok-wipe.ensures.counted.done),
     )
+
+pub returns-clause-by : goal.returns-clause-by
+returns-clause-by g c = (returns-clause-answer g c).1.calm
 
 pub returns-clause-moments : goal.returns-clause-moments
 returns-clause-moments g c =

@@ -6,7 +6,7 @@ use Rattle.mdv_shelf.proofs.Between.{between_of}
 use Rattle.mdv_engine_law.specs.declared.answer.Outcome.TheVariants as outcome
 use Rattle.std.proofs.Common.{ℕ, ◌≤◌, ◌+◌, refl, inl, inr, ap, subst, sym, arith}
 use Rattle.mdv_engine_law.specs.Line.{Nothing}
-use Rattle.mdv_run.specs.Below.{line, Ends, IsWell, OnReplies, Boot, IsLine, IsLostOnSite, asked_by, IsAnswered, Knows, TellsFront, TurnMoment, Engine, LinesMoment}
+use Rattle.mdv_run.specs.Below.{line, Ends, IsWell, OnReplies, Boot, IsLine, IsLostOnSite, asked_by, IsAnswered, Knows, meant, TellsFront, TurnMoment, Engine, LinesMoment}
 use Rattle.mdv_words.specs.Line as words
 use Rattle.mdv_run_law.specs.Run.{IsNoCommand}
 use Rattle.mdv_words.proofs.Form.{commands_are_in_form}
@@ -65,7 +65,7 @@ returns-in-Ok-Command-clause-end g c = λ t told.
       end.1,
       record {
         answered = λ knows. line_executed c.args.line.now (words.Exec command) is outcomes replies made host old new c.exec.result t end.0 (end.2.answered knows) (turn_writes host (asked_by host command) old _ _ c.exec.ensures.moments.each t end.0 told end.1)
-            end.2.quiet (λ still. end.2.spent (command_still _ _ _ c.exec.result c.exec.ensures.answer.cause still)) (λ same none. absurd (cc (same))) (λ ok other same. subst (λ (x : Command). LeavesDone host old x end.0) (cc (same)) (end.2.done ok)) (λ ok same. absurd (cc (same)));
+            end.2.quiet (λ still. end.2.spent (command_still _ _ _ c.exec.result c.exec.ensures.answer.cause still)) (λ same none. absurd (cc (same))) (λ ok other same. subst (λ (x : Command). LeavesDone host old (meant old.entries x) end.0) (cc (same)) (end.2.done ok)) (λ ok same. absurd (cc (same)));
         ran = λ on more. line_ran host c.args.line.now (asked_by host command) more old new t end.0 (end.2.turned on) (turn_home host (asked_by host command) old _ _ c.exec.ensures.moments.each t end.0 told end.1) (inl (inr (words.Exec command, is, refl))) (inl (no_boot c.args.line.now (words.Exec command) is (λ same. cc (same))))
             (λ knows. command_entries outcomes replies made host old new c.exec.result t end.0 c.args.line.now (end.2.turned on).bytes (end.2.turned on).is_told command is (end.2.answered knows) on);
         knows = end.2.knows;
@@ -90,14 +90,19 @@ returns-in-Ok-Command-clause-answer g c = record {
   cause =
       let calls = DriveFailures g.B.Shelf c.args.bench.now c.exec.new.bench in
       let host = c.args.engine.now.host in
-      command_reply (blame_of calls host c.args.engine.now.state c.in-Ok-Command.command) (IsLostOnSite calls host) (MaySpend c.in-Ok-Command.command) _ c.exec.result c.exec.ensures.answer.lost c.exec.ensures.answer.cause;
+      let command = meant c.args.engine.now.state.entries c.in-Ok-Command.command in
+      command_reply (blame_of calls host c.args.engine.now.state command) (IsLostOnSite calls host) (MaySpend command) _ c.exec.result c.exec.ensures.answer.lost c.exec.ensures.answer.cause;
   same = c.exec.ensures.answer.host;
   well = λ on. c.exec.ensures.answer.well (not_lost c.exec.result on);
   begun = c.exec.ensures.answer.begun;
   counted = λ n calls.
       let is : IsLine c.args.line.now (words.Exec c.in-Ok-Command.command) = rw c.in-Ok-Command.field-0-is at c.in-Ok-Command.ensures.value in
       subst (λ (k : ℕ). RoseByAtMost k (g.B.Shelf.calls c.args.bench.now) (g.B.Shelf.calls c.exec.new.bench)) (sym (spelled_calls c.args.engine.now.host c.args.line.now (words.Exec c.in-Ok-Command.command) is n calls))
-      (exec_calls c.args.engine.now.host c.args.engine.now.state c.requires.well c.in-Ok-Command.command _ _ c.exec.ensures.counted.most.at_most.in_calls);
+      (exec_calls c.args.engine.now.host c.args.engine.now.state c.requires.well c.in-Ok-Command.command _ _ c.exec.ensures.counted.most.at_most.in_calls
+      (elim c.exec.ensures.counted.few [
+        | inl two ↦ inl two.at_most.in_calls
+        | inr few ↦ inr few
+      ]));
 }
 
 -- a block of entries

@@ -2,6 +2,7 @@ use Rattle.mdv_shown.specs.Laws.{Reads}
 use Rattle.mdv_standing.proofs.Adding.{first_added, first_adding, later_added, later_adding}
 use Rattle.mdv_standing.proofs.Clearing.{first_going, world_rests}
 use Rattle.mdv_standing.proofs.Deleting.{ending_wiped, ending_wiping}
+use Rattle.mdv_standing.proofs.Ended.{gone_loose}
 use Rattle.mdv_standing.proofs.Lawful.{is_there}
 use Rattle.mdv_standing.proofs.Naming.{bare_named, unlisted_named}
 use Rattle.mdv_standing.proofs.Noting.{place_noted, world_clearing, world_gone, world_placing}
@@ -35,6 +36,7 @@ returns c = record {
   ending = record {
     wiping = λ read site identity log w old new v took line first. ending_wiping (Reads read) site identity log w old new v took line first;
     wiped = λ read site identity log w old new v took line first. ending_wiped (Reads read) site identity log w old new v took line first;
+    left = λ read site identity log w image v older line world over newest written rising. gone_loose (Reads read) site identity log w image world over v older newest written rising line;
     none = λ read g site identity log w image seen s slot v site_is is_log world gone r c has most fair small.
         (let live = is_there (Reads read) g site identity log w image seen s slot v site_is is_log world r c has most fair small in let is = gone.1 in cc (live, is));
   };

@@ -52,13 +52,13 @@ pub returns-clause-moments : goal.returns-clause-moments
 returns-clause-moments g c =
     let more = enough g (goal.at.returns-clause-moments g c).After-rewrite in
     adopted_moments c.args.site.now c.args.replicas.now c.args.newest c.in-Ok.hand c.in-Ok.ensures c.requires.seated c.requires.newest more g.S.Shelf c.args.shelf.now c.rewrite.new.shelf c.rewrite.result c.rewrite.ensures.answer
-    c.rewrite.ensures.moments
+    (omega (arith, c.if-hand-ge-NUMBER_LIMIT.false)) c.rewrite.ensures.moments
 
 pub returns-clause-end : goal.returns-clause-end
 returns-clause-end g c =
     let more = enough g (goal.at.returns-clause-end g c).After-rewrite in
     adopted_ends c.args.site.now c.args.replicas.now c.args.newest c.in-Ok.hand c.in-Ok.ensures c.requires.seated c.requires.newest more g.S.Shelf c.args.shelf.now c.rewrite.new.shelf c.rewrite.result c.rewrite.ensures.answer
-    c.rewrite.ensures.end
+    (omega (arith, c.if-hand-ge-NUMBER_LIMIT.false)) c.rewrite.ensures.end
 
 pub returns-clause-counted : goal.returns-clause-counted
 returns-clause-counted g c =

@@ -12,7 +12,7 @@ returns-clause-answer g c =
     let kept = rw c.as_slice-drives.ensures at e.kept in
     let all = rw c.as_slice-drives.ensures at c.are_all-calm.ensures in
     booted g.S.Shelf c.args.site.now c.args.shelf.now c.bring_up-up.new.shelf c.bring_up-up.result ups e.moments brought counted kept g.met.S.Shelf.telling c.args.geometry.now c.look.new.shelf c.look.ensures.looked.same c.look.ensures.counted.few c.look.ensures.kept
-    c.requires.sound c.requires.on_shelf c.requires.of c.in-Ok.looked c.in-Ok.ensures.looked.found c.in-Ok.ensures.counted.some c.take-taken.new.shelf c.take-taken.result c.take-taken.ensures.answer c.take-taken.ensures.counted.1 c.are_all-calm.result all c.is_clean.result c.is_clean.ensures c.in-Ok-letters_of.letters c.in-Ok-letters_of.ensures
+    c.requires.sound c.requires.on_shelf c.requires.of c.in-Ok.looked c.in-Ok.ensures.looked.found c.in-Ok.ensures.counted.some c.take-taken.new.shelf c.take-taken.result c.take-taken.ensures.answer c.take-taken.ensures.counted.1 c.are_all-calm.result all c.is_clean.result c.is_clean.ensures c.in-Ok-letters_of.letters c.in-Ok-letters_of.ensures c.in-Ok.ensures.counted.once
 
 pub returns-clause-moments : goal.returns-clause-moments
 returns-clause-moments g c =
@@ -23,7 +23,7 @@ returns-clause-moments g c =
     let kept = rw c.as_slice-drives.ensures at e.kept in
     let all = rw c.as_slice-drives.ensures at c.are_all-calm.ensures in
     all_moments g.S.Shelf c.args.site.now c.args.shelf.now c.bring_up-up.new.shelf c.bring_up-up.result ups e.moments brought counted kept g.met.S.Shelf.telling c.args.geometry.now c.look.new.shelf c.look.ensures.looked.same c.look.ensures.counted.few c.look.ensures.kept
-    c.requires.sound c.requires.on_shelf c.requires.of c.in-Ok.looked c.in-Ok.ensures.looked.found c.in-Ok.ensures.counted.some c.take-taken.new.shelf c.take-taken.result c.take-taken.ensures.answer c.take-taken.ensures.counted.1 c.are_all-calm.result all c.is_clean.result c.is_clean.ensures c.in-Ok-letters_of.letters c.in-Ok-letters_of.ensures c.take-taken.ensures.moments
+    c.requires.sound c.requires.on_shelf c.requires.of c.in-Ok.looked c.in-Ok.ensures.looked.found c.in-Ok.ensures.counted.some c.take-taken.new.shelf c.take-taken.result c.take-taken.ensures.answer c.take-taken.ensures.counted.1 c.are_all-calm.result all c.is_clean.result c.is_clean.ensures c.in-Ok-letters_of.letters c.in-Ok-letters_of.ensures c.in-Ok.ensures.counted.once c.take-taken.ensures.moments
 
 pub returns-clause-end : goal.returns-clause-end
 returns-clause-end g c =
@@ -34,7 +34,7 @@ returns-clause-end g c =
     let kept = rw c.as_slice-drives.ensures at e.kept in
     let all = rw c.as_slice-drives.ensures at c.are_all-calm.ensures in
     all_ends g.S.Shelf c.args.site.now c.args.shelf.now c.bring_up-up.new.shelf c.bring_up-up.result ups e.moments brought counted kept g.met.S.Shelf.telling c.args.geometry.now c.look.new.shelf c.look.ensures.looked.same c.look.ensures.counted.few c.look.ensures.kept
-    c.requires.sound c.requires.on_shelf c.requires.of c.in-Ok.looked c.in-Ok.ensures.looked.found c.in-Ok.ensures.counted.some c.take-taken.new.shelf c.take-taken.result c.take-taken.ensures.answer c.take-taken.ensures.counted.1 c.are_all-calm.result all c.is_clean.result c.is_clean.ensures c.in-Ok-letters_of.letters c.in-Ok-letters_of.ensures c.take-taken.ensures.moments c.take-taken.ensures.end c.take-taken.ensures.synced
+    c.requires.sound c.requires.on_shelf c.requires.of c.in-Ok.looked c.in-Ok.ensures.looked.found c.in-Ok.ensures.counted.some c.take-taken.new.shelf c.take-taken.result c.take-taken.ensures.answer c.take-taken.ensures.counted.1 c.are_all-calm.result all c.is_clean.result c.is_clean.ensures c.in-Ok-letters_of.letters c.in-Ok-letters_of.ensures c.in-Ok.ensures.counted.once c.take-taken.ensures.moments c.take-taken.ensures.end c.take-taken.ensures.synced
 
 pub returns-clause-counted : goal.returns-clause-counted
 returns-clause-counted g c =
@@ -45,7 +45,7 @@ returns-clause-counted g c =
     let kept = rw c.as_slice-drives.ensures at e.kept in
     let all = rw c.as_slice-drives.ensures at c.are_all-calm.ensures in
     all_counted g.S.Shelf c.args.site.now c.args.shelf.now c.bring_up-up.new.shelf c.bring_up-up.result ups e.moments brought counted kept g.met.S.Shelf.telling c.args.geometry.now c.look.new.shelf c.look.ensures.looked.same c.look.ensures.counted.few c.look.ensures.kept
-    c.requires.sound c.requires.on_shelf c.requires.of c.in-Ok.looked c.in-Ok.ensures.looked.found c.in-Ok.ensures.counted.some c.take-taken.new.shelf c.take-taken.result c.take-taken.ensures.answer c.take-taken.ensures.counted.1 c.are_all-calm.result all c.is_clean.result c.is_clean.ensures c.in-Ok-letters_of.letters c.in-Ok-letters_of.ensures c.take-taken.ensures.counted.0 c.in-Ok.ensures.counted.once
+    c.requires.sound c.requires.on_shelf c.requires.of c.in-Ok.looked c.in-Ok.ensures.looked.found c.in-Ok.ensures.counted.some c.take-taken.new.shelf c.take-taken.result c.take-taken.ensures.answer c.take-taken.ensures.counted.1 c.are_all-calm.result all c.is_clean.result c.is_clean.ensures c.in-Ok-letters_of.letters c.in-Ok-letters_of.ensures c.in-Ok.ensures.counted.once c.take-taken.ensures.counted.0
 
 pub returns-clause-kept : goal.returns-clause-kept
 returns-clause-kept g c =
@@ -56,7 +56,7 @@ returns-clause-kept g c =
     let kept = rw c.as_slice-drives.ensures at e.kept in
     let all = rw c.as_slice-drives.ensures at c.are_all-calm.ensures in
     all_kept g.S.Shelf c.args.site.now c.args.shelf.now c.bring_up-up.new.shelf c.bring_up-up.result ups e.moments brought counted kept g.met.S.Shelf.telling c.args.geometry.now c.look.new.shelf c.look.ensures.looked.same c.look.ensures.counted.few c.look.ensures.kept
-    c.requires.sound c.requires.on_shelf c.requires.of c.in-Ok.looked c.in-Ok.ensures.looked.found c.in-Ok.ensures.counted.some c.take-taken.new.shelf c.take-taken.result c.take-taken.ensures.answer c.take-taken.ensures.counted.1 c.are_all-calm.result all c.is_clean.result c.is_clean.ensures c.in-Ok-letters_of.letters c.in-Ok-letters_of.ensures
+    c.requires.sound c.requires.on_shelf c.requires.of c.in-Ok.looked c.in-Ok.ensures.looked.found c.in-Ok.ensures.counted.some c.take-taken.new.shelf c.take-taken.result c.take-taken.ensures.answer c.take-taken.ensures.counted.1 c.are_all-calm.result all c.is_clean.result c.is_clean.ensures c.in-Ok-letters_of.letters c.in-Ok-letters_of.ensures c.in-Ok.ensures.counted.once
 
 pub returns-in-Err-clause-answer : goal.returns-in-Err-clause-answer
 returns-in-Err-clause-answer g c =

@@ -1,6 +1,6 @@
-use Rattle.std.proofs.Common.{true, false, refl, sym, ◌∙◌, rules}
+use Rattle.std.proofs.Common.{true, false, refl, sym, ◌∙◌}
 use Rattle.mdv_engine.specs.Engine.{case_at}
-use Rattle.mdv_engine.proofs.Judging.{told_of_cause, told_of_checks}
+use Rattle.mdv_engine.proofs.Judging.{few_enough, told_of_cause, told_of_checks}
 use Rattle.mdv_engine.proofs.engine.Engine.creation_refusal.Goals as goal
 
 pub returns-then-lack_one : goal.returns-then-lack_one
@@ -24,8 +24,10 @@ returns-then-are_taken c = told_of_cause (case_at c.args.self.now) c.args.slices
 pub returns-then-are_short : goal.returns-then-are_short
 returns-then-are_short c = told_of_cause (case_at c.args.self.now) c.args.slices.now c.args.force c.args.count c.args.blocks false false false false false false true (sym c.lack_one.ensures ∙ c.if-lack_one.false) (sym c.have_plain.ensures ∙ c.if-have_plain.false) (sym c.is_down.ensures ∙ c.if-is_down.false) (sym c.are_too_many.ensures ∙ c.if-are_too_many.false) (sym c.needs_force.ensures ∙ c.if-needs_force.false) (sym c.are_taken.ensures ∙ c.if-are_taken.false) (sym c.are_short.ensures ∙ c.if-are_short.true) _ refl
 
-pub returns-then-is_some : goal.returns-then-is_some
-returns-then-is_some c = told_of_checks (case_at c.args.self.now) c.args.slices.now c.args.force c.args.count c.args.blocks false false false false false false false true (sym c.lack_one.ensures ∙ c.if-lack_one.false) (sym c.have_plain.ensures ∙ c.if-have_plain.false) (sym c.is_down.ensures ∙ c.if-is_down.false) (sym c.are_too_many.ensures ∙ c.if-are_too_many.false) (sym c.needs_force.ensures ∙ c.if-needs_force.false) (sym c.are_taken.ensures ∙ c.if-are_taken.false) (sym c.are_short.ensures ∙ c.if-are_short.false) (search rules)
+pub refusal_beside-requires-clause-few : goal.refusal_beside-requires-clause-few
+refusal_beside-requires-clause-few c = few_enough _ (sym c.are_too_many.ensures ∙ c.if-are_too_many.false)
 
 pub returns : goal.returns
-returns c = told_of_checks (case_at c.args.self.now) c.args.slices.now c.args.force c.args.count c.args.blocks false false false false false false false false (sym c.lack_one.ensures ∙ c.if-lack_one.false) (sym c.have_plain.ensures ∙ c.if-have_plain.false) (sym c.is_down.ensures ∙ c.if-is_down.false) (sym c.are_too_many.ensures ∙ c.if-are_too_many.false) (sym c.needs_force.ensures ∙ c.if-needs_force.false) (sym c.are_taken.ensures ∙ c.if-are_taken.false) (sym c.are_short.ensures ∙ c.if-are_short.false) (search rules)
+returns c =
+    c.refusal_beside.ensures
+    ∙ told_of_checks (case_at c.args.self.now) c.args.slices.now c.args.force c.args.count c.args.blocks false false false false false false false (sym c.lack_one.ensures ∙ c.if-lack_one.false) (sym c.have_plain.ensures ∙ c.if-have_plain.false) (sym c.is_down.ensures ∙ c.if-is_down.false) (sym c.are_too_many.ensures ∙ c.if-are_too_many.false) (sym c.needs_force.ensures ∙ c.if-needs_force.false) (sym c.are_taken.ensures ∙ c.if-are_taken.false) (sym c.are_short.ensures ∙ c.if-are_short.false)

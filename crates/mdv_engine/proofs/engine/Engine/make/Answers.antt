@@ -1,13 +1,13 @@
-use Rattle.std.proofs.Common.{◌∙◌, refl, subst, sym}
+use Rattle.std.proofs.Common.{◌∙◌, inl, refl, subst, sym}
 use Rattle.mdv_engine_law.specs.Commands as came
 use Rattle.mdv_engine_law.specs.Commands.{MaySpend, blame_of}
-use Rattle.mdv_engine.specs.Below.{Create, key_of, lines_asked}
+use Rattle.mdv_engine.specs.Below.{AddPlaces, key_of, lines_asked}
 use Rattle.mdv_engine_law.proofs.Plain.{refusal_plain}
 use Rattle.mdv_engine_law.specs.declared.answer.Outcome.TheVariants as outcome
 use Rattle.mdv_engine_law.specs.Line.{ToMake}
 use Rattle.mdv_shelf.specs.Shelves.{DriveFailures}
 use Rattle.mdv_engine.proofs.Blocks.{moments_still, refused_carried}
-use Rattle.mdv_engine.proofs.Judged.{IsJudged, creation_judged, judged_said}
+use Rattle.mdv_engine.proofs.Judged.{IsJudged, creation_judged, judged_mere, judged_said}
 use Rattle.mdv_engine.proofs.Counting.{refused_counted}
 use Rattle.mdv_engine.proofs.Ending.{command_ends, refused_answer}
 use Rattle.mdv_engine.specs.Engine.{case_at}
@@ -22,7 +22,7 @@ make_database-requires-clause-allowed g c = (c.args.force, sym c.creation_refusa
 pub returns-in-Some-clause-end : goal.returns-in-Some-clause-end
 returns-in-Some-clause-end g c =
     let v = c.args.self.now in
-    command_ends _ v (Create c.args.slices.now c.args.force c.args.count c.args.blocks) (outcome.Refused c.in-Some.refusal) v _ _
+    command_ends _ v (AddPlaces c.args.slices.now c.args.force c.args.count c.args.blocks) (outcome.Refused c.in-Some.refusal) v _ _
     (λ t start. (t, start, λ known. came.refused (λ drive. refl) c.in-Some.refusal (sym c.creation_refusal.ensures ∙ c.in-Some.is) (refl, record { memory = refl; content = λ drive block. refl })))
     (refused_carried v.host (ToMake (key_of v.host) (lines_asked v.host c.args.slices.now) c.args.count c.args.blocks) v.state _ _ refl c.in-Some.refusal)
     (λ on u. absurd on)
@@ -31,11 +31,12 @@ pub returns-in-Some-clause-answer : goal.returns-in-Some-clause-answer
 returns-in-Some-clause-answer g c =
     let v = c.args.self.now in
     let calls = DriveFailures g.S.Shelf c.args.shelf.now c.args.shelf.now in
-    let asked = Create c.args.slices.now c.args.force c.args.count c.args.blocks in
+    let asked = AddPlaces c.args.slices.now c.args.force c.args.count c.args.blocks in
     let is = sym c.creation_refusal.ensures ∙ c.in-Some.is in
     refused_answer calls asked v c.requires.well c.in-Some.refusal
     (judged_said (blame_of calls v.host v.state asked) (MaySpend asked) c.in-Some.refusal (creation_judged (case_at v) c.args.slices.now c.args.force c.args.count c.args.blocks c.in-Some.refusal is) (λ drive. refl))
     (refusal_plain (case_at v) asked c.in-Some.refusal is)
+    (inl (judged_mere c.in-Some.refusal (creation_judged (case_at v) c.args.slices.now c.args.force c.args.count c.args.blocks c.in-Some.refusal is)))
 
 pub returns-in-None-clause-end : goal.returns-in-None-clause-end
 returns-in-None-clause-end g c = c.make_database.ensures.end c.args.force (sym c.creation_refusal.ensures ∙ c.in-None.is)
@@ -46,7 +47,7 @@ returns-in-None-clause-answer g c = c.make_database.ensures.answer c.args.force
 pub returns-in-Some-clause-counted : goal.returns-in-Some-clause-counted
 returns-in-Some-clause-counted g c =
     let v = c.args.self.now in
-    refused_counted g.S.Shelf _ _ v.host (Create c.args.slices.now c.args.force c.args.count c.args.blocks) c.in-Some.refusal _ _
+    refused_counted g.S.Shelf _ _ v.host (AddPlaces c.args.slices.now c.args.force c.args.count c.args.blocks) c.in-Some.refusal _ _
     (λ fault. absurd (subst IsJudged fault (creation_judged (case_at v) c.args.slices.now c.args.force c.args.count c.args.blocks c.in-Some.refusal (sym c.creation_refusal.ensures ∙ c.in-Some.is)))) refl
 
 pub returns-in-Some-clause-moments : goal.returns-in-Some-clause-moments

@@ -4,7 +4,7 @@ use Rattle.mdv_store.specs.Create.{CreateEnds, CreateMoment, IsCreated, IsCreati
 use Rattle.mdv_shelf.specs.Drives.{KeptAmong}
 use Rattle.mdv_shelf.specs.Shelves.{AtEachTale, AtEnd, DriveFailures}
 use Rattle.mdv_engine_law.specs.Answers.{accepted, refusing}
-use Rattle.mdv_engine.specs.Below.{Create, OutOfMemory}
+use Rattle.mdv_engine.specs.Below.{AddPlaces, OutOfMemory}
 use Rattle.mdv_engine.specs.Ends.{CreationEnds, HasAnswered}
 use Rattle.mdv_engine.specs.declared.engine.Engine.{Engine}
 use Rattle.mdv_engine.proofs.Creating as creating
@@ -24,19 +24,19 @@ pub returns-in_default-clause-end : goal.returns-in_default-clause-end
 returns-in_default-clause-end g c = λ force free.
     let v = c.args.self.now in
     subst (λ (e : Engine). CreationEnds g.S.Shelf c.args.shelf.now c.args.shelf.now v c.args.slices.now force c.args.count c.args.blocks (refusing OutOfMemory) (record { host = v.host; state = begun e.state })) (sym c.self.view_is)
-    (makes.wanting_ends g.S.Shelf c.args.shelf.now c.args.shelf.now v c.requires.ready c.args.slices.now c.args.count c.args.blocks c.requires.form c.requires.begun force free refl (λ drive. refl))
+    (makes.wanting_ends g.S.Shelf c.args.shelf.now c.args.shelf.now v c.requires.ready c.args.slices.now c.args.count c.args.blocks c.requires.form c.requires.begun c.requires.entries force free refl (λ drive. refl))
 
 pub returns-in_default-clause-answer : goal.returns-in_default-clause-answer
 returns-in_default-clause-answer g c = λ force.
     let v = c.args.self.now in
-    subst (λ (e : Engine). HasAnswered (DriveFailures g.S.Shelf c.args.shelf.now c.args.shelf.now) (Create c.args.slices.now force c.args.count c.args.blocks) v (refusing OutOfMemory) (record { host = e.host; state = begun e.state })) (sym c.self.view_is)
-    (makes.wanting_answer g.S.Shelf c.args.shelf.now c.args.shelf.now v c.requires.ready c.args.slices.now c.args.count c.args.blocks c.requires.form c.requires.begun c.requires.allowed (λ drive. refl) force)
+    subst (λ (e : Engine). HasAnswered (DriveFailures g.S.Shelf c.args.shelf.now c.args.shelf.now) (AddPlaces c.args.slices.now force c.args.count c.args.blocks) v (refusing OutOfMemory) (record { host = e.host; state = begun e.state })) (sym c.self.view_is)
+    (makes.wanting_answer g.S.Shelf c.args.shelf.now c.args.shelf.now v c.requires.ready c.args.slices.now c.args.count c.args.blocks c.requires.form c.requires.begun c.requires.entries c.requires.allowed (λ drive. refl) force)
 
 pub returns-in-Ok-create-clause-end : goal.returns-in-Ok-create-clause-end
 returns-in-Ok-create-clause-end g c = λ force free.
     let v = c.args.self.now in
     subst (λ (e : Engine). CreationEnds g.S.Shelf c.args.shelf.now c.create.new.shelf v c.args.slices.now force c.args.count c.args.blocks accepted (record { host = v.host; state = with_new e.state c.in-Ok-create.store })) (sym c.self.view_is)
-    (makes.made_ends g.S.Shelf c.args.shelf.now c.create.new.shelf v c.requires.ready c.args.slices.now c.args.count c.args.blocks c.requires.form c.requires.begun force free
+    (makes.made_ends g.S.Shelf c.args.shelf.now c.create.new.shelf v c.requires.ready c.args.slices.now c.args.count c.args.blocks c.requires.form c.requires.begun c.requires.entries force free
     (makes.to_old v _ c.self.view_is c.as_slice.result.now c.args.slices.now (c.as_slice.ensures.value ∙ c.in-Ok.ensures) (λ key identity lines. KeptAmong g.S.Shelf c.args.shelf.now c.create.new.shelf (drives_asked lines)) c.create.ensures.kept)
     (makes.to_old v _ c.self.view_is c.as_slice.result.now c.args.slices.now (c.as_slice.ensures.value ∙ c.in-Ok.ensures) (λ key identity lines. AtEachTale g.S.Shelf (CreateMoment key identity lines c.args.count c.args.blocks) c.args.shelf.now c.create.new.shelf) c.create.ensures.moments)
     c.in-Ok-create.store
@@ -46,14 +46,14 @@ returns-in-Ok-create-clause-end g c = λ force free.
 pub returns-in-Ok-create-clause-moments : goal.returns-in-Ok-create-clause-moments
 returns-in-Ok-create-clause-moments g c =
     let v = c.args.self.now in
-    makes.creation_moments g.S.Shelf c.args.shelf.now c.create.new.shelf v c.requires.ready c.args.slices.now c.args.count c.args.blocks c.requires.form c.requires.begun c.requires.allowed
+    makes.creation_moments g.S.Shelf c.args.shelf.now c.create.new.shelf v c.requires.ready c.args.slices.now c.args.count c.args.blocks c.requires.form c.requires.begun c.requires.entries c.requires.allowed
     (makes.to_old v _ c.self.view_is c.as_slice.result.now c.args.slices.now (c.as_slice.ensures.value ∙ c.in-Ok.ensures) (λ key identity lines. AtEachTale g.S.Shelf (CreateMoment key identity lines c.args.count c.args.blocks) c.args.shelf.now c.create.new.shelf) c.create.ensures.moments)
 
 pub returns-in-Ok-create-clause-answer : goal.returns-in-Ok-create-clause-answer
 returns-in-Ok-create-clause-answer g c = λ force.
     let v = c.args.self.now in
-    subst (λ (e : Engine). HasAnswered (DriveFailures g.S.Shelf c.args.shelf.now c.create.new.shelf) (Create c.args.slices.now force c.args.count c.args.blocks) v accepted (record { host = e.host; state = with_new e.state c.in-Ok-create.store })) (sym c.self.view_is)
-    (makes.made_answer g.S.Shelf c.args.shelf.now c.create.new.shelf v c.requires.ready c.args.slices.now c.args.count c.args.blocks c.requires.form c.requires.begun c.requires.allowed
+    subst (λ (e : Engine). HasAnswered (DriveFailures g.S.Shelf c.args.shelf.now c.create.new.shelf) (AddPlaces c.args.slices.now force c.args.count c.args.blocks) v accepted (record { host = e.host; state = with_new e.state c.in-Ok-create.store })) (sym c.self.view_is)
+    (makes.made_answer g.S.Shelf c.args.shelf.now c.create.new.shelf v c.requires.ready c.args.slices.now c.args.count c.args.blocks c.requires.form c.requires.begun c.requires.entries c.requires.allowed
     (makes.to_old v _ c.self.view_is c.as_slice.result.now c.args.slices.now (c.as_slice.ensures.value ∙ c.in-Ok.ensures) (λ key identity lines. KeptAmong g.S.Shelf c.args.shelf.now c.create.new.shelf (drives_asked lines)) c.create.ensures.kept)
     c.in-Ok-create.store
     (makes.to_old v _ c.self.view_is c.as_slice.result.now c.args.slices.now (c.as_slice.ensures.value ∙ c.in-Ok.ensures) (λ key identity lines. IsCreated g.S.Shelf c.args.shelf.now c.create.new.shelf key identity lines c.args.count c.args.blocks (Ok c.in-Ok-create.store)) c.in-Ok-create.ensures.answer)
@@ -62,14 +62,14 @@ returns-in-Ok-create-clause-answer g c = λ force.
 pub returns-clause-moments : goal.returns-clause-moments
 returns-clause-moments g c =
     let v = c.args.self.now in
-    makes.creation_moments g.S.Shelf c.args.shelf.now c.create.new.shelf v c.requires.ready c.args.slices.now c.args.count c.args.blocks c.requires.form c.requires.begun c.requires.allowed
+    makes.creation_moments g.S.Shelf c.args.shelf.now c.create.new.shelf v c.requires.ready c.args.slices.now c.args.count c.args.blocks c.requires.form c.requires.begun c.requires.entries c.requires.allowed
     (makes.to_old v _ c.self.view_is c.as_slice.result.now c.args.slices.now (c.as_slice.ensures.value ∙ c.in-Ok.ensures) (λ key identity lines. AtEachTale g.S.Shelf (CreateMoment key identity lines c.args.count c.args.blocks) c.args.shelf.now c.create.new.shelf) c.create.ensures.moments)
 
 pub returns-clause-end : goal.returns-clause-end
 returns-clause-end g c = λ force free.
     let v = c.args.self.now in
     subst (λ (e : Engine). CreationEnds g.S.Shelf c.args.shelf.now c.create.new.shelf v c.args.slices.now force c.args.count c.args.blocks c.unmade.result (record { host = v.host; state = begun e.state })) (sym c.self.view_is)
-    (makes.unmade_ends g.S.Shelf c.args.shelf.now c.create.new.shelf v c.requires.ready c.args.slices.now c.args.count c.args.blocks c.requires.form c.requires.begun force free
+    (makes.unmade_ends g.S.Shelf c.args.shelf.now c.create.new.shelf v c.requires.ready c.args.slices.now c.args.count c.args.blocks c.requires.form c.requires.begun c.requires.entries force free
     (makes.to_old v _ c.self.view_is c.as_slice.result.now c.args.slices.now (c.as_slice.ensures.value ∙ c.in-Ok.ensures) (λ key identity lines. KeptAmong g.S.Shelf c.args.shelf.now c.create.new.shelf (drives_asked lines)) c.create.ensures.kept)
     (makes.to_old v _ c.self.view_is c.as_slice.result.now c.args.slices.now (c.as_slice.ensures.value ∙ c.in-Ok.ensures) (λ key identity lines. AtEachTale g.S.Shelf (CreateMoment key identity lines c.args.count c.args.blocks) c.args.shelf.now c.create.new.shelf) c.create.ensures.moments)
     c.in-Err.fault c.unmade.result c.unmade.ensures
@@ -80,8 +80,8 @@ returns-clause-end g c = λ force free.
 pub returns-clause-answer : goal.returns-clause-answer
 returns-clause-answer g c = λ force.
     let v = c.args.self.now in
-    subst (λ (e : Engine). HasAnswered (DriveFailures g.S.Shelf c.args.shelf.now c.create.new.shelf) (Create c.args.slices.now force c.args.count c.args.blocks) v c.unmade.result (record { host = e.host; state = begun e.state })) (sym c.self.view_is)
-    (makes.unmade_answer g.S.Shelf c.args.shelf.now c.create.new.shelf v c.requires.ready c.args.slices.now c.args.count c.args.blocks c.requires.form c.requires.begun c.requires.allowed
+    subst (λ (e : Engine). HasAnswered (DriveFailures g.S.Shelf c.args.shelf.now c.create.new.shelf) (AddPlaces c.args.slices.now force c.args.count c.args.blocks) v c.unmade.result (record { host = e.host; state = begun e.state })) (sym c.self.view_is)
+    (makes.unmade_answer g.S.Shelf c.args.shelf.now c.create.new.shelf v c.requires.ready c.args.slices.now c.args.count c.args.blocks c.requires.form c.requires.begun c.requires.entries c.requires.allowed
     (makes.to_old v _ c.self.view_is c.as_slice.result.now c.args.slices.now (c.as_slice.ensures.value ∙ c.in-Ok.ensures) (λ key identity lines. KeptAmong g.S.Shelf c.args.shelf.now c.create.new.shelf (drives_asked lines)) c.create.ensures.kept)
     c.in-Err.fault c.unmade.result c.unmade.ensures
     (makes.to_old v _ c.self.view_is c.as_slice.result.now c.args.slices.now (c.as_slice.ensures.value ∙ c.in-Ok.ensures) (λ key identity lines. IsCreated g.S.Shelf c.args.shelf.now c.create.new.shelf key identity lines c.args.count c.args.blocks (Err c.in-Err.fault)) c.in-Err.ensures.answer)
@@ -90,7 +90,7 @@ returns-clause-answer g c = λ force.
 pub returns-clause-counted : goal.returns-clause-counted
 returns-clause-counted g c = λ force.
     let v = c.args.self.now in
-    makes.unmade_counted g.S.Shelf c.args.shelf.now c.create.new.shelf v c.requires.ready c.args.slices.now c.args.count c.args.blocks c.requires.form c.requires.begun c.in-Err.fault c.unmade.result c.unmade.ensures
+    makes.unmade_counted g.S.Shelf c.args.shelf.now c.create.new.shelf v c.requires.ready c.args.slices.now c.args.count c.args.blocks c.requires.form c.requires.begun c.requires.entries c.in-Err.fault c.unmade.result c.unmade.ensures
     (makes.to_old v _ c.self.view_is c.as_slice.result.now c.args.slices.now (c.as_slice.ensures.value ∙ c.in-Ok.ensures) (λ key identity lines. IsCreated g.S.Shelf c.args.shelf.now c.create.new.shelf key identity lines c.args.count c.args.blocks (Err c.in-Err.fault)) c.in-Err.ensures.answer)
     (makes.to_old v _ c.self.view_is c.as_slice.result.now c.args.slices.now (c.as_slice.ensures.value ∙ c.in-Ok.ensures) (λ key identity lines. IsCreationCounted g.S.Shelf c.args.shelf.now c.create.new.shelf lines c.args.count c.args.blocks (Err c.in-Err.fault)) c.in-Err.ensures.counted)
     force c.self.inside.0.1.0.database
@@ -98,7 +98,7 @@ returns-clause-counted g c = λ force.
 pub returns-in-Ok-create-clause-counted : goal.returns-in-Ok-create-clause-counted
 returns-in-Ok-create-clause-counted g c = λ force.
     let v = c.args.self.now in
-    makes.made_counted g.S.Shelf c.args.shelf.now c.create.new.shelf v c.requires.ready c.args.slices.now c.args.count c.args.blocks c.requires.form c.requires.begun c.in-Ok-create.store
+    makes.made_counted g.S.Shelf c.args.shelf.now c.create.new.shelf v c.requires.ready c.args.slices.now c.args.count c.args.blocks c.requires.form c.requires.begun c.requires.entries c.in-Ok-create.store
     (makes.to_old v _ c.self.view_is c.as_slice.result.now c.args.slices.now (c.as_slice.ensures.value ∙ c.in-Ok.ensures) (λ key identity lines. IsCreated g.S.Shelf c.args.shelf.now c.create.new.shelf key identity lines c.args.count c.args.blocks (Ok c.in-Ok-create.store)) c.in-Ok-create.ensures.answer)
     (makes.to_old v _ c.self.view_is c.as_slice.result.now c.args.slices.now (c.as_slice.ensures.value ∙ c.in-Ok.ensures) (λ key identity lines. IsCreationCounted g.S.Shelf c.args.shelf.now c.create.new.shelf lines c.args.count c.args.blocks (Ok c.in-Ok-create.store)) c.in-Ok-create.ensures.counted)
     force

@@ -1,4 +1,4 @@
-use Rattle.std.proofs.Common.{refl}
+use Rattle.std.proofs.Common.{refl, inr}
 use Rattle.mdv_table.specs.declared.change.Change.TheVariants.{MakeStripe}
 use Rattle.mdv_words.specs.declared.command.Command.TheVariants as command
 use Rattle.mdv_shelf.specs.Shelves.{DriveFailures}
@@ -30,7 +30,7 @@ pub returns-in-Err-clause-answer : goal.returns-in-Err-clause-answer
 returns-in-Err-clause-answer g c =
     let calls = DriveFailures g.S.Shelf c.args.shelf.now c.args.shelf.now in
     let asked = command.MakeStripe c.args.volume c.args.slice in
-    refused_answer calls asked c.args.self.now c.requires.well c.in-Err.refusal (change_cause c.args.self.now.host c.args.self.now.state (MakeStripe c.args.volume c.args.slice) (blame_of calls c.args.self.now.host c.args.self.now.state asked) (MaySpend asked) (λ drive. refl) c.in-Err.refusal c.in-Err.ensures.err) (refused_plain c.args.self.now.host c.args.self.now.state c.args.volume c.args.slice c.in-Err.refusal c.in-Err.ensures.err)
+    refused_answer calls asked c.args.self.now c.requires.well c.in-Err.refusal (change_cause c.args.self.now.host c.args.self.now.state (MakeStripe c.args.volume c.args.slice) (blame_of calls c.args.self.now.host c.args.self.now.state asked) (MaySpend asked) (λ drive. refl) c.in-Err.refusal c.in-Err.ensures.err) (refused_plain c.args.self.now.host c.args.self.now.state c.args.volume c.args.slice c.in-Err.refusal c.in-Err.ensures.err) (inr tt)
 
 pub returns-in-Err-clause-counted : goal.returns-in-Err-clause-counted
 returns-in-Err-clause-counted g c =

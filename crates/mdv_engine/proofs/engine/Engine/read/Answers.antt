@@ -1,4 +1,4 @@
-use Rattle.std.proofs.Common.{inl, ◌∙◌, ap, refl, arith}
+use Rattle.std.proofs.Common.{inl, ◌∙◌, ap, refl, arith, inr}
 use Rattle.mdv_engine_law.specs.Commands as came
 use Rattle.mdv_engine_law.specs.Line.{ToSee}
 use Rattle.mdv_words.specs.declared.command.Command.TheVariants as command
@@ -29,6 +29,7 @@ returns-in-Ok-clause-answer g c = record {
   cause = c.in-Ok.ensures.ok.calm;
   lost = λ active listed is. absurd (cc (is));
   free = λ on has. absurd (omega (arith, has.1));
+  few = inr tt;
   host = refl;
   well = λ on. c.requires.well;
   begun = omega arith;
@@ -42,6 +43,7 @@ returns-in-Err-clause-answer g c =
     refused_answer (DriveFailures g.S.Shelf c.args.shelf.now c.values.new.shelf) (command.Read c.args.volume c.args.at c.args.count) c.args.self.now c.requires.well c.in-Err.refusal
     (unread_cause c.args.self.now.host c.args.self.now.state c.args.volume c.args.at c.args.count (DriveFailures g.S.Shelf c.args.shelf.now c.values.new.shelf) ⊥ c.in-Err.refusal c.in-Err.ensures.err)
     (unread_plain c.args.self.now.host c.args.self.now.state c.args.volume c.args.at c.args.count (DriveFailures g.S.Shelf c.args.shelf.now c.values.new.shelf) c.in-Err.refusal c.in-Err.ensures.err)
+    (inr tt)
 
 pub returns-in-Err-clause-end : goal.returns-in-Err-clause-end
 returns-in-Err-clause-end g c =

@@ -1,4 +1,4 @@
-use Rattle.std.proofs.Common.{◌∷◌, [], ap, refl, arith}
+use Rattle.std.proofs.Common.{◌∷◌, [], ap, refl, arith, inr}
 use Rattle.mdv_words.specs.declared.command.Command.TheVariants as command
 use Rattle.mdv_shelf.specs.Shelves.{DriveFailures}
 use Rattle.mdv_engine.specs.Below.{Wrote, key_of}
@@ -26,6 +26,7 @@ returns-in-Ok-clause-answer g c = rw (c.write_blocks.ensures.same.0) (record {
   cause = c.in-Ok.ensures.put.calm;
   lost = λ active listed is. absurd (cc (is));
   free = λ on has. absurd (no_creation (key_of c.args.self.now.host) (Wrote (key_of c.args.self.now.host) c.args.volume c.args.at (c.args.block.now ∷ [])) (λ is. absurd (cc (is))) has);
+  few = inr tt;
   host = refl;
   well = λ on. c.requires.well;
   begun = omega arith;
@@ -43,7 +44,7 @@ returns-in-Err-clause-end g c =
 
 pub returns-in-Err-clause-answer : goal.returns-in-Err-clause-answer
 returns-in-Err-clause-answer g c =
-    rw (c.write_blocks.ensures.same.0) (refused_answer (DriveFailures g.S.Shelf c.args.shelf.now c.write_blocks.new.shelf) (command.Write c.args.volume c.args.at c.args.block.now) c.args.self.now c.requires.well c.in-Err.refusal (unwritten_cause c.args.self.now.host c.args.self.now.state c.args.volume c.args.at 1 (DriveFailures g.S.Shelf c.args.shelf.now c.write_blocks.new.shelf) ⊥ c.in-Err.refusal c.in-Err.ensures.err) (unwritten_plain c.args.self.now.host c.args.self.now.state c.args.volume c.args.at 1 (DriveFailures g.S.Shelf c.args.shelf.now c.write_blocks.new.shelf) c.in-Err.refusal c.in-Err.ensures.err))
+    rw (c.write_blocks.ensures.same.0) (refused_answer (DriveFailures g.S.Shelf c.args.shelf.now c.write_blocks.new.shelf) (command.Write c.args.volume c.args.at c.args.block.now) c.args.self.now c.requires.well c.in-Err.refusal (unwritten_cause c.args.self.now.host c.args.self.now.state c.args.volume c.args.at 1 (DriveFailures g.S.Shelf c.args.shelf.now c.write_blocks.new.shelf) ⊥ c.in-Err.refusal c.in-Err.ensures.err) (unwritten_plain c.args.self.now.host c.args.self.now.state c.args.volume c.args.at 1 (DriveFailures g.S.Shelf c.args.shelf.now c.write_blocks.new.shelf) c.in-Err.refusal c.in-Err.ensures.err) (inr tt))
 
 pub returns-in-Ok-clause-counted : goal.returns-in-Ok-clause-counted
 returns-in-Ok-clause-counted g c = record { exactly = c.in-Ok.ensures.counted.done; most = exactly_most g.S.Shelf _ _ c.args.self.now.host 2 1 c.in-Ok.ensures.counted.done; wrote = tt }
