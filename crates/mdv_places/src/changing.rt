@@ -28,8 +28,9 @@ pub enum PlacesFault {
     Failed,
     /// The text of the table with both lists is longer than the smallest slot of their places; nothing was done.
     TooLong(TooLong),
-    /// Of a list, the first one of which that is so, fewer than half of the places are active, because calls on their drives failed: a crash may leave
-    /// the old lists or the new ones. From then on nothing more is written.
+    /// Of a list, the first one of which that is so, fewer than half of the places are active: calls on their drives failed, or places of the list
+    /// that comes weren't active before. Where that was so of the open list nothing was done; else a crash may leave the old lists or the new ones.
+    /// From then on nothing more is written.
     Lost { active: u32, listed: u32 },
     /// The count of the second mark would reach 2^63; nothing was done.
     Spent,
