@@ -1,27 +1,26 @@
 -- The answer of a change of places.
-use Rattle.std.proofs.Common.{◌≢◌, inl, inr, ℕ, Bool, List, ◌++◌, Ok, Err, refl, sym, ◌∙◌, subst}
+use Rattle.std.proofs.Common.{◌≡◌, inl, inr, ℕ, Bool, List, ◌++◌, Ok, Err, refl, sym, ◌∙◌, subst}
 use Rattle.mdv_acts.specs.Acts.{HaveGone, HaveStopped}
 use Rattle.mdv_acts.specs.Wipes.{AreLostBy, WereWiped}
 use Rattle.mdv_base.specs.DriveSet.{Drives, no_drives}
 use Rattle.mdv_store.proofs.Marks.{slot_laid}
 use Rattle.mdv_store.proofs.Relisting.{laid_in}
 use Rattle.mdv_store.proofs.Sitting.{left_laid}
-use Rattle.mdv_store.specs.Listing.{MayList, MayNotList, WasListed, last_by, seats_in}
+use Rattle.mdv_store.specs.Listing.{MayList, WasListed, last_by, seats_in}
 use Rattle.mdv_store.specs.Writing.{text_size}
-use Rattle.mdv_shelf.specs.Shelves.{DriveFailures}
-use Rattle.mdv_places.specs.Asked.{acts_moved, drives_added, dropped, lists_after, seats_added}
+use Rattle.mdv_shelf.specs.Shelves.{AtEnd, DriveFailures}
+use Rattle.mdv_places.specs.Asked.{Adds, Asks, Drops, KeepsFirst, acts_moved, drives_added, dropped, lists_after, seats_added}
 use Rattle.mdv_places.specs.Below.{AreLaid, Geometry, Ghosts, Opened, Share, TakesSlot, last_of, next_mark}
 use Rattle.mdv_places.specs.Answer.{MoveAnswer}
-use Rattle.mdv_places.specs.Changing.{MayMove, WereMoved, both_of, fault_of, lost_by}
+use Rattle.mdv_places.specs.Changing.{MayMove, WereMoved, both_of, lost_by}
 use Rattle.mdv_places.specs.Moments.{AreBlanked, MoveShows}
-use Rattle.mdv_shelf.specs.Shelves.{AtEnd}
-use Rattle.mdv_store.specs.declared.store.CommitFault.{CommitFault}
-use Rattle.mdv_store.specs.declared.store.CommitFault.TheVariants as unwritten
 use Rattle.mdv_places.specs.declared.changing.PlacesFault.{PlacesFault}
 use Rattle.mdv_places.specs.declared.changing.PlacesFault.TheVariants as unmoved
 use Rattle.std.specs.Prelude.{Result}
 use Rattle.mdv_places.proofs.Calling.{both_lost, last_lost, moved_so, not_moved}
-use Rattle.mdv_places.specs.Asked.{Asks, KeepsFirst}
+use Rattle.mdv_places.specs.Ending.{IsSole}
+use Rattle.mdv_places.specs.Outcomes.{IsMoved}
+use Rattle.mdv_places.proofs.Sole.{sole_left}
 use Rattle.mdv_places.proofs.Moving.{both_laid}
 use Rattle.mdv_places.proofs.Wiping.{told}
 
@@ -43,9 +42,10 @@ module _ {S : Type 0} (shelf : Ghosts S) (from formed both : S) (g : Geometry) (
   lost_both share first shown = record {
     came = inr (inl (record { formed = formed; gone = gone; first = first }));
     laid = between_laid (Err share) first;
-    by = inr (inl (both_lost shelf from formed both g o between asked checked gone share first));
+    by = inr (inl (both_lost shelf from formed both g o between asked checked gone may share first));
     shown = shown;
     wiped = tt;
+    sole = λ first. tt;
   }
 
   module _ (first : WasListed shelf formed both (both_of o asked) between (Ok tt)) (last : S) (now : Opened) where
@@ -61,9 +61,10 @@ module _ {S : Type 0} (shelf : Ghosts S) (from formed both : S) (g : Geometry) (
     lost_last share second shown = record {
       came = inr (inr (record { formed = formed; both = both; between = between; gone = gone; first = first; second = second }));
       laid = last_laid (Err share) second;
-      by = inr (inr (last_lost shelf from formed both g o between asked checked gone first last now share second));
+      by = inr (inr (last_lost shelf from formed both g o between asked checked gone may first last now share second));
       shown = shown;
       wiped = tt;
+      sole = λ first. tt;
     }
 
     -- done: each dropped place was tried behind that
@@ -85,6 +86,11 @@ module _ {S : Type 0} (shelf : Ghosts S) (from formed both : S) (g : Geometry) (
         told = told shelf from last to g o now asked may.sound lost left failed clean wiped;
       }
 
+      alone : (a : Asks) → a ≡ KeepsFirst → MayMove (shelf.sizes from) g o a → MayList o (lists_after a o.table.plan.lists) → IsMoved (DriveFailures shelf from to) g o a now clean → IsSole now
+      alone (Adds lines count blocks) first may_move list m = absurd (cc (first))
+      alone (Drops slices) first may_move list m = absurd (cc (first))
+      alone KeepsFirst first may_move list m = sole_left (DriveFailures shelf from to) (shelf.sizes from) g o may_move list now clean m
+
       pub moved : Shown to now (Ok clean) → AtEnd shelf (λ t u. AreBlanked (DriveFailures shelf from to) g o asked clean u) from to → MoveAnswer shelf from to g o now asked (Ok clean)
       moved shown blanked = record {
         came = were_moved;
@@ -92,19 +98,11 @@ module _ {S : Type 0} (shelf : Ghosts S) (from formed both : S) (g : Geometry) (
         by = moved_so shelf from to g o now asked may.sound checked clean were_moved;
         shown = shown;
         wiped = blanked;
+        sole = λ first. alone asked first may checked (moved_so shelf from to g o now asked may.sound checked clean were_moved);
       }
 
--- nothing was done
+-- A call failed as places were formatted.
 module _ {S : Type 0} (shelf : Ghosts S) (from : S) (g : Geometry) (o : Opened) (asked : Asks) (laid : AreLaid (shelf.sizes from) o.seats) where
-  pub refused : (fault : CommitFault) → MayNotList o (lists_after asked o.table.plan.lists) fault → MoveAnswer shelf from from g o o asked (Err (fault_of fault))
-  refused (unwritten.Lost active listed) is = record { came = inl ((refl, refl), is); laid = laid; by = inl ((refl, λ d. refl), is); shown = λ t here. (t, here, λ go. inl refl); wiped = tt }
-  refused (unwritten.TooLong fault) is = record { came = ((refl, refl), is); laid = laid; by = ((refl, λ d. refl), is); shown = λ t here. (t, here, λ go. refl); wiped = tt }
-  refused unwritten.Spent is = record { came = ((refl, refl), is); laid = laid; by = ((refl, λ d. refl), is); shown = λ t here. (t, here, λ go. refl); wiped = tt }
-
-  pub wanting : MayList o (lists_after asked o.table.plan.lists) → (asked ≢ KeepsFirst) → MoveAnswer shelf from from g o o asked (Err unmoved.Memory)
-  wanting checked other = record { came = ((refl, refl), checked, other); laid = laid; by = ((refl, λ d. refl), checked, other); shown = λ t here. (t, here, λ go. refl); wiped = tt }
-
-  -- a call failed as places were formatted
   pub stopped_answer : (to : S) → MayList o (lists_after asked o.table.plan.lists) → HaveStopped shelf from to (drives_added asked) (acts_moved o asked) → AtEnd shelf (MoveShows g o o asked (Err unmoved.Failed)) from to → MoveAnswer shelf from to g o o asked (Err unmoved.Failed)
   stopped_answer to checked stopped shown = record {
     came = (stopped, refl, checked);
@@ -112,4 +110,5 @@ module _ {S : Type 0} (shelf : Ghosts S) (from : S) (g : Geometry) (o : Opened) 
     by = (not_moved shelf from to g o asked checked stopped, refl);
     shown = shown;
     wiped = tt;
+    sole = λ first. tt;
   }

@@ -17,7 +17,7 @@ use Rattle.mdv_places.proofs.Losing.{no_both}
 use Rattle.mdv_places.proofs.Wiping.{step_free}
 
 -- a master that is blank stays so
-blank_still : (a b : PlaceAt) (u v : Tale) → IsBlankAt a u → Wiping b u v → IsBlankAt a v
+pub blank_still : (a b : PlaceAt) (u v : Tale) → IsBlankAt a u → Wiping b u v → IsBlankAt a v
 blank_still a b u v blank wiping image is =
     let from = leaves_settling b.drive.0 b.first (block_of []) u v wiping image is in
     elim (wiped_or_same b from.0 image from.2 a.drive.0 a.first) [
@@ -28,7 +28,7 @@ blank_still a b u v blank wiping image is =
 blank_trying : (a : PlaceAt) (places : List PlaceAt) (u v : Tale) → IsBlankAt a u → AreTrying places u v → IsBlankAt a v
 blank_trying a places u v blank is = trying places (IsBlankAt a) (λ b s t has so wiping. blank_still a b s t so wiping) u v blank is
 
-blank_done : (a : PlaceAt) (u : Tale) → IsWiped a u → IsBlankAt a u
+pub blank_done : (a : PlaceAt) (u : Tale) → IsWiped a u → IsBlankAt a u
 blank_done a u wiped image is =
     let here : a.first ≡ a.first + 0 = omega arith in
     ap (image a.drive.0) here ∙ settled_here a.drive.0 a.first blank_master u wiped image is 0 (omega arith)

@@ -16,13 +16,16 @@ use Rattle.mdv_store.proofs.Marks.{slot_stays}
 use Rattle.mdv_store.proofs.Passes.{left_calm, left_told, unmapped}
 use Rattle.mdv_store.specs.Listing.{MayList, WasListed, last_by, seats_in}
 use Rattle.mdv_store.specs.Seats.{drive_of}
+use Rattle.mdv_store.specs.Shares.{short_of}
 use Rattle.mdv_store.specs.Writing.{text_size}
+use Rattle.mdv_store.specs.declared.seats.Need.TheVariants.{Half}
 use Rattle.mdv_places.specs.Asked.{Asks, acts_moved, drives_added, list_after, lists_after}
 use Rattle.mdv_places.specs.Below.{AreLeft, DriveNo, Failures, Geometry, Ghosts, Opened, Place, PlaceAt, Replica, Seat, Share, TakesSlot, drives_of, last_of, next_mark, replicas_of, settled}
-use Rattle.mdv_places.specs.Changing.{WereMoved, both_of, drives_dropped}
+use Rattle.mdv_places.specs.Changing.{MayMove, WereMoved, both_of, drives_dropped}
 use Rattle.mdv_places.specs.Ending.{HasEnded, IsEndedBy}
 use Rattle.mdv_places.specs.Outcomes.{IsLostBoth, IsLostLast, IsMoved, IsNumberOf, IsUnmoved, TakesBoth, seats_coming, till_wiped}
 use Rattle.mdv_places.proofs.Counting.{left_in}
+use Rattle.mdv_places.proofs.Enough.{both_failed, last_failed}
 use Rattle.mdv_places.proofs.Exact.{failed_first}
 use Rattle.mdv_places.proofs.Losing.{IsLostAs, drive_under}
 use Rattle.mdv_places.proofs.Wiping.{found_drives}
@@ -85,8 +88,11 @@ module _ {S : Type 0} (shelf : Ghosts S) (from formed both : S) (g : Geometry) (
   since result first = left_as (DriveFailures shelf formed both) (DriveFailures shelf from both) First some_since none_since seats between.seats first.wrote.left
 
   -- too few took the table with both lists
-  pub both_lost : (share : Share) → WasListed shelf formed both (both_of o asked) between (Err share) → IsLostBoth (DriveFailures shelf from both) g o asked between share
-  both_lost share first = record { may = checked; left = since (Err share) first; few = first.came.0; is = first.came.1 }
+  pub both_lost : MayMove (shelf.sizes from) g o asked → (share : Share) → WasListed shelf formed both (both_of o asked) between (Err share) → IsLostBoth (DriveFailures shelf from both) g o asked between share
+  both_lost may share first =
+      let left = since (Err share) first in
+      let few = subst (λ (b : Opened). short_of Half between.seats b.table.plan.lists ≡ Some share) first.came.1 first.came.0 in
+      record { may = checked; left = left; few = first.came.0; is = first.came.1; failed = both_failed (shelf.sizes from) g o asked may checked (DriveFailures shelf from both) First between.seats share left few }
 
   module _ (first : WasListed shelf formed both (both_of o asked) between (Ok tt)) (last : S) (now : Opened) (result : Result (Unit {0}) Share) (second : WasListed shelf both last (last_by between) now result) where
     abbrev then_open : Opened
@@ -136,9 +142,13 @@ module _ {S : Type 0} (shelf : Ghosts S) (from formed both : S) (g : Geometry) (
         (seats_coming (DriveFailures shelf from last) g o asked) picks now.seats left_first again.wrote.left
 
   -- enough did, and too few that with the new list alone
-  pub last_lost : WasListed shelf formed both (both_of o asked) between (Ok tt) → (last : S) (now : Opened) (share : Share) → WasListed shelf both last (last_by between) now (Err share) → IsLostLast (DriveFailures shelf from last) g o asked now share
-  last_lost first last now share second =
-      (let twice = again first last now (Err share) second in record { may = checked; left = left_twice first last now (Err share) second; few = twice.came.0; is = twice.came.1 })
+  pub last_lost : MayMove (shelf.sizes from) g o asked → WasListed shelf formed both (both_of o asked) between (Ok tt) → (last : S) (now : Opened) (share : Share) → WasListed shelf both last (last_by between) now (Err share) → IsLostLast (DriveFailures shelf from last) g o asked now share
+  last_lost may first last now share second =
+      let calls = DriveFailures shelf from last in
+      let twice = again first last now (Err share) second in
+      let left = left_twice first last now (Err share) second in
+      let few = subst (λ (b : Opened). short_of Half now.seats b.table.plan.lists ≡ Some share) twice.came.1 twice.came.0 in
+      record { may = checked; left = left; few = twice.came.0; is = twice.came.1; failed = last_failed (shelf.sizes from) g o asked may checked calls (TakesBoth calls g o asked) now.seats share left few }
 
 -- A call failed as places were formatted.
 pub not_moved : {S : Type 0} (shelf : Ghosts S) (from to : S) (g : Geometry) (o : Opened) (asked : Asks) → MayList o (lists_after asked o.table.plan.lists) → HaveStopped shelf from to (drives_added asked) (acts_moved o asked) → IsUnmoved (DriveFailures shelf from to) g o asked

@@ -22,12 +22,11 @@ use Rattle.mdv_store.proofs.Telling.{newest_tellable}
 use Rattle.mdv_store_law.proofs.Parts.{part_of_part}
 use Rattle.mdv_store_law.specs.Part.{IsPart}
 use Rattle.mdv_table.proofs.Settled.{settled_of}
-use Rattle.mdv_places.specs.Asked.{list_after, lists_after, seats_added}
+use Rattle.mdv_places.specs.Asked.{Asks, list_after, lists_after, seats_added}
 use Rattle.mdv_places.specs.Below.{AreLeft, Change, Core, Event, Geometry, IsReadyWith, Log, Mark, One, Opened, Place, Seat, Table, TakesSlot, Tale, asks_of, beside, last_of, next_mark, settled, site_of, spots_of}
 use Rattle.mdv_places.specs.Changing.{MayMove, both_of}
 use Rattle.mdv_places.specs.Going.{IsMoving, TracesBy}
 use Rattle.mdv_places.specs.Moments.{IsChangeOf, IsLogOf}
-use Rattle.mdv_places.specs.Asked.{Asks}
 use Rattle.mdv_places.proofs.Going.{goes_by, goes_less}
 use Rattle.mdv_places.proofs.Moving.{both_seats, is_second, one_list}
 use Rattle.mdv_places.proofs.Picking.{picked_held, picked_named, picked_seat, picked_some, picked_spots}

@@ -2,9 +2,8 @@
 use Rattle.std.proofs.Common.{◌≡◌, ◌⊎◌, inl, inr, ℕ, Bool, true, false, cond, List, [], ◌∷◌, Contains, subst, arith}
 use Rattle.mdv_acts.proofs.Members.{contains_behind, contains_first, first_or_behind}
 use Rattle.mdv_acts.specs.Wipes.{AreLaidOn, in_front, ordered_with}
-use Rattle.mdv_places.specs.Asked.{dropped, list_after}
+use Rattle.mdv_places.specs.Asked.{Asks, dropped, list_after}
 use Rattle.mdv_places.specs.Below.{Geometry, Place, beside, same_slice}
-use Rattle.mdv_places.specs.Asked.{Asks}
 use Rattle.mdv_places.proofs.Coming.{lacks, passes}
 
 -- what is put in front is one of those, or the new one

@@ -19,11 +19,10 @@ use Rattle.mdv_store.specs.Shares.{short_of}
 use Rattle.mdv_store.specs.Text.{blocks_for}
 use Rattle.mdv_store.specs.Writing.{text_size}
 use Rattle.mdv_store.specs.declared.seats.Need.TheVariants.{Half}
-use Rattle.mdv_places.specs.Asked.{acts_moved, drives_added, dropped}
+use Rattle.mdv_places.specs.Asked.{Asks, acts_moved, drives_added, dropped}
 use Rattle.mdv_places.specs.Below.{AreLeft, Failures, Geometry, Ghosts, One, Opened, Place, PlaceAt, Replica, Seat, Table, TakesSlot, active_of, drives_of, last_of, next_mark, replicas_of, settled}
 use Rattle.mdv_places.specs.Changing.{MayMove, both_of, drives_dropped, drives_moved}
 use Rattle.mdv_places.specs.Counts.{HaveNoFailure, first_count, last_count, move_blocks, move_calls}
-use Rattle.mdv_places.specs.Asked.{Asks}
 use Rattle.mdv_places.proofs.Counting.{found_count, left_in}
 use Rattle.mdv_places.proofs.Keeping.{on_drive}
 use Rattle.mdv_places.proofs.Losing.{IsLostAs, drive_in, drive_under, lost_calm, lost_then, no_both}

@@ -24,13 +24,11 @@ use Rattle.mdv_store.specs.Listing.{MayList}
 use Rattle.mdv_store.specs.Records.{Spells}
 use Rattle.mdv_store.specs.Seats.{AreHeld, AreNamed, replica_area, spot_of}
 use Rattle.mdv_votes.specs.Spots.{is_in, is_named}
-use Rattle.mdv_places.specs.Asked.{acts_moved, claims, list_after, lists_after, places_added, places_asked, seats_added}
+use Rattle.mdv_places.specs.Asked.{Adds, Asks, Drops, KeepsFirst, acts_moved, claims, list_after, lists_after, places_added, places_asked, seats_added}
 use Rattle.mdv_places.specs.Below.{Core, Database, Event, Geometry, IsOpenedAt, Lists, One, Opened, Place, Replica, RestStands, Seat, SliceLine, Tale, Two, beside, last_of, replicas_of, seats_area, seats_asked, site_of, spots_of}
 use Rattle.mdv_places.specs.Changing.{MayMove, both_of}
 use Rattle.mdv_places.specs.Going.{IsMoving, TracesBy}
 use Rattle.mdv_places.specs.Moments.{IsForming, IsLogOf, MayShow, RestMay}
-use Rattle.mdv_places.specs.Asked.{Asks}
-use Rattle.mdv_places.specs.Asked.{Adds, Drops, KeepsFirst}
 use Rattle.mdv_places.proofs.Adding.{claims_area, either_replica}
 use Rattle.mdv_places.proofs.Addition.{IsAddition}
 use Rattle.mdv_places.proofs.Formed.{blank_each, goes_each, have_added, held_all, named_added, quiet_each, rest_each, stays_open}

@@ -42,11 +42,10 @@ use Rattle.mdv_store.specs.Seats.{AreHeld, spot_of}
 use Rattle.mdv_store_law.proofs.Logs.{is_log_after}
 use Rattle.mdv_store_law.specs.Log.{IsPlaceable, Placing, begins_in, log_after}
 use Rattle.mdv_votes.proofs.Meeting.{same_is}
-use Rattle.mdv_places.specs.Asked.{claims, places_added, places_asked}
+use Rattle.mdv_places.specs.Asked.{Asks, claims, places_added, places_asked}
 use Rattle.mdv_places.specs.Below.{Core, Database, Event, Geometry, Identity, IsOpenedAt, Key, Log, Opened, Replica, RestStands, Seat, SliceLine, Spot, Tale, Two, last_of, replicas_of, seats_area, seats_asked, site_of, spots_of}
 use Rattle.mdv_places.specs.Going.{GoesTracedBy, IsMoving}
 use Rattle.mdv_places.specs.Moments.{IsLogOf}
-use Rattle.mdv_places.specs.Asked.{Asks}
 use Rattle.mdv_places.proofs.Adding.{added_slice, asked_places, claims_replica, claims_spots, either_replica, place_of_seat}
 use Rattle.mdv_places.proofs.Lists.{pairs_append}
 use Rattle.mdv_places.proofs.Addition.{IsAddition, added_apart, given, line_beside, lists_are, names_added, own_of, pairs}

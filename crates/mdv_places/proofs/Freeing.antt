@@ -6,19 +6,17 @@ use Rattle.mdv_shown.proofs.Sites.{site_is}
 use Rattle.mdv_standing.specs.PlacesTracing.{IsAnswered}
 use Rattle.mdv_standing.specs.Rest.{RestMayBeTaken}
 use Rattle.mdv_standing.proofs.Named.{line_found}
-use Rattle.mdv_store.specs.Below.{Everywhere, is_named, lists_of_spots}
+use Rattle.mdv_store.specs.Below.{Everywhere, Site, is_named, lists_of_spots}
 use Rattle.mdv_store.specs.Blank.{StayBlank}
 use Rattle.mdv_store.specs.Commit.{IsCommittedTo}
 use Rattle.mdv_store.specs.Opened.{AreSeatsOf}
 use Rattle.mdv_store.specs.Records.{Spells}
 use Rattle.mdv_store.proofs.Passes.{mapped}
 use Rattle.mdv_store.proofs.Sitting.{seat_of}
-use Rattle.mdv_places.specs.Asked.{dropped, list_after}
+use Rattle.mdv_places.specs.Asked.{Asks, dropped, list_after}
 use Rattle.mdv_places.specs.Below.{Change, Database, Geometry, IsOpenedAt, IsReadyWith, One, Opened, Place, PlaceAt, Replica, RestStands, Seat, SliceLine, Table, Tale, at_of, places_of, replicas_of, site_of, spots_of}
-use Rattle.mdv_store.specs.Below.{Site}
 use Rattle.mdv_places.specs.Going.{IsMoving, TracesBy}
 use Rattle.mdv_places.specs.Moments.{IsFront}
-use Rattle.mdv_places.specs.Asked.{Asks}
 use Rattle.mdv_places.proofs.Dropping.{dropped_one}
 use Rattle.mdv_places.proofs.Emptying.{AreDue, AreSpotted, AreWipes, spots_named, wipes_blank, wipes_own, wipes_rest, wipes_shown, wipes_trace}
 use Rattle.mdv_places.proofs.Spotting.{due, in_front, place_is, spotted}

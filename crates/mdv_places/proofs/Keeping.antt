@@ -16,11 +16,9 @@ use Rattle.mdv_store.specs.Create.{replica_on}
 use Rattle.mdv_store.specs.Listing.{WasListed, last_by, seats_in}
 use Rattle.mdv_store.specs.Seats.{drive_of}
 use Rattle.mdv_store.specs.Writing.{text_size}
-use Rattle.mdv_places.specs.Asked.{AreAskedOn, acts_moved, claimed, claims, drives_added, seats_added}
+use Rattle.mdv_places.specs.Asked.{Adds, AreAskedOn, Asks, Drops, KeepsFirst, acts_moved, claimed, claims, drives_added, seats_added}
 use Rattle.mdv_places.specs.Below.{DriveNo, Ghosts, Opened, Place, Replica, Seat, SliceLine, TakesSlot, drives_of, last_of, next_mark, replicas_of, seats_asked}
 use Rattle.mdv_places.specs.Changing.{both_of}
-use Rattle.mdv_places.specs.Asked.{Asks}
-use Rattle.mdv_places.specs.Asked.{Adds, Drops, KeepsFirst}
 use Rattle.mdv_places.proofs.Losing.{drive_under}
 
 -- a replica has one with the claim

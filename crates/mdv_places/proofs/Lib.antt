@@ -12,12 +12,14 @@ pub mod Counting
 pub mod Deleting
 pub mod Dropping
 pub mod Emptying
+pub mod Enough
 pub mod Exact
 pub mod Formation
 pub mod Formed
 pub mod Freeing
 pub mod Fronting
 pub mod Going
+pub mod Halves
 pub mod Keeping
 pub mod Lists
 pub mod Losing
@@ -28,6 +30,7 @@ pub mod Picking
 pub mod Preparing
 pub mod Recording
 pub mod Showing
+pub mod Sole
 pub mod Spotting
 pub mod Staying
 pub mod Stretching

@@ -27,12 +27,10 @@ use Rattle.mdv_store.proofs.Again.{none_all, none_of}
 use Rattle.mdv_store.proofs.Blanks.{stay_blank, still_blank}
 use Rattle.mdv_store.proofs.Doing.{doing_end}
 use Rattle.mdv_store.proofs.Sitting.{left_replica, replica_of, seat_of}
-use Rattle.mdv_places.specs.Asked.{AreAskedOn, acts_moved, dropped, list_after, lists_after, places_asked, seats_added}
+use Rattle.mdv_places.specs.Asked.{Adds, AreAskedOn, Asks, Drops, KeepsFirst, acts_moved, dropped, list_after, lists_after, places_asked, seats_added}
 use Rattle.mdv_places.specs.Below.{Area, AreLeft, Change, Database, Geometry, IsOpenedAt, IsReadyWith, Lists, Mark, One, Opened, Place, PlaceAt, Replica, RestStands, Seat, SliceLine, TakesSlot, Tale, asks_of, last_of, next_mark, places_of, replicas_of, seats_area, seats_asked, settled, site_of, spots_of}
 use Rattle.mdv_places.specs.Changing.{MayMove, both_of}
 use Rattle.mdv_places.specs.Moments.{AreOfMove, IsChangeOf, IsLogOf, IsMoveEnd, MayGo, MayShow, MoveGoes, MoveMoment, RestMay, StandsOpen, WereListed, area_moved, master_area}
-use Rattle.mdv_places.specs.Asked.{Asks}
-use Rattle.mdv_places.specs.Asked.{Adds, Drops, KeepsFirst}
 use Rattle.mdv_places.proofs.Adding.{claims_area}
 use Rattle.mdv_places.proofs.Composing.{after_at, both_over, bs_are, both_recording, both_traces, last_at, last_over, last_recording, last_traces, ns_are}
 use Rattle.mdv_places.proofs.Dropping.{dropped_one}

@@ -15,11 +15,9 @@ use Rattle.mdv_survey.specs.Newest.{HasNoneAbove}
 use Rattle.mdv_table.proofs.Beside.{among-true}
 use Rattle.mdv_table.proofs.Deciding.{not_so}
 use Rattle.mdv_table.proofs.Pairs.{AllPairs-first}
-use Rattle.mdv_places.specs.Asked.{AreAskedOn, list_after, list_less, lists_after, places_added, seats_added}
+use Rattle.mdv_places.specs.Asked.{Adds, AreAskedOn, Asks, Drops, KeepsFirst, list_after, list_less, lists_after, places_added, seats_added}
 use Rattle.mdv_places.specs.Below.{AreLaid, Geometry, Ghosts, Lists, One, Opened, Place, Replica, Seat, TakesSlot, at_of, beside, last_of, next_mark, places_of, replicas_of, settled, with_lists}
 use Rattle.mdv_places.specs.Changing.{AreFree, MayMove, both_of}
-use Rattle.mdv_places.specs.Asked.{Asks}
-use Rattle.mdv_places.specs.Asked.{Adds, Drops, KeepsFirst}
 use Rattle.mdv_places.proofs.Adding.{added_slice, asked_places, claims_places, either_replica, more_above, more_at, more_laid, place_of_seat}
 use Rattle.mdv_places.proofs.Coming.{both_less, both_more, has_in, kept_passing, kept_self, none_kept, passes}
 
@@ -87,6 +85,10 @@ module _ (sizes : List ℕ) (g : Geometry) (o : Opened) (asked : Asks) (may : Ma
   all_places =
       map-append place_of_seat o.seats (seats_added o asked) ∙ ap (λ (l : List Place). l ++ map place_of_seat (seats_added o asked)) seat_places ∙ ap (λ (l : List Place). old ++ l) (added_places o asked)
       ∙ sym (both_places old asked may.free)
+
+  -- the seats of the new list have its places
+  pub coming_places : map place_of_seat (seats_in (list_after asked old) (o.seats ++ seats_added o asked)) ≡ list_after asked old
+  coming_places = seats_places (list_after asked old) (o.seats ++ seats_added o asked) ∙ ap (filter (has_in (list_after asked old))) all_places ∙ new_kept old asked may.differ may.free
 
   -- those that are added
   added_at : (s : Seat) (r : Replica) → Contains (seats_added o asked) s → s.replica ≡ Some r → (at_of r).place ≡ s.place

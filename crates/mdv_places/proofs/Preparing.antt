@@ -5,11 +5,9 @@ use Rattle.mdv_record.proofs.Rooms.{room_most}
 use Rattle.mdv_store.proofs.Rooms.{first_most}
 use Rattle.mdv_store.specs.Listing.{IsRoomFor, IsRoomy, MayList, list_room, seats_then}
 use Rattle.mdv_store.specs.Settled.{first_room}
-use Rattle.mdv_places.specs.Asked.{lists_after, seats_added}
+use Rattle.mdv_places.specs.Asked.{Adds, Asks, Drops, KeepsFirst, lists_after, seats_added}
 use Rattle.mdv_places.specs.Below.{Geometry, Lists, Opened, Place, Seat, last_of, places_of}
 use Rattle.mdv_places.specs.Changing.{IsPrepared, MayMove}
-use Rattle.mdv_places.specs.Asked.{Asks}
-use Rattle.mdv_places.specs.Asked.{Adds, Drops, KeepsFirst}
 use Rattle.mdv_places.specs.declared.forming.Hand.{Hand}
 use Rattle.mdv_places.proofs.Adding.{place_of_seat}
 use Rattle.mdv_places.proofs.Moving.{seat_places}

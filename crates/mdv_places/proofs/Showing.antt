@@ -55,7 +55,7 @@ module _ (sizes : List ℕ) (g : Geometry) (old : Opened) (asked : Asks) (may : 
     both_theirs = slot_theirs first_mark (text_size both.table) ends.body both.seats u g old.key old.identity both.table go.opened.sound recorded.held
         (bodies g old.key old.identity old.mark both.table both.seats (both_recording sizes g old asked may checked) u recorded ends.body ends.spelled) v (replicas_of bs, [], ends.slotting.passed)
 
-    added_theirs : AreTheirs g old.key old.identity (seats_added old asked) v
+    pub added_theirs : AreTheirs g old.key old.identity (seats_added old asked) v
     added_theirs r has = (let s = seat_of (seats_added old asked) r has in both_theirs r (replica_of both.seats s.0 r (Contains-append_right old.seats (seats_added old asked) s.0 s.1) s.2))
 
     -- Half of each list took it, and the table with the new list alone was written.
@@ -76,7 +76,7 @@ module _ (sizes : List ℕ) (g : Geometry) (old : Opened) (asked : Asks) (may : 
         pub last_shown : IsOpenedAt g new w
         last_shown = record_shown g old.key old.identity first_mark (settled both.table) some (last_recording sizes g old asked may checked failed bs left half last) v last_recorded lost ns left_last w over
 
-        last_theirs : AreTheirs g old.key old.identity (seats_added old asked) w
+        pub last_theirs : AreTheirs g old.key old.identity (seats_added old asked) w
         last_theirs = theirs_passed g go.opened.sound old.key old.identity some last_mark (text_size (settled both.table)) over.body (settled both.table) v last_recorded.held
             (bodies g old.key old.identity first_mark (settled both.table) some (last_recording sizes g old asked may checked failed bs left half last) v last_recorded over.body over.spelled) (seats_added old asked) w (replicas_of ns, [], over.slotting.passed) added_theirs
 

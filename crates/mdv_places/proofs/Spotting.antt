@@ -22,11 +22,9 @@ use Rattle.mdv_standing.proofs.Named.{of_filter}
 use Rattle.mdv_store.specs.Below.{Everywhere, Geometry, Identity, Image, Key, Site, Tale, site_of}
 use Rattle.mdv_store.specs.Records.{Spells}
 use Rattle.mdv_table.proofs.Beside.{among-true}
-use Rattle.mdv_places.specs.Asked.{dropped, is_on, list_after, places_asked}
+use Rattle.mdv_places.specs.Asked.{Adds, Asks, Drops, KeepsFirst, dropped, is_on, list_after, places_asked}
 use Rattle.mdv_places.specs.Below.{Opened, Place, PlaceAt, SliceAt, SliceLine, SliceName, last_of, same_slice, slice_at}
 use Rattle.mdv_places.specs.Moments.{IsFront, found_at, places_dropped}
-use Rattle.mdv_places.specs.Asked.{Asks}
-use Rattle.mdv_places.specs.Asked.{Adds, Drops, KeepsFirst}
 use Rattle.mdv_places.proofs.Coming.{keeps, passes}
 use Rattle.mdv_places.proofs.Dropping.{dropped_lacks}
 use Rattle.mdv_places.proofs.Emptying.{AreDue, AreSpotted, IsSpotted}

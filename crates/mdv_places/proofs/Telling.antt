@@ -10,17 +10,16 @@ use Rattle.mdv_store.specs.Listing.{IsLast, MayList, WasListed, last_by, seats_i
 use Rattle.mdv_store.specs.Shares.{short_of}
 use Rattle.mdv_store.specs.Writing.{WritingEnds, WritingMoment}
 use Rattle.mdv_store.specs.declared.seats.Need.TheVariants.{Half}
-use Rattle.mdv_places.specs.Asked.{acts_moved, drives_added, dropped, list_after, lists_after}
+use Rattle.mdv_places.specs.Asked.{Asks, acts_moved, drives_added, dropped, list_after, lists_after}
 use Rattle.mdv_places.specs.Below.{Geometry, Ghosts, IsOpenedAt, One, Opened, Place, PlaceAt, Seat, Share, Tale, last_of, next_mark, settled}
 use Rattle.mdv_places.specs.Changing.{MayMove, both_of}
 use Rattle.mdv_places.specs.Moments.{AreBlanked, IsMoveEnd, IsShownBy, MoveEnds, MoveMoment, MoveShows, places_dropped}
-use Rattle.mdv_places.specs.Asked.{Asks}
 use Rattle.mdv_places.specs.declared.changing.PlacesFault.TheVariants as unmoved
 use Rattle.mdv_places.proofs.Moved.{failed_ends, forming_moment, listed_moment, moved_ends, settled_moment, unbegun_moment, wiped_moment}
 use Rattle.mdv_places.proofs.Blanked.{EndsAll, tried_ends}
 use Rattle.mdv_places.proofs.Losing.{either_is, lost_failed}
 use Rattle.mdv_places.proofs.Moving.{is_last}
-use Rattle.mdv_places.proofs.Showing.{both_shown, failed_shown, last_shown, wiped_shown}
+use Rattle.mdv_places.proofs.Showing.{added_theirs, both_shown, failed_shown, last_shown, last_theirs, wiped_shown}
 use Rattle.mdv_places.proofs.Spotting.{dropped_at}
 use Rattle.mdv_places.proofs.Wiping.{lost_at_all}
 
@@ -65,8 +64,10 @@ module _ {S : Type 0} (shelf : Ghosts S) (from : S) (g : Geometry) (old : Opened
     -- too few took it, and those that did show it
     pub listed_shown : (share : Share) → WasListed shelf formed mid both between (Err share) → (active listed : ℕ) → AtEnd shelf (MoveShows g old between asked (Err (unmoved.Lost active listed))) from mid
     listed_shown share first active listed = ends_more (AreDone (acts_moved old asked)) (WritingEnds both.seats between.seats (next_mark old.mark) both.table) (MoveShows g old between asked (Err (unmoved.Lost active listed))) (shelf.tale from) (shelf.tale formed) (shelf.tale mid)
-        (λ t u v done ends go. inr (subst (λ (b : Opened). IsOpenedAt g (record b { mark = next_mark b.mark }) v) (sym first.came.1)
-        (both_shown sizes g old asked may checked sound t go u done (DriveFailures shelf formed mid) between.seats first.wrote.left v ends))) gone.end first.wrote.ends
+        (λ t u v done ends go. inr (
+          subst (λ (b : Opened). IsOpenedAt g (record b { mark = next_mark b.mark }) v) (sym first.came.1) (both_shown sizes g old asked may checked sound t go u done (DriveFailures shelf formed mid) between.seats first.wrote.left v ends),
+          added_theirs sizes g old asked may checked sound t go u done (DriveFailures shelf formed mid) between.seats first.wrote.left v ends,
+        )) gone.end first.wrote.ends
 
     -- half of each list took it
     module _ (first : WasListed shelf formed mid both between (Ok tt)) where
@@ -116,8 +117,11 @@ module _ {S : Type 0} (shelf : Ghosts S) (from : S) (g : Geometry) (old : Opened
       settled_shown over new share second active listed =
           let twice = again over new (Err share) second in
           ends_more IsListed (WritingEnds (seats_in (list_after asked (last_of old.table.plan.lists)) bs) new.seats (next_mark (next_mark old.mark)) (settled both.table)) (MoveShows g old new asked (Err (unmoved.Lost active listed))) (shelf.tale from) (shelf.tale mid) (shelf.tale over)
-          (λ t v w s ends go. inr (subst (λ (b : Opened). IsOpenedAt g (record b { mark = next_mark b.mark }) w) (sym twice.came.1)
-          (last_shown sizes g old asked may checked sound t go s.formed_at s.done (DriveFailures shelf formed mid) bs first.wrote.left v s.ends half last (DriveFailures shelf mid over) new.seats twice.wrote.left w ends))) first_ends twice.wrote.ends
+          (λ t v w s ends go. inr (
+            subst (λ (b : Opened). IsOpenedAt g (record b { mark = next_mark b.mark }) w) (sym twice.came.1)
+                (last_shown sizes g old asked may checked sound t go s.formed_at s.done (DriveFailures shelf formed mid) bs first.wrote.left v s.ends half last (DriveFailures shelf mid over) new.seats twice.wrote.left w ends),
+            last_theirs sizes g old asked may checked sound t go s.formed_at s.done (DriveFailures shelf formed mid) bs first.wrote.left v s.ends half last (DriveFailures shelf mid over) new.seats twice.wrote.left w ends,
+          )) first_ends twice.wrote.ends
 
       -- half of the new list took the other, and the dropped places were tried
       module _ (over : S) (new : Opened) (second : WasListed shelf mid over (last_by between) new (Ok tt)) where

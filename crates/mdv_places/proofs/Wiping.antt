@@ -14,10 +14,9 @@ use Rattle.mdv_shelf.specs.Calls.{OnDrive}
 use Rattle.mdv_shelf.specs.Drives.{KeptAmong}
 use Rattle.mdv_shelf.specs.Shelves.{DriveFailures}
 use Rattle.mdv_store.proofs.Passes.{mapped, unmapped}
-use Rattle.mdv_places.specs.Asked.{dropped, seats_added}
+use Rattle.mdv_places.specs.Asked.{Asks, dropped, seats_added}
 use Rattle.mdv_places.specs.Below.{DriveNo, Geometry, Ghosts, IsSound, Opened, Place, PlaceAt, SliceAt, drives_of, last_of, slice_at}
 use Rattle.mdv_places.specs.Changing.{AreCalm, HasFailed, drives_dropped, drives_moved, drives_under}
-use Rattle.mdv_places.specs.Asked.{Asks}
 use Rattle.mdv_places.proofs.Coming.{keeps, passes}
 use Rattle.mdv_places.proofs.Losing.{free_calm, lost_failed, lost_then, no_both}
 

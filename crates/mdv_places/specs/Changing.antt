@@ -6,12 +6,12 @@ use Rattle.mdv_acts.specs.Wipes.{AreLaidOn, AreLostBy, WereWiped}
 use Rattle.mdv_base.specs.DriveSet.{Drives, no_drives}
 use Rattle.mdv_shelf.specs.Shelves.{DriveFailures}
 use Rattle.mdv_store.specs.Listing.{MayList, MayNotList, WasListed, last_by, list_room, listed_by}
+use Rattle.mdv_store.specs.Shares.{short_in}
+use Rattle.mdv_store.specs.declared.seats.Need.TheVariants.{Half}
 use Rattle.mdv_store.specs.declared.store.CommitFault.{CommitFault}
 use Rattle.mdv_store.specs.declared.store.CommitFault.TheVariants as unwritten
-use Rattle.mdv_places.specs.Asked.{AreAskedOn, acts_moved, drives_added, dropped, list_after, lists_after, seats_added}
+use Rattle.mdv_places.specs.Asked.{Adds, AreAskedOn, Asks, Drops, KeepsFirst, acts_moved, drives_added, dropped, list_after, lists_after, seats_added}
 use Rattle.mdv_places.specs.Below.{DriveNo, Failures, Geometry, Ghosts, IsSound, Lists, One, Opened, Place, Share, SliceAt, SliceLine, drives_of, last_of, shortage, slice_at}
-use Rattle.mdv_places.specs.Asked.{Asks}
-use Rattle.mdv_places.specs.Asked.{Adds, Drops, KeepsFirst}
 use Rattle.mdv_places.specs.declared.changing.PlacesFault.{PlacesFault}
 use Rattle.mdv_places.specs.declared.changing.PlacesFault.TheVariants as unmoved
 use Rattle.mdv_places.specs.declared.forming.Hand.{Hand}
@@ -31,18 +31,29 @@ AreFree (Adds lines count blocks) places = (line : SliceLine) → Contains lines
 AreFree (Drops slices) places = Unit {0}
 AreFree KeepsFirst places = Unit {0}
 
+-- At least half of the list that comes is active. Of one to which places are added this isn't asked: all that are added come with a replica, so it is so where half of the old one is.
+abbrev pub IsEnough : Opened → Asks → Type 0
+IsEnough o (Adds lines count blocks) = Unit {0}
+IsEnough o (Drops slices) = short_in Half o.seats (list_after (Drops slices) (last_of o.table.plan.lists)) ≡ None
+IsEnough o KeepsFirst = short_in Half o.seats (list_after KeepsFirst (last_of o.table.plan.lists)) ≡ None
+
+-- no place stands twice
+abbrev pub AreOnce : List Place → Type 0
+AreOnce places = AllPairs (λ (p q : Place). p ≡ q → ⊥) places
+
 -- An open database may be asked that: it has one list, of different places, each on a slice of the table of drives and within its drive; the places that are added are some of
--- drives of the shelf, on slices that have none yet; the list that comes isn't empty, nor has more than fifty places; and a set of drives holds all of the shelf.
+-- drives of the shelf, on slices that have none yet; the list that comes isn't empty, nor has more than fifty places, and enough of it is active; and a set of drives holds all of the shelf.
 pub record MayMove (sizes : List ℕ) (g : Geometry) (o : Opened) (asked : Asks) : Type 0 where
   pub sound : IsSound g
   pub drives : length sizes ≤ 256
   pub one : (list : List Place) × (o.table.plan.lists ≡ One list)
-  pub differ : AllPairs (λ (p q : Place). p ≡ q → ⊥) (last_of o.table.plan.lists)
+  pub differ : AreOnce (last_of o.table.plan.lists)
   pub placed : AreLaidOn sizes g (last_of o.table.plan.lists)
   pub within : AreAskedOn sizes asked
   pub free : AreFree asked (last_of o.table.plan.lists)
   pub some : 1 ≤ length (list_after asked (last_of o.table.plan.lists))
   pub few : length (list_after asked (last_of o.table.plan.lists)) ≤ 50
+  pub enough : IsEnough o asked
 
 -- the open database as both lists are about to be written
 abbrev pub both_of : Opened → Asks → Opened

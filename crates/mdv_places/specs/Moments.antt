@@ -19,12 +19,10 @@ use Rattle.mdv_store_law.specs.Log.{IsLog, Lives}
 use Rattle.mdv_store.specs.Records.{Spells}
 use Rattle.mdv_store.specs.Seats.{AreTheirs}
 use Rattle.mdv_store.specs.Writing.{IsBeingWritten, IsWrittenOver}
-use Rattle.mdv_places.specs.Asked.{acts_moved, dropped, list_after, lists_after, seats_added}
+use Rattle.mdv_places.specs.Asked.{Adds, Asks, Drops, KeepsFirst, acts_moved, dropped, list_after, lists_after, seats_added}
 use Rattle.mdv_places.specs.Below.{Area, Change, Core, Database, Event, Failures, Geometry, Identity, IsMade, IsOfGeometry, IsOpenedAt, IsReadyWith, Log, Opened, Place, PlaceAt, Replica, RestStands, SliceAt, SliceLine, Spot, Tale, asks_of, at_of, last_of, next_mark, range, replicas_of, same_place, seats_area, settled, site_of, slice_at, spots_of}
 use Rattle.mdv_places.specs.Changing.{both_of}
 use Rattle.mdv_places.specs.Going.{IsMoving, TracesBy}
-use Rattle.mdv_places.specs.Asked.{Asks}
-use Rattle.mdv_places.specs.Asked.{Adds, Drops, KeepsFirst}
 use Rattle.mdv_places.specs.declared.changing.PlacesFault.{PlacesFault}
 use Rattle.mdv_places.specs.declared.changing.PlacesFault.TheVariants as unmoved
 
@@ -183,12 +181,13 @@ pub record MayShow (g : Geometry) (old : Opened) (asked : Asks) (t : Tale) : Typ
   pub sites : AreOfSite g old asked
   pub front : IsFront asked (last_of old.table.plan.lists)
 
--- In the end the active places show the table that was written last, also where fewer than half of a list took it; and each place that was added has a replica of the database.
+-- In the end the active places show the table that was written last, also where fewer than half of a list took it; and each place that was added has a replica of the database. Where nothing is written no image changes.
 abbrev pub IsShownBy : Geometry → Opened → Opened → Asks → Result Bool PlacesFault → Tale → Tale → Type 0
 IsShownBy g old new asked (Ok clean) t u = IsOpenedAt g new u × AreTheirs g old.key old.identity (seats_added old asked) u
 IsShownBy g old new asked (Err unmoved.Failed) t u = IsOpenedAt g old u
 IsShownBy g old new asked (Err (unmoved.TooLong fault)) t u = u ≡ t
-IsShownBy g old new asked (Err (unmoved.Lost active listed)) t u = (u ≡ t) ⊎ IsOpenedAt g (record new { mark = next_mark new.mark }) u
+IsShownBy g old new asked (Err (unmoved.Lost active listed)) t u =
+    ((new ≡ old) × (u ≡ t)) ⊎ (IsOpenedAt g (record new { mark = next_mark new.mark }) u × AreTheirs g old.key old.identity (seats_added old asked) u)
 IsShownBy g old new asked (Err unmoved.Spent) t u = u ≡ t
 IsShownBy g old new asked (Err unmoved.Memory) t u = u ≡ t
 

@@ -6,7 +6,7 @@ use Rattle.mdv_store.specs.Writing.{text_size}
 use Rattle.mdv_store.specs.declared.store.CommitFault.TheVariants as unwritten
 use Rattle.mdv_places.specs.Asked.{Asks, KeepsFirst, drives_added, list_after, lists_after}
 use Rattle.mdv_places.specs.Below.{AreLeft, DriveNo, Failures, Geometry, Lists, Mark, Opened, Replica, Seat, Share, TakesSlot, last_of, next_mark, settled, shortage}
-use Rattle.mdv_places.specs.Changing.{AreCalmOn, HasFailedOn, both_of, drives_dropped}
+use Rattle.mdv_places.specs.Changing.{AreCalmOn, HasFailedOn, both_of, drives_dropped, drives_moved}
 use Rattle.mdv_places.specs.declared.changing.PlacesFault.{PlacesFault}
 use Rattle.mdv_places.specs.declared.changing.PlacesFault.TheVariants as unmoved
 
@@ -54,19 +54,21 @@ module _ (calls : ℕ → Failures) (g : Geometry) (old : Opened) (asked : Asks)
   abbrev pub IsUntouched : Opened → Type 0
   IsUntouched new = (new ≡ old) × ((drive : ℕ) → (calls drive).none)
 
-  -- Of a list, the first one of which that is so, fewer than half took the table with both lists.
+  -- Of a list, the first one of which that is so, fewer than half took the table with both lists, since a call failed.
   pub record IsLostBoth (new : Opened) (share : Share) : Type 0 where
     pub may : MayList old lists_moved
     pub left : AreLeft calls (TakesSlot (next_mark old.mark) (text_size (both_of old asked).table)) (both_of old asked).seats new.seats
     pub few : shortage new ≡ Some share
     pub is : new ≡ record (both_of old asked) { seats = new.seats }
+    pub failed : HasFailedOn (drives_moved g old asked) calls
 
-  -- Enough did, and fewer than half of the new list took the table with that list alone.
+  -- Enough did, and fewer than half of the new list took the table with that list alone, since a call failed.
   pub record IsLostLast (new : Opened) (share : Share) : Type 0 where
     pub may : MayList old lists_moved
     pub left : AreLeft calls TakesBoth seats_coming new.seats
     pub few : shortage new ≡ Some share
     pub is : new ≡ record old { mark = next_mark old.mark; table = settled (both_of old asked).table; seats = new.seats }
+    pub failed : HasFailedOn (drives_moved g old asked) calls
 
   -- the store was lost before, or is now: in one record or the other
   abbrev pub IsLostMove : Opened → Share → Type 0

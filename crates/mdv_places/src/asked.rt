@@ -43,8 +43,8 @@ pub(crate) fn list_after(places: &[Place], asked: &Move) -> Places
     }
 }
 
-// The same places once more.
-pub(crate) fn copy_of(places: &[Place]) -> Places
+/// The same places once more.
+pub fn copy_of(places: &[Place]) -> Places
     requires { length places.now ≤ 50 }
     ensures { result ≡ places.now }
 {
@@ -63,35 +63,36 @@ fn list_more(places: &[Place], lines: &[SliceLine], count: u8, blocks: u32) -> P
 {
     let mut list = copy_of(places);
     for line in lines {
-        add_places(&mut list, *line, count, blocks);
+        add_places(&mut list, line.name, count, blocks);
     }
     list
 }
 
-fn add_places(list: &mut Places, line: SliceLine, count: u8, blocks: u32)
-    requires few { length (list.old ++ places_on count blocks line.name) ≤ 50 }
+/// So many places of a slice behind the others.
+pub fn add_places(list: &mut Places, slice: SliceName, count: u8, blocks: u32)
+    requires few { length (list.old ++ places_on count blocks slice) ≤ 50 }
     requires count { count ≤ 50 }
     requires blocks { blocks ≤ 8192 }
-    ensures { list.new ≡ list.old ++ places_on count blocks line.name }
+    ensures { list.new ≡ list.old ++ places_on count blocks slice }
 {
     for number in 0..count {
-        list.push(place_on(line, blocks, number));
+        list.push(place_on(slice, blocks, number));
     }
 }
 
-fn place_on(line: SliceLine, blocks: u32, number: u8) -> Place
+fn place_on(slice: SliceName, blocks: u32, number: u8) -> Place
     requires { 16 + number * blocks < 2 ^ 32 }
-    ensures { result ≡ record { slice = line.name; start = 16 + number * blocks; blocks = blocks } }
+    ensures { result ≡ record { slice = slice; start = 16 + number * blocks; blocks = blocks } }
 {
     Place {
-        slice: line.name,
+        slice,
         start: 16 + u32::from(number) * blocks,
         blocks,
     }
 }
 
-// Those that don't lie on these slices.
-fn list_less(places: &[Place], slices: &[SliceName]) -> Places
+/// Those that don't lie on these slices.
+pub fn list_less(places: &[Place], slices: &[SliceName]) -> Places
     requires { length places.now ≤ 50 }
     ensures { result ≡ spec_list_less slices.now places.now }
 {
@@ -110,7 +111,8 @@ fn is_on(slices: &[SliceName], place: &Place) -> bool
     slices.iter().any(|slice| same_slice(place.slice, *slice))
 }
 
-fn list_first(places: &[Place]) -> Places
+/// The first one alone, where there is one.
+pub fn list_first(places: &[Place]) -> Places
     ensures { result ≡ take 1 places.now }
 {
     let mut list = Places::new();

@@ -28,9 +28,8 @@ pub enum PlacesFault {
     Failed,
     /// The text of the table with both lists is longer than the smallest slot of their places; nothing was done.
     TooLong(TooLong),
-    /// Of a list, the first one of which that is so, fewer than half of the places are active: calls on their drives failed, or places of the list
-    /// that comes weren't active before. Where that was so of the open list nothing was done; else a crash may leave the old lists or the new ones.
-    /// From then on nothing more is written.
+    /// Of a list, the first one of which that is so, fewer than half of the places are active: nothing was done where it was so before, and else calls on
+    /// their drives failed, and a crash may leave the old lists or the new ones. From then on nothing more is written.
     Lost { active: u32, listed: u32 },
     /// The count of the second mark would reach 2^63; nothing was done.
     Spent,
@@ -102,7 +101,7 @@ pub fn change_places<S: Shelf>(
     ensures answer { MoveAnswer S.Shelf shelf.old shelf.new geometry.now store.old store.new (asked_of asked.now) result }
     ensures moments { AtEachTale S.Shelf (MoveMoment geometry.now store.old (asked_of asked.now)) shelf.old shelf.new }
     ensures end { AtEnd S.Shelf (MoveEnds geometry.now store.old store.new (asked_of asked.now) result) shelf.old shelf.new }
-    ensures counted { IsMoveCounted S.Shelf shelf.old shelf.new geometry.now store.old (asked_of asked.now) result }
+    ensures counted { IsMoveCounted S.Shelf shelf.old shelf.new geometry.now store.old (asked_of asked.now) store.new result }
     ensures kept { KeptAmong S.Shelf shelf.old shelf.new (drives_moved geometry.now store.old (asked_of asked.now)) }
 {
     let was = copy_of(store.table().plan.lists.last());

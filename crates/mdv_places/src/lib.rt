@@ -7,6 +7,6 @@ mod ending;
 mod forming;
 mod listing;
 
-pub use asked::Move;
+pub use asked::{Move, add_places, copy_of, list_first, list_less};
 pub use changing::{PlacesFault, change_places};
 pub use ending::end;

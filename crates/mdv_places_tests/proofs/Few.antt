@@ -17,7 +17,7 @@ use Rattle.mdv_name.specs.declared.slice_lines.SliceLine.{SliceLine}
 use Rattle.mdv_places.proofs.Coming.{keeps}
 use Rattle.mdv_places.proofs.Lists.{places_count}
 use Rattle.mdv_places.specs.Asked.{AreAskedOn, Asks, is_on, list_after, list_less, places_asked, places_on}
-use Rattle.mdv_places.specs.Changing.{AreFree, MayMove}
+use Rattle.mdv_places.specs.Changing.{AreFree, IsEnough, MayMove}
 use Rattle.mdv_store.specs.Opened.{Opened}
 use Rattle.mdv_table.specs.Plan.{last_of}
 use Rattle.mdv_table.specs.declared.plan.Lists.TheVariants.{One}
@@ -57,8 +57,8 @@ laid_at sizes g p at sound has drive least within size =
     record { some = (at, has); placed = λ other its. subst (λ (a : SliceAt). IsPlaced sizes (place_in a p)) (sound.once p.slice at other has its) placed }
 
 pub may_be_moved : (sizes : List ℕ) (g : Geometry) (o : Opened) (asked : Asks) (places : List Place) → IsSound g → length sizes ≤ 256 → o.table.plan.lists ≡ One places → AllPairs (λ (p q : Place). p ≡ q → ⊥) places → All (IsLaidOn sizes g) places → AreAskedOn sizes asked → AreFree asked places
-    → AreFew (list_after asked places) → MayMove sizes g o asked
-may_be_moved sizes g o asked places sound drives one differ placed within free few =
+    → AreFew (list_after asked places) → IsEnough o asked → MayMove sizes g o asked
+may_be_moved sizes g o asked places sound drives one differ placed within free few enough =
     let last : last_of o.table.plan.lists ≡ places = ap last_of one in
     record {
       sound = sound;
@@ -70,4 +70,5 @@ may_be_moved sizes g o asked places sound drives one differ placed within free f
       free = subst (AreFree asked) (sym last) free;
       some = subst (λ (list : List Place). 1 ≤ length (list_after asked list)) (sym last) few.some;
       few = subst (λ (list : List Place). length (list_after asked list) ≤ 50) (sym last) few.few;
+      enough = enough;
     }

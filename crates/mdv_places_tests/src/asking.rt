@@ -1,20 +1,22 @@
 // Whether a change of places, or the end, may be asked of what is open.
-ghost use Rattle.std.specs.Prelude.{◌≡◌, ◌++◌, ℕ, not, All, AllPairs, IsTrue};
+ghost use Rattle.std.specs.Prelude.{◌≡◌, ◌++◌, ℕ, not, All, AllPairs, IsTrue, None};
 ghost use Rattle.std.specs.List.{list_any};
 ghost use Rattle.mdv_name.specs.Sound.{IsSound};
 ghost use Rattle.mdv_shelf.specs.MemShelf.{shelf_sizes};
 ghost use Rattle.mdv_acts.specs.Wipes.{IsLaidOn};
 ghost use Rattle.mdv_places.specs.Asked.{AreAskedOn, asked_of, is_on as spec_is_on, list_after, list_less, places_asked};
-ghost use Rattle.mdv_places.specs.Changing.{AreFree, MayMove};
+ghost use Rattle.mdv_places.specs.Changing.{AreFree, IsEnough, MayMove};
 ghost use Rattle.mdv_places.specs.Ending.{IsSole};
+ghost use Rattle.mdv_store.specs.Shares.{short_in};
+ghost use Rattle.mdv_store.specs.declared.seats.Need.TheVariants.{Half};
 ghost use Rattle.mdv_places_tests.specs.Few.{AreFew, IsBare, IsOnly};
 
-use mdv_base::{Place, SliceName};
+use mdv_base::{Place, Places, SliceName};
 use mdv_name::{Geometry, SliceLine};
-use mdv_places::Move;
+use mdv_places::{Move, list_first, list_less};
 use mdv_plan::same_slice;
 use mdv_shelf::{MemShelf, Shelf};
-use mdv_store::{Seat, Store};
+use mdv_store::{Need, Seat, Store, short};
 use mdv_store_tests::may_ask;
 use mdv_table::Lists;
 
@@ -30,7 +32,7 @@ pub(crate) fn may_move(shelf: &MemShelf, geometry: &Geometry, store: &Store, ask
     if shelf.drives() > 256 || !are_once(places) || !are_laid_on(shelf, geometry, places) {
         return false;
     }
-    if !is_within(shelf, asked) || !is_free(asked, places) {
+    if !is_within(shelf, asked) || !is_free(asked, places) || !is_enough(store, asked) {
         return false;
     }
     is_few(asked, places)
@@ -101,6 +103,24 @@ fn is_bare(line: &SliceLine, places: &[Place]) -> bool
     ensures { IsTrue result → IsBare places.now line.now }
 {
     places.iter().all(|place| place.slice != line.name)
+}
+
+// At least half of the list that comes is active.
+fn is_enough(store: &Store, asked: &Move) -> bool
+    ensures { IsTrue result → IsEnough store.now (asked_of asked.now) }
+{
+    let places = store.table().plan.lists.last();
+    match asked {
+        Move::Add { .. } => true,
+        Move::Drop { slices } => is_half_active(store, list_less(places, slices)),
+        Move::First => is_half_active(store, list_first(places)),
+    }
+}
+
+fn is_half_active(store: &Store, list: Places) -> bool
+    ensures { IsTrue result → short_in Half store.now.seats list ≡ None }
+{
+    short(store.seats(), &Lists::One(list), Need::Half).is_none()
 }
 
 fn is_few(asked: &Move, places: &[Place]) -> bool

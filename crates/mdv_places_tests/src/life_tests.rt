@@ -106,7 +106,7 @@ impl Life {
     }
 
     fn moves(&mut self, alloc: Global, asked: &Asked) -> Result<bool, Fail> {
-        if !self.world.has_one_list() {
+        if !self.world.has_one_list() || !self.world.may_change(asked) {
             return Ok(true);
         }
         let want = self.world.change(asked);

@@ -614,6 +614,17 @@ impl World {
         true
     }
 
+    /// Whether at least half of the list that comes is active, or added.
+    pub(crate) fn may_change(&self, asked: &Asked) -> bool {
+        let Some(open) = self.open else {
+            return true;
+        };
+        let mut left = open.last;
+        left.old = NONE;
+        left.new = list_after(asked, &open.last.new);
+        matches!(asked, Asked::Add(_, _, _)) || left.short(&open.active, false).is_none()
+    }
+
     /// A change of places. None where nothing is open.
     pub(crate) fn change(&mut self, asked: &Asked) -> Option<Moved> {
         let mut open = self.open?;

@@ -12,19 +12,19 @@ place_on-requires c = (let below = c.loop-number-test.true in let most = c.requi
 pub push-requires : goal.push-requires
 push-requires c =
     let n = c.loop-number.number in
-    let line = c.args.line in
+    let slice = c.args.slice in
     let blocks = c.args.blocks in
-    let so_far = ap length c.loop-number.invariant ∙ length-append c.args.list.now (places_from line.name blocks 0 n) in
-    let all = length-append c.args.list.now (places_on c.args.count blocks line.name) in
+    let so_far = ap length c.loop-number.invariant ∙ length-append c.args.list.now (places_from slice blocks 0 n) in
+    let all = length-append c.args.list.now (places_on c.args.count blocks slice) in
     let few = c.requires.few in
     let below = c.loop-number-test.true in
-    omega (arith, so_far, all, few, below, places_count line.name blocks 0 n, places_count line.name blocks 0 c.args.count)
+    omega (arith, so_far, all, few, below, places_count slice blocks 0 n, places_count slice blocks 0 c.args.count)
 
 pub loop-number-preserved : goal.loop-number-preserved
 loop-number-preserved c =
     let n = c.loop-number.number in
-    let line = c.args.line in
+    let slice = c.args.slice in
     let blocks = c.args.blocks in
-    let front = places_from line.name blocks 0 n in
+    let front = places_from slice blocks 0 n in
     c.push.ensures ∙ ap (λ (l : List Place). l ++ c.place_on.result ∷ []) c.loop-number.invariant ∙ append_assoc c.args.list.now front (c.place_on.result ∷ [])
-    ∙ ap (λ (l : List Place). c.args.list.now ++ l) (ap (λ (p : Place). front ++ p ∷ []) c.place_on.ensures ∙ sym (places_next line.name blocks n))
+    ∙ ap (λ (l : List Place). c.args.list.now ++ l) (ap (λ (p : Place). front ++ p ∷ []) c.place_on.ensures ∙ sym (places_next slice blocks n))

@@ -138,8 +138,8 @@ returns-in_err-list_both-clause-counted g c =
     let share = c.in_err-list_both.field-0.0 in
     let told = err_from_is_err_and c.from_residual-in_err-list_both.result c.from_residual-in_err-list_both.ensures.1 in
     let first = first_by g h c.list_both.new.shelf c.list_both.new.store (Err share) c.in_err-list_both.ensures.listed in
-    subst (IsMoveCounted g.S.Shelf a.shelf.now c.list_both.new.shelf a.geometry.now a.store.now (asked_of a.asked.now)) (sym (told.1 ∙ ap Err told.2))
-    (short_both g.S.Shelf a.shelf.now c.form.new.shelf c.list_both.new.shelf c.list_both.new.shelf c.list_both.new.shelf a.geometry.now a.store.now c.list_both.new.store c.list_both.new.store (asked_of a.asked.now) c.in_ok-form.ensures.gone share first)
+    subst (IsMoveCounted g.S.Shelf a.shelf.now c.list_both.new.shelf a.geometry.now a.store.now (asked_of a.asked.now) c.list_both.new.store) (sym (told.1 ∙ ap Err told.2))
+    (short_both g.S.Shelf a.shelf.now c.form.new.shelf c.list_both.new.shelf c.list_both.new.shelf c.list_both.new.shelf a.geometry.now a.store.now c.list_both.new.store c.list_both.new.store (asked_of a.asked.now) c.in_ok-form.ensures.gone c.requires.asked (checked g h) share first share.active share.listed)
 
 pub returns-in_err-list_both-clause-kept : goal.returns-in_err-list_both-clause-kept
 returns-in_err-list_both-clause-kept g c =
@@ -195,8 +195,9 @@ returns-in_err-list_last-clause-counted g c =
     let share = c.in_err-list_last.field-0.0 in
     let told = err_from_is_err_and c.from_residual-in_err-list_last.result c.from_residual-in_err-list_last.ensures.1 in
     let first = first_by g h c.list_both.new.shelf c.list_both.new.store (Ok tt) c.in_ok-list_both.ensures.listed in
-    subst (IsMoveCounted g.S.Shelf a.shelf.now c.list_last.new.shelf a.geometry.now a.store.now (asked_of a.asked.now)) (sym (told.1 ∙ ap Err told.2))
-    (short_last g.S.Shelf a.shelf.now c.form.new.shelf c.list_both.new.shelf c.list_last.new.shelf c.list_last.new.shelf a.geometry.now a.store.now c.list_both.new.store c.list_last.new.store (asked_of a.asked.now) c.in_ok-form.ensures.gone first share c.in_err-list_last.ensures.listed)
+    subst (IsMoveCounted g.S.Shelf a.shelf.now c.list_last.new.shelf a.geometry.now a.store.now (asked_of a.asked.now) c.list_last.new.store) (sym (told.1 ∙ ap Err told.2))
+    (short_last g.S.Shelf a.shelf.now c.form.new.shelf c.list_both.new.shelf c.list_last.new.shelf c.list_last.new.shelf a.geometry.now a.store.now c.list_both.new.store c.list_last.new.store (asked_of a.asked.now) c.in_ok-form.ensures.gone c.requires.asked (checked g h) first share
+    c.in_err-list_last.ensures.listed share.active share.listed)
 
 pub returns-in_err-list_last-clause-kept : goal.returns-in_err-list_last-clause-kept
 returns-in_err-list_last-clause-kept g c =
