@@ -1,6 +1,7 @@
 #!/usr/bin/env bash
-# Makes three blank drive images of one host, and a database with a replica on each; then it runs scripts while one image is
-# moved away, while two are, and when all are back. Where the proved program isn't built yet, `rt try` compiles metad from the same
+# Makes four blank drive images of one host, and a database with a replica on three of them; then it runs scripts while one image is
+# moved away, while two are, and when all are back; while one is lost for good, and its replica is moved to the fourth; and when it is back
+# after all, and the database is deleted and made anew. Where the proved program isn't built yet, `rt try` compiles metad from the same
 # source, without its proofs, anew for each run. Ends with status 0 where each run told what it must.
 set -eu
 here=$(cd "$(dirname "$0")" && pwd)
@@ -12,7 +13,7 @@ work=$(mktemp -d)
 trap 'rm -rf "$work"' EXIT
 cd "$work"
 cp "$here/drives.tab" .
-truncate -s $((4096 * 512)) d0.img d1.img d2.img
+truncate -s $((4096 * 512)) d0.img d1.img d2.img d3.img
 unset METAD_PROGRAM
 
 if [ -x "$top/crates/metad/out/metad" ]; then
@@ -23,7 +24,7 @@ if [ -x "$top/crates/metad/out/metad" ]; then
 else
   echo "unproved build; compiling it takes about a minute for each run"
   # It is run in a folder of its own, so its table has the whole paths. What it tells of them is told as the table has it.
-  sed "s|\(d[0-2].img\)|$work/\1|" drives.tab > whole.tab
+  sed "s|\(d[0-3].img\)|$work/\1|" drives.tab > whole.tab
   run_metad() {
     ended=0
     (cd "$top/crates/metad" && rt try --data "drives.tab=$work/whole.tab" -- alpha) 2> all-says || ended=$?
@@ -60,3 +61,14 @@ echo "nothing was written"
 mv away/*.img .
 echo "run 4: all are back"
 expect 4 0
+mv d2.img away
+echo "run 5: one is lost for good, and its replica moves to another"
+expect 5 0
+mv d0.img away
+echo "run 6: another one is moved away"
+expect 6 0
+mv away/*.img .
+echo "run 7: all are back, the one that was lost too, which gets a replica again; then the database is deleted"
+expect 7 1
+echo "run 8: another database, by an entry of md.tab"
+expect 8 0

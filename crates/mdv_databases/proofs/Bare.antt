@@ -1,5 +1,5 @@
 -- Once the only place of a database is blank, its slice shows nothing: so no replica of its key shows a table where none but those of that slice did.
-use Rattle.std.proofs.Common.{◌≡◌, inl, inr, ◌<◌, ◌≤◌, ◌+◌, ◌*◌, ℕ, zero, suc, true, false, List, [], ◌∷◌, Option, None, Some, Contains, refl, sym, ◌∙◌, ap, subst, arith}
+use Rattle.std.proofs.Common.{◌≡◌, inl, inr, ◌<◌, ◌≤◌, ◌+◌, ◌*◌, ℕ, zero, suc, true, false, List, [], ◌∷◌, Option, Some, Contains, refl, sym, ◌∙◌, ap, subst, arith}
 use Rattle.std.proofs.lemmas.Bool.{false_from_ne_true, false≢true, or_cases}
 use Rattle.mdv_places.proofs.Staying.{have_open}
 use Rattle.mdv_places.specs.Ending.{EndEnds, IsSole}
@@ -21,7 +21,7 @@ use Rattle.mdv_shown.specs.Site.{place_on}
 use Rattle.mdv_shown.specs.declared.site.Site.{Site}
 use Rattle.mdv_standing.proofs.Blanking.{first_place_before, no_first_now}
 use Rattle.mdv_standing.proofs.Named.{line_found}
-use Rattle.mdv_standing.specs.Below.{Head, Master, Spot, SpotLists, is_in, is_named, same_spot}
+use Rattle.mdv_standing.specs.Below.{Head, Master, Spot, is_in, is_named, same_spot}
 use Rattle.mdv_standing.specs.Listed.{HasPlace}
 use Rattle.mdv_standing.specs.Matching.{spot_in, spots_of as lists_of_spots}
 use Rattle.mdv_store.specs.Seats.{replicas_of, spot_of}

@@ -36,8 +36,8 @@ use Rattle.mdv_store_law.specs.Log.{ChangesAlone, Event, Over}
 use Rattle.mdv_databases.specs.Below.{Core, CoversWith, Database, Geometry, Identity, IsBlank, IsReadyWith, Key, KeptOutside, Lists, Log, Opened, Seat, Spells, Tale, current_of, log_of, site_of, spots_of, Image}
 use Rattle.mdv_databases.specs.Booting.{IsBootedIn, IsGoneOf, MeetsStale}
 use Rattle.mdv_databases.specs.Going.{GoOn, IsCurrentOf}
-use Rattle.mdv_databases.specs.Standing.{AreAnew, IsFree, Stand}
-use Rattle.mdv_databases.proofs.Ended.{not_both}
+use Rattle.mdv_databases.specs.Standing.{AreAnew, Stand}
+use Rattle.mdv_store_law.proofs.Fates.{lives_there}
 use Rattle.mdv_databases.proofs.Going.{Gone, free_still, go_on, its_worlds, opens}
 use Rattle.mdv_databases.proofs.Lists.{some_same}
 
@@ -93,7 +93,7 @@ module _ (g : Geometry) (all : List Database) (key : Key) (identity : Identity) 
 pub anew_current : (g : Geometry) (all : List Database) (key : Key) (identity : Identity) (t : Tale) → Stand g all t → AreAnew all → HasShown g (site_of g key) identity t → IsCurrentOf all key identity
 anew_current g all key identity t stand anew shown = elim (shown_current g all key identity t stand shown) [
   | inl its ↦ its
-  | inr was ↦ absurd (not_both was.database.log.fate (anew was.database was.one_of).lives was.gone)
+  | inr was ↦ absurd (lives_there was.database.log.fate (anew was.database was.one_of).lives was.gone)
 ]
 
 -- so there are no two of a key, but such that were deleted

@@ -33,4 +33,4 @@ pub commit_end : (g : Geometry) (all : List Database) (old new : Opened) (asked 
     → IsCommittedIn g all old new asked u
 commit_end g all old new asked next t u is moment done keyed named =
     let to = gone_on g all old asked next t is (IsReadyWith (spots_of new.seats)) (IsCommittedTo g new asked) u moment (done.goes g asked (may g all old asked next t is)) in
-    record { goes = to.goes; is_open = opens ChangesAlone g all old.key old.identity (asks_of asked) _ (IsCommittedTo g new asked) new u to keyed named (λ log after. after.newest) (lives_after_all ChangesAlone (log_of all old.key) to.goes.es (λ never. never) is.is_open.lives to.goes.come.issues) (done.opened g is.of_geometry is.is_open.opened) }
+    record { goes = to.goes; is_open = opens ChangesAlone g all old.key old.identity (asks_of asked) _ (IsCommittedTo g new asked) new u to keyed named (λ log after. after.newest) (lives_after_all ChangesAlone g (log_of all old.key) to.goes.es (λ never. never) is.is_open.lives to.goes.course to.goes.come.issues) (done.opened g is.of_geometry is.is_open.opened) }

@@ -1,7 +1,6 @@
 -- How all databases go on while one is created.
-use Rattle.std.proofs.Common.{◌≡◌, ◌<◌, ◌⊎◌, inl, inr, ℕ, Bool, true, false, not, ◌&&◌, cond, List, [], ◌∷◌, Option, None, Some, Ok, Err, Contains, true≢false, refl, sym, ◌∙◌, ap, subst}
+use Rattle.std.proofs.Common.{◌≡◌, ◌⊎◌, inl, inr, ℕ, Bool, true, false, not, ◌&&◌, cond, List, [], ◌∷◌, Option, None, Some, Ok, Err, Contains, true≢false, refl, sym, ◌∙◌, ap, subst}
 use Rattle.std.proofs.lemmas.Bool.{and_left, cases_Bool, cases_eq}
-use Rattle.std.proofs.lemmas.List.Elements.{All-nil}
 use Rattle.mdv_shelf.specs.Tale.{last}
 use Rattle.mdv_shelf.proofs.Everywhere.{last_image}
 use Rattle.mdv_store_law.specs.Anew.{IsAnew}
@@ -43,7 +42,7 @@ identities a b = elim (cases_eq a.fresh b.fresh) [
   | inr differ ↦ inr (λ e. differ (ap (λ (x : Identity). x.fresh) e))
 ]
 
-abbrev shut : Database → Database
+abbrev pub shut : Database → Database
 shut d = record d { over = true }
 
 -- it was the key's current one, and is over
@@ -62,11 +61,11 @@ not_none d e = cc
 
 -- The key's current one is over.
 module _ (key : Key) where
-  over_as : (all : List Database) → with_current key shut all ≡ with_over key all
+  pub over_as : (all : List Database) → with_current key shut all ≡ with_over key all
   over_as [] = refl
   over_as (d ∷ all) = ap (λ (l : List Database). cond (is_current key d) (shut d ∷ all) (d ∷ l)) (over_as all)
 
-  over_none : (all : List Database) → current_of all key ≡ None → with_over key all ≡ all
+  pub over_none : (all : List Database) → current_of all key ≡ None → with_over key all ≡ all
   over_none [] none = refl
   over_none (d ∷ all) none = elim (cases_Bool (is_current key d)) [
     | inl is ↦ absurd (not_none d (sym none ∙ ap (λ (c : Bool). cond c (Some d) (current_of all key)) is))
@@ -84,7 +83,7 @@ module _ (key : Key) where
       | inr rest ↦ inr (record { one_of = rest.0; another = λ e its same. rest.1 (same ∙ ap (λ (z : Database). z.identity) (one_current key all e d its found)) })
     ]
 
-  over_elsewhere : (other : Key) → (key ≡ other → ⊥) → (all : List Database) → current_of (with_over key all) other ≡ current_of all other
+  pub over_elsewhere : (other : Key) → (key ≡ other → ⊥) → (all : List Database) → current_of (with_over key all) other ≡ current_of all other
   over_elsewhere other differ all = ap (λ (l : List Database). current_of l other) (sym (over_as all)) ∙ changed_elsewhere key shut (λ d. refl) (λ d. refl) other differ all
 
 -- A creation is begun.
@@ -107,7 +106,7 @@ module _ (key : Key) (identity : Identity) (all : List Database) where
   creation_log = ap log_in creation_here
 
 issued_is_log : (g : Geometry) (identity : Identity) → IsLog g (issued_log identity)
-issued_is_log g identity = is_log_after g empty_log (Issued identity) (empty_is_log g) refl
+issued_is_log g identity = is_log_after g empty_log (Issued identity) (empty_is_log g) (inl refl)
 
 module _ (g : Geometry) (all : List Database) (key : Key) (identity : Identity) (lines : List SliceLine) (count blocks : ℕ) (t : Tale) (c : IsCreation g all key identity lines count blocks t) where
   abbrev now : List Database
@@ -241,4 +240,4 @@ module _ (g : Geometry) (all : List Database) (key : Key) (identity : Identity) 
     pub created_made : (o : Opened) → IsEnded g key identity seats (Ok o) t m → o.key ≡ key → o.identity ≡ identity → IsMadeIn g now key identity o m
     created_made o ended of_key of_identity =
         let is = gone_on (IsReadyWith (spots_of o.seats)) (IsCreatedTo o) ended.1 in
-        record { goes = is.goes; is_open = opens ChangesAlone g now key identity [] _ (IsCreatedTo o) o m is of_key of_identity (λ log after. after.newest) (lives_after_all ChangesAlone (log_of now key) is.goes.es (λ never. never) (ap (λ (l : Log). l.fate) (creation_log key identity all)) is.goes.come.issues) ended.0 }
+        record { goes = is.goes; is_open = opens ChangesAlone g now key identity [] _ (IsCreatedTo o) o m is of_key of_identity (λ log after. after.newest) (lives_after_all ChangesAlone g (log_of now key) is.goes.es (λ never. never) (ap (λ (l : Log). l.fate) (creation_log key identity all)) is.goes.course is.goes.come.issues) ended.0 }

@@ -1,21 +1,10 @@
 -- What a log's fate says while it goes on: one that lives does until its end is issued, and one that doesn't had one place.
-use Rattle.std.proofs.Common.{◌≡◌, true, List, [], ◌∷◌, refl, sym, ◌∙◌, ap}
-use Rattle.mdv_store_law.specs.Log.{Clearing, Ends, Event, Fate, Gone, Issue, IsCourse, IsIssue, Issued, Lives, MayHappen, OfEnd, Over, Placing, Told, Writing, Written, answered, empty_log, log_after, log_after_all}
+use Rattle.std.proofs.Common.{◌≡◌, true, List, [], ◌∷◌, refl, ◌∙◌, ap}
+use Rattle.mdv_store_law.specs.Log.{Clearing, Event, Gone, Issue, IsCourse, IsIssue, Issued, Lives, MayHappen, OfEnd, Placing, Told, Writing, Written, answered, log_after, log_after_all}
 use Rattle.mdv_store_law.specs.Machine.{AreAll}
+use Rattle.mdv_store_law.proofs.Fates.{never_ends, none_begins, stays_alive_all}
 use Rattle.mdv_databases.specs.Below.{Geometry, Log}
 use Rattle.mdv_databases.specs.Standing.{EndsSole, HasOnePlace}
-
-pub not_both : (f : Fate) → f ≡ Lives → f ≡ Over → ⊥
-not_both f lives over = different (sym lives ∙ over)
-  where
-    different : Lives ≡ Over → ⊥
-    different same = cc
-
-not_ends : (f : Fate) → f ≡ Lives → f ≡ Ends → ⊥
-not_ends f lives ends = different (sym lives ∙ ends)
-  where
-    different : Lives ≡ Ends → ⊥
-    different same = cc
 
 same_sole : (log next : Log) → next.family ≡ log.family → HasOnePlace log → HasOnePlace next
 same_sole log next same h = record { newest = h.newest; older = h.older; is = same ∙ h.is; written = h.written; place = h.place; only = h.only }
@@ -30,7 +19,7 @@ ends_sole g log Written sole may = λ ends. written_sole log (sole ends)
 ends_sole g log (Told which before) sole may = λ ends. same_sole log (log_after log (Told which before)) refl (sole ends)
 ends_sole g log (Placing places) sole may = λ ends. absurd (ends may.lives)
 ends_sole g log Clearing sole may = λ ends. record { newest = may.newest; older = may.older; is = may.is; written = may.written; place = may.place; only = may.only }
-ends_sole g log Gone sole may = λ ends. same_sole log (log_after log Gone) refl (sole (λ lives. not_ends log.fate lives may))
+ends_sole g log Gone sole may = λ ends. same_sole log (log_after log Gone) refl (sole (λ lives. never_ends log.fate lives may))
 
 pub ends_sole_all : (g : Geometry) (log : Log) (es : List Event) → EndsSole log → IsCourse g log es → EndsSole (log_after_all log es)
 ends_sole_all g log [] sole course = sole
@@ -40,16 +29,6 @@ ends_sole_all g log (e ∷ es) sole course = ends_sole_all g (log_after log e) e
 pub issued_sole : (log : Log) → log.fate ≡ Lives → EndsSole log
 issued_sole log lives = λ ends. absurd (ends lives)
 
-lives_after : (Which : Issue → Type 0) (log : Log) (e : Event) → (Which OfEnd → ⊥) → log.fate ≡ Lives → IsIssue Which e → (log_after log e).fate ≡ Lives
-lives_after Which log (Issued identity) never lives is = refl
-lives_after Which log (Writing mark asked before table) never lives is = refl
-lives_after Which log Written never lives is = lives
-lives_after Which log (Told which before) never lives is = lives
-lives_after Which log (Placing places) never lives is = lives
-lives_after Which log Clearing never lives is = absurd (never is)
-lives_after Which log Gone never lives is = absurd (never is)
-
 -- where no end is issued
-pub lives_after_all : (Which : Issue → Type 0) (log : Log) (es : List Event) → (Which OfEnd → ⊥) → log.fate ≡ Lives → AreAll (IsIssue Which) es → (log_after_all log es).fate ≡ Lives
-lives_after_all Which log [] never lives are = lives
-lives_after_all Which log (e ∷ es) never lives are = lives_after_all Which (log_after log e) es never (lives_after Which log e never lives are.0) are.1
+pub lives_after_all : (Which : Issue → Type 0) (g : Geometry) (log : Log) (es : List Event) → (Which OfEnd → ⊥) → log.fate ≡ Lives → IsCourse g log es → AreAll (IsIssue Which) es → (log_after_all log es).fate ≡ Lives
+lives_after_all Which g log es never lives course are = stays_alive_all g log es course (none_begins Which es never are) lives

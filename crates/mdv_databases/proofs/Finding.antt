@@ -1,9 +1,8 @@
 -- A boot that reads all drives on which it looks finds each place that the newest table lists.
-use Rattle.std.proofs.Common.{◌≡◌, inl, inr, ⊎_elim, ◌⊎◌, ℕ, ◌+◌, ◌*◌, ◌/◌, ◌≤◌, ◌<◌, ◌&&◌, Bool, true, false, cond, is_some, List, [], ◌∷◌, Option, None, Some, MatchOption, Contains, length, slice_get, refl, sym, ◌∙◌, ap, subst, arith}
-use Rattle.std.specs.List.{cons_option, find}
+use Rattle.std.proofs.Common.{◌≡◌, inl, inr, ⊎_elim, ◌⊎◌, ℕ, ◌+◌, ◌*◌, ◌/◌, ◌≤◌, ◌&&◌, Bool, true, false, cond, is_some, List, [], ◌∷◌, Option, None, Some, MatchOption, Contains, length, slice_get, refl, sym, ◌∙◌, ap, subst, arith}
+use Rattle.std.specs.List.{find}
 use Rattle.std.specs.Prelude.{count_by, nat_le}
-use Rattle.std.proofs.lemmas.Bool.{and_from, cases_lt, cond-true, false≢true, le-leb, lt-ltb}
-use Rattle.std.proofs.lemmas.List.{length-map}
+use Rattle.std.proofs.lemmas.Bool.{and_from, cases_Bool, cases_lt, cond-true, false≢true, le-leb, lt-ltb}
 use Rattle.std.proofs.lemmas.List.Folds.{list_any_at}
 use Rattle.mdv_name.specs.Sound.{IsSound}
 use Rattle.mdv_record.proofs.Lengths.{length-record_text}
@@ -19,8 +18,8 @@ use Rattle.mdv_shown.specs.Choice.{HaveRead, IsChosen, Seen, spot_seen, spots_se
 use Rattle.mdv_shown.specs.Found.{IsOwn}
 use Rattle.mdv_shown.specs.Shown.{SlotShows}
 use Rattle.mdv_shown.specs.declared.site.Site.{Site}
-use Rattle.mdv_store_law.specs.Anew.{IsAnew}
-use Rattle.mdv_standing.proofs.Anew.{all_places}
+use Rattle.mdv_store_law.proofs.Families.{written_firm}
+use Rattle.mdv_store_law.proofs.Fates.{lives_there}
 use Rattle.mdv_standing.specs.Adopting.{AreOwn, IsFoundVersion, IsLook}
 use Rattle.mdv_standing.specs.Below.{IsBelow, Mark, Open, Slot, Spot, after_all, gate_of, table_at}
 use Rattle.mdv_standing.specs.Databases.{log_in}
@@ -35,7 +34,7 @@ use Rattle.mdv_look.proofs.Bringing.{count_cons}
 use Rattle.mdv_store.proofs.Adoptions.{got_contains, same_identity_self}
 use Rattle.mdv_store.proofs.Boots.{count_all}
 use Rattle.mdv_store.proofs.Passes.{mapped}
-use Rattle.mdv_store.proofs.Reading.{lies_at, seated_place, seen_of}
+use Rattle.mdv_store.proofs.Reading.{lies_at, seen_of}
 use Rattle.mdv_store.proofs.Records.{spelled_of}
 use Rattle.mdv_store.proofs.Rooms.{room_least}
 use Rattle.mdv_store.proofs.Seating.{seats_places}
@@ -46,12 +45,10 @@ use Rattle.mdv_store_law.specs.Log.{Lives, Version, is_firm}
 use Rattle.mdv_store.specs.Booting.{HasShown}
 use Rattle.mdv_store.specs.Boot.{IsShort, is_seated, seat_for, seats_of}
 use Rattle.mdv_store.specs.Opened.{least_room}
-use Rattle.mdv_store.specs.Seats.{replicas_of}
 use Rattle.mdv_store.specs.Shares.{has_active, is_active_at, share_in, short_in, short_of, suffices}
 use Rattle.mdv_store.specs.Text.{blocks_for}
 use Rattle.mdv_replica.specs.Form.{text_of}
 use Rattle.mdv_replica.specs.Replica.{slot_blocks}
-use Rattle.mdv_survey.proofs.Identities.{find_some}
 use Rattle.mdv_survey.proofs.Newests.{below_more}
 use Rattle.mdv_survey.specs.Choice.{IsChoiceAmong, IsNotEnough, IsTheOne, failing, is_found_at, is_of, is_read, is_there, needed_of, place_of, readable_of, same_identity, same_place}
 use Rattle.mdv_survey.specs.declared.choosing.Choice.TheVariants as chosen
@@ -65,21 +62,21 @@ use Rattle.mdv_table.specs.Plan.{first_of, last_of, places_of}
 use Rattle.mdv_table.specs.Table.{IsListsOf}
 use Rattle.mdv_table.specs.declared.plan.Lists.{Lists}
 use Rattle.mdv_base.specs.DriveSet.{Drives}
+use Rattle.mdv_base.specs.declared.drive.SliceName.{SliceName}
 use Rattle.mdv_store.specs.declared.seats.Need.TheVariants.{More}
 use Rattle.mdv_store.specs.declared.seats.Share.{Share}
-use Rattle.mdv_databases.specs.Below.{Core, Database, Geometry, Identity, Image, Key, Log, One, Two, Place, Replica, Seat, SliceLine, Spells, Table, Tale, current_of, log_of, site_of, slice_at}
-use Rattle.mdv_databases.specs.Booting.{AllAnswer, IsShortOf}
-use Rattle.mdv_databases.specs.Meeting.{MayBeFound, MostOn, answers_on, is_on}
-use Rattle.mdv_databases.specs.Standing.{AreAnew, Stand}
+use Rattle.mdv_databases.specs.Below.{Core, Database, Geometry, Identity, Image, Key, Log, One, Two, Place, Replica, Seat, Spells, Table, Tale, current_of, log_of, site_of, slice_at}
+use Rattle.mdv_databases.specs.Booting.{AllAnswer, AllLive, IsShortOf}
+use Rattle.mdv_databases.specs.Meeting.{ListsLieOn, MayBeFound, MostOn, answers_on, is_on}
+use Rattle.mdv_databases.specs.Standing.{Stand}
 use Rattle.mdv_databases.specs.Going.{IsCurrentOf}
-use Rattle.mdv_databases.proofs.Booting.{anew_current}
+use Rattle.mdv_databases.proofs.Booting.{shown_current}
 use Rattle.mdv_databases.proofs.Lists.{current_in, current_key}
-use Rattle.mdv_databases.proofs.Meeting.{Meets, firm_found, firm_some, meets, opens}
+use Rattle.mdv_databases.proofs.Meeting.{Meets, all_lie, firm_found, firm_some, meets, opens, some_listed}
 
 -- more than half of each list of a table lies on drives that pass the test
 abbrev MostOnEach : Geometry → Key → (ℕ → Bool) → Lists → Type 0
-MostOnEach g key up (One places) = MostOn g key up places
-MostOnEach g key up (Two old new) = MostOn g key up old × MostOn g key up new
+MostOnEach g key up lists = MostOn g key up (first_of lists) × MostOn g key up (last_of lists)
 
 -- it is one of the lists
 abbrev pub IsOneOf : Lists → List Place → Type 0
@@ -176,6 +173,18 @@ module _ (g : Geometry) (all : List Database) (key : Key) (up : Drives) (survey 
     is_shown : HasShown g site identity t
     is_shown = record { replica = replica; found = own.found; its = same_identity_self identity; shown = opens replica.head newest.slot newest.mark shows.bytes shows.gate }
 
+    its_record : IsRecordOf g (text_of (at_of replica) newest.slot shows.bytes (here replica.line.at.drive.0)) newest.table
+    its_record = spelled_of g (text_of (at_of replica) newest.slot shows.bytes (here replica.line.at.drive.0)) newest.table sound shows.text
+
+    abbrev places : List Place
+    places = places_of newest.table.plan.lists
+
+    abbrev text : ℕ
+    text = blocks_for (length (record_text newest.table))
+
+    abbrev seats : List Seat
+    seats = seats_of rs identity text places
+
     -- it is of the key's current database, which isn't about to be deleted
     module _ (current : IsCurrentOf all key identity) (lives : current.database.log.fate ≡ Lives) where
       abbrev log : Log
@@ -233,13 +242,10 @@ module _ (g : Geometry) (all : List Database) (key : Key) (up : Drives) (survey 
       listed : HavePlaces (Spells g) site identity log here
       listed = ⊎_elim (λ have. have) (λ none. absurd (shut none)) look.world.listed
 
-      -- the version is one that a boot may find, where it reads more than half of the places of each of these
-      module _ (firm : is_firm log ≡ true) (list : List Place) (lists : (x : Version) → MayBeFound log.family x → x.table.plan.lists ≡ One list) (most : MostOn g key answers list) where
-        f : (f : ℕ) × (world.0.firm ≡ Some f)
-        f = firm_some g site identity log world.0 here world.1 firm
-
-        met : Meets g site identity log world.0 here world.1 f.0 f.1 answers
-        met = meets g site identity log world.0 here world.1 f.0 f.1 list (lists (version_at log.family f.0) (firm_found g site identity log world.0 here world.1 f.0 f.1)) answers most lives
+      -- the version is one that a boot may find, where it reads more than half of the places of the firm table's first list
+      module _ (f : ℕ) (firm : world.0.firm ≡ Some f) (most : MostOn g key answers (first_of (version_at log.family f).table.plan.lists)) where
+        met : Meets g site identity log world.0 here world.1 f firm answers
+        met = meets g site identity log world.0 here world.1 f firm answers most lives
 
         -- it shows no greater mark
         not_above : (m : Mark) → m ≡ (table_at world.0.family met.number).mark → IsBelow newest.mark m → ⊥
@@ -249,7 +255,7 @@ module _ (g : Geometry) (all : List Database) (key : Key) (up : Drives) (survey 
         not_older x has written below =
             let k = numbered site log world.0 world.1.reached world.1.matches x has in
             let other = world.1.matches.answered k.0 k.1 (ap (λ (y : Version). y.is_written) k.2 ∙ written) in
-            let firms : other.0 ≡ f.0 = some_is world.0.firm other.0 f.0 other.1 f.1 in
+            let firms : other.0 ≡ f = some_is world.0.firm other.0 f other.1 firm in
             let over : IsBelow newest.mark (table_at world.0.family k.0).mark = subst (λ (m : Mark). IsBelow newest.mark m) (sym k.3) (subst (λ (m : Mark). IsBelow m x.mark) version.is.marked below) in
             let up_to = met.above in
             let at_most = other.2 in
@@ -260,12 +266,45 @@ module _ (g : Geometry) (all : List Database) (key : Key) (up : Drives) (survey 
               | inr more ↦ (let same : k.0 ≡ met.number = omega (arith, more, up_to, at_most, firms) in not_above (table_at world.0.family k.0).mark (ap (λ (n : ℕ). (table_at world.0.family n).mark) same) over)
             ]
 
-        its_lists : newest.table.plan.lists ≡ One list
-        its_lists = ap (λ (u : Table). u.plan.lists) (sym same_table) ∙ lists version.version (version.is.one_of, all_that (λ x. x.is_written ≡ true → IsBelow version.version.mark x.mark → ⊥) log.family not_older)
+        meets_newest : MayBeFound log.family version.version
+        meets_newest = (version.is.one_of, all_that (λ x. x.is_written ≡ true → IsBelow version.version.mark x.mark → ⊥) log.family not_older)
 
-        -- so each place that it lists has its replica
+      -- so it is where the drives of more than half of each list answered that a boot may find, or where no write was answered
+      firm_or_not : (is_firm log ≡ true → (f : ℕ) × (world.0.firm ≡ Some f) × MostOn g key answers (first_of (version_at log.family f).table.plan.lists)) → MayBeFound log.family version.version
+      firm_or_not firm = elim (cases_Bool (is_firm log)) [
+        | inl is ↦ (let f = firm is in meets_newest f.0 f.1 f.2)
+        | inr loose ↦ (
+          version.is.one_of,
+          all_that (λ x. x.is_written ≡ true → IsBelow version.version.mark x.mark → ⊥) log.family (λ x has written below. false≢true (sym loose ∙ written_firm log.family x has written)),
+        )
+      ]
+
+      found_by_lists : ListsLieOn g key answers log.family → MayBeFound log.family version.version
+      found_by_lists lie = firm_or_not (λ firm.
+          let f = firm_some g site identity log world.0 here world.1 firm in
+          (f.0, f.1, (lie (version_at log.family f.0) (firm_found g site identity log world.0 here world.1 f.0 f.1)).0))
+
+      found_by_all : AllAnswer g key up survey → MayBeFound log.family version.version
+      found_by_all answer = firm_or_not (λ firm.
+          let f = firm_some g site identity log world.0 here world.1 firm in
+          (f.0, f.1, all_most f.0 f.1))
+        where
+          all_most : (f : ℕ) (firm : world.0.firm ≡ Some f) → MostOn g key answers (first_of (version_at log.family f).table.plan.lists)
+          all_most f firm =
+              let list = first_of (version_at log.family f).table.plan.lists in
+              let some = some_listed g site identity log world.0 here world.1 f firm in
+              let each = count_all on list (λ p has. (
+              let lies = all_lie g site identity log world.0 here world.1 f firm p has in
+              ap (λ (name : SliceName). is_on answers (slice_at site.lines name)) lies.slice ∙ ap (is_on answers) (line_found g sound key lies.line lies.one_of) ∙ answer lies.line lies.one_of)) in
+              omega (arith, each, some)
+
+      -- so each place that it lists has its replica
+      module _ (may : MayBeFound log.family version.version) where
         place_found : (p : Place) → Contains (places_of newest.table.plan.lists) p → HasPlace (Spells g) site identity here p
-        place_found p has = listed version.version p version.is.one_of (all_that (λ x. x.is_written ≡ true → IsBelow version.version.mark x.mark → ⊥) log.family not_older) (subst (λ (u : Table). Contains (places_of u.plan.lists) p) (sym same_table) has)
+        place_found p has = listed version.version p may.0 may.1 (subst (λ (u : Table). Contains (places_of u.plan.lists) p) (sym same_table) has)
+
+        most_on_newest : ListsLieOn g key answers log.family → MostOnEach g key answers newest.table.plan.lists
+        most_on_newest lie = subst (λ (u : Table). MostOnEach g key answers u.plan.lists) same_table (lie version.version may)
 
       -- each place that it lists has its replica
       module _ (its_place : (p : Place) → Contains (places_of newest.table.plan.lists) p → HasPlace (Spells g) site identity here p) where
@@ -293,12 +332,6 @@ module _ (g : Geometry) (all : List Database) (key : Key) (up : Drives) (survey 
               long = ap (λ (q : Place). q.blocks) (sym h.is);
             }
 
-        its_record : IsRecordOf g (text_of (at_of replica) newest.slot shows.bytes (here replica.line.at.drive.0)) newest.table
-        its_record = spelled_of g (text_of (at_of replica) newest.slot shows.bytes (here replica.line.at.drive.0)) newest.table sound shows.text
-
-        abbrev places : List Place
-        places = places_of newest.table.plan.lists
-
         found_at : (p : Place) → Contains places p → on p ≡ true → is_found_at rs identity p ≡ true
         found_at p has up_there =
             let x = there p has up_there in
@@ -306,12 +339,6 @@ module _ (g : Geometry) (all : List Database) (key : Key) (up : Drives) (survey 
             (ap (is_there identity p) x.found.2 ∙ and_from (is_of identity x.replica_there) (same_place (place_of x.replica_there) p) x.its ((same_place-true (place_of x.replica_there) p).1 x.lies))
 
         -- each place has room for the text
-        abbrev text : ℕ
-        text = blocks_for (length (record_text newest.table))
-
-        abbrev seats : List Seat
-        seats = seats_of rs identity text places
-
         fits : (p : Place) → Contains places p → text ≤ slot_blocks p.blocks
         fits p has =
             let least = room_least seats (seat_for rs identity text p) (mapped (seat_for rs identity text) places p has) in
@@ -337,7 +364,7 @@ module _ (g : Geometry) (all : List Database) (key : Key) (up : Drives) (survey 
             lt-ltb (length list) (2 * readable_of rs identity list) (omega (arith, least, most))
 
         none_fails : (lists : Lists) → ((p : Place) → Contains (places_of lists) p → Contains places p) → MostOnEach g key answers lists → failing rs identity lists ≡ None
-        none_fails (One list) within most = cond-true (is_read rs identity list) None (Some list) (read_so list within most)
+        none_fails (One list) within most = cond-true (is_read rs identity list) None (Some list) (read_so list within most.0)
         none_fails (Two old new) within most =
             cond-true (is_read rs identity old) (cond (is_read rs identity new) None (Some new)) (Some old) (read_so old (λ p has. within p (in_first (Two old new) p has)) most.0)
             ∙ cond-true (is_read rs identity new) None (Some new) (read_so new (λ p has. within p (in_last (Two old new) p has)) most.1)
@@ -362,7 +389,7 @@ module _ (g : Geometry) (all : List Database) (key : Key) (up : Drives) (survey 
         has_room : MostOnEach g key answers newest.table.plan.lists → (share : Share) → short_of More seats newest.table.plan.lists ≡ Some share → ⊥
         has_room most share short = by newest.table.plan.lists (λ p has. has) most short where
           by : (lists : Lists) → ((p : Place) → Contains (places_of lists) p → Contains places p) → MostOnEach g key answers lists → short_of More seats lists ≡ Some share → ⊥
-          by (One list) within most short = (let none = list_has_room list within most in cc (none, short))
+          by (One list) within most short = (let none = list_has_room list within most.0 in cc (none, short))
           by (Two old new) within most short =
               let first = list_has_room old (λ p has. within p (in_first (Two old new) p has)) most.0 in
               let last = list_has_room new (λ p has. within p (in_last (Two old new) p has)) most.1 in
@@ -378,63 +405,81 @@ module _ (g : Geometry) (all : List Database) (key : Key) (up : Drives) (survey 
         in_list list (inl is) p has = in_first newest.table.plan.lists p (subst (λ (l : List Place). Contains l p) is has)
         in_list list (inr is) p has = in_last newest.table.plan.lists p (subst (λ (l : List Place). Contains l p) is has)
 
-        some_listed : (list : List Place) → IsOneOf newest.table.plan.lists list → 1 ≤ length list
-        some_listed list one_of = by newest.table.plan.lists its_record.of_geometry.lists one_of where
+        some_listed_in : (list : List Place) → IsOneOf newest.table.plan.lists list → 1 ≤ length list
+        some_listed_in list one_of = by newest.table.plan.lists its_record.of_geometry.lists one_of where
           by : (lists : Lists) → IsListsOf g lists → IsOneOf lists list → 1 ≤ length list
           by (One l) are (inl is) = omega (arith, are.some, ap length is)
           by (One l) are (inr is) = omega (arith, are.some, ap length is)
           by (Two old new) are (inl is) = omega (arith, are.0.some, ap length is)
           by (Two old new) are (inr is) = omega (arith, are.1.some, ap length is)
 
-        is_short_of : (needed : ℕ) (list : List Place) → IsOneOf newest.table.plan.lists list → (MostOn g key answers list → ⊥) → needed ≡ needed_of list → IsShortOf g all key up survey needed
-        is_short_of needed list list_is few needed_is = record {
+        -- so no list of it is short of which more than half lie on drives that answer, nor one at all where all do
+        list_answers : AllAnswer g key up survey → (list : List Place) → IsOneOf newest.table.plan.lists list → MostOn g key answers list
+        list_answers answer list one_of = list_most answer list (in_list list one_of) (some_listed_in list one_of)
+
+        list_read : (list : List Place) → IsOneOf newest.table.plan.lists list → MostOn g key answers list → is_read rs identity list ≡ true
+        list_read list one_of most = read_so list (in_list list one_of) most
+
+        list_roomy : (list : List Place) → IsOneOf newest.table.plan.lists list → MostOn g key answers list → suffices More (share_in seats list) ≡ true
+        list_roomy list one_of most = list_suffices More seats list (list_has_room list (in_list list one_of) most)
+
+      -- the boot is short of this list
+      module _ (needed : ℕ) (list : List Place) (one_of : IsOneOf newest.table.plan.lists list) (needed_is : needed ≡ needed_of list) (short : MayBeFound log.family version.version → MostOn g key answers list → ⊥) where
+        of_list : MostOnEach g key answers newest.table.plan.lists → MostOn g key answers list
+        of_list most = elim one_of [ inl is ↦ subst (MostOn g key answers) (sym is) most.0 | inr is ↦ subst (MostOn g key answers) (sym is) most.1 ]
+
+        same_log : log_of all key ≡ log
+        same_log = ap log_in current.current
+
+        never_lie : ListsLieOn g key answers log.family → ⊥
+        never_lie lie = (let may = found_by_lists lie in short may (of_list (most_on_newest may lie)))
+
+        never_all : AllAnswer g key up survey → ⊥
+        never_all answer = (let may = found_by_all answer in short may (list_answers (place_found may) answer list one_of))
+
+        is_short_of : IsShortOf g all key up survey needed
+        is_short_of = record {
           newest = newest;
           newest_is = newest_is;
           version = version.version;
-          one_of = subst (λ (l : Log). Contains l.family version.version) (sym (ap log_in current.current)) version.is.one_of;
+          one_of = subst (λ (l : Log). Contains l.family version.version) (sym same_log) version.is.one_of;
           same = same_table;
           list = list;
-          list_is = list_is;
-          few = few;
+          list_is = one_of;
+          few = subst (λ (l : Log). MayBeFound l.family version.version → MostOn g key answers list → ⊥) (sym same_log) short;
+          some = subst (λ (l : Log). ListsLieOn g key answers l.family → ⊥) (sym same_log) never_lie;
           needed_is = needed_is;
-          away = λ all_answer. few (list_most all_answer list (in_list list list_is) (some_listed list list_is));
+          away = never_all;
         }
 
-        failing_short : (readable needed : ℕ) → IsNotEnough rs newest readable needed → IsShortOf g all key up survey needed
-        failing_short readable needed is =
-            let its : identity ≡ is.replica.head.master.identity = ap (λ (r : Replica). r.head.master.identity) (some_is (slice_get rs newest.replica) replica is.replica the.one_of is.the.one_of) in
-            let one = failing_list rs identity newest.table.plan.lists is.list (subst (λ (i : Identity). failing rs i newest.table.plan.lists ≡ Some is.list) (sym its) is.fails) in
-            is_short_of needed is.list one.0 (λ most. false≢true (sym one.1 ∙ read_so is.list (in_list is.list one.0) most)) is.needed_is
+      failing_short : (readable needed : ℕ) → IsNotEnough rs newest readable needed → IsShortOf g all key up survey needed
+      failing_short readable needed is =
+          let its : identity ≡ is.replica.head.master.identity = ap (λ (r : Replica). r.head.master.identity) (some_is (slice_get rs newest.replica) replica is.replica the.one_of is.the.one_of) in
+          let one = failing_list rs identity newest.table.plan.lists is.list (subst (λ (i : Identity). failing rs i newest.table.plan.lists ≡ Some is.list) (sym its) is.fails) in
+          is_short_of needed is.list one.0 is.needed_is (λ may most. false≢true (sym one.1 ∙ list_read (place_found may) is.list one.0 most))
 
-        room_short : (needed : ℕ) (share : Share) → short_of More seats newest.table.plan.lists ≡ Some share → needed ≡ share.listed / 2 + 1 → IsShortOf g all key up survey needed
-        room_short needed share short needed_is =
-            let one = short_list More seats newest.table.plan.lists share short in
-            let enough : MostOn g key answers one.0 → suffices More (share_in seats one.0) ≡ true = λ most. list_suffices More seats one.0 (list_has_room one.0 (in_list one.0 one.1) most) in
-            is_short_of needed one.0 one.1 (λ most. false≢true (sym one.3 ∙ ap (suffices More) one.2 ∙ enough most)) (needed_is ∙ ap (λ (s : Share). s.listed / 2 + 1) one.2)
+      room_short : (needed : ℕ) (share : Share) → short_of More seats newest.table.plan.lists ≡ Some share → needed ≡ share.listed / 2 + 1 → IsShortOf g all key up survey needed
+      room_short needed share short needed_is =
+          let one = short_list More seats newest.table.plan.lists share short in
+          is_short_of needed one.0 one.1 (needed_is ∙ ap (λ (s : Share). s.listed / 2 + 1) one.2) (λ may most. false≢true (sym one.3 ∙ ap (suffices More) one.2 ∙ list_roomy (place_found may) one.0 one.1 most))
 
-  -- As long as no places come and go the newest table is one of the key's current database, and each place that it lists has its replica.
-  module _ (anew : AreAnew all) where
+  -- As long as none of the key's databases was about to be deleted the newest table is one of the current one.
+  module _ (alive : AllLive all key) where
     module _ (newest : Newest) (newest_is : survey.newest ≡ Some newest) (replica : Replica) (the : IsTheOne rs newest replica) where
       its_current : IsCurrentOf all key (identity newest newest_is replica the)
-      its_current = anew_current g all key (identity newest newest_is replica the) t stand anew (is_shown newest newest_is replica the)
+      its_current = elim (shown_current g all key (identity newest newest_is replica the) t stand (is_shown newest newest_is replica the)) [
+        | inl its ↦ its
+        | inr was ↦ absurd (lives_there was.database.log.fate (alive was.database was.one_of was.of_key) was.gone)
+      ]
 
-      abbrev its_log : Log
-      its_log = its_current.database.log
-
-      log_anew : IsAnew its_log
-      log_anew = anew its_current.database (current_in key all its_current.database its_current.current)
-
-      every_place : (p : Place) → Contains (places_of newest.table.plan.lists) p → HasPlace (Spells g) site (identity newest newest_is replica the) (last t) p
-      every_place p has =
-          let found = version newest newest_is replica the its_current log_anew.lives in
-          all_places (Spells g) site (identity newest newest_is replica the) its_log (last t) log_anew (stand.logs its_current.database (current_in key all its_current.database its_current.current)).rising
-          (listed newest newest_is replica the its_current log_anew.lives) found.version p found.is.one_of (subst (λ (u : Table). Contains (places_of u.plan.lists) p) (sym (same_table newest newest_is replica the its_current log_anew.lives)) has)
+      its_lives : its_current.database.log.fate ≡ Lives
+      its_lives = alive its_current.database (current_in key all its_current.database its_current.current) (current_key key all its_current.database its_current.current)
 
       not_enough : (readable needed : ℕ) → IsNotEnough rs newest readable needed → IsShortOf g all key up survey needed
-      not_enough = failing_short newest newest_is replica the its_current log_anew.lives every_place
+      not_enough = failing_short newest newest_is replica the its_current its_lives
 
-      no_room : (needed : ℕ) (share : Share) → short_of More (seats newest newest_is replica the its_current log_anew.lives every_place) newest.table.plan.lists ≡ Some share → needed ≡ share.listed / 2 + 1 → IsShortOf g all key up survey needed
-      no_room = room_short newest newest_is replica the its_current log_anew.lives every_place
+      no_room : (needed : ℕ) (share : Share) → short_of More (seats newest newest_is replica the) newest.table.plan.lists ≡ Some share → needed ≡ share.listed / 2 + 1 → IsShortOf g all key up survey needed
+      no_room = room_short newest newest_is replica the its_current its_lives
 
     not_few : (o : Option Newest) → survey.newest ≡ o → (readable needed : ℕ) → MatchOption o (chosen.NoQuorum readable needed ≡ chosen.Empty) (λ (n : Newest). IsChoiceAmong rs n (chosen.NoQuorum readable needed)) → IsShortOf g all key up survey needed
     not_few None is_newest readable needed never = absurd (cc (never))
@@ -446,8 +491,8 @@ module _ (g : Geometry) (all : List Database) (key : Key) (up : Drives) (survey 
     short_by readable needed (inr (was, newest, replica, listed_seats, hand, share, short, readable_is, needed_is)) =
         no_room newest hand.newest_is replica hand.the needed share (subst (λ (l : List Seat). short_of More l newest.table.plan.lists ≡ Some share) hand.seats_are short) needed_is
 
-  -- Nor is it short where more than half of the places answer that each table of the current one lists which a boot may find, as long as it isn't about to be deleted.
-  module _ (lives : (log_of all key).fate ≡ Lives) (firm : is_firm (log_of all key) ≡ true) (list : List Place) (lists : (x : Version) → MayBeFound (log_of all key).family x → x.table.plan.lists ≡ One list) (most : MostOn g key answers list) where
+  -- Nor is it short where more than half of each list answers that a boot may find of the current one, as long as that isn't about to be deleted.
+  module _ (lives : (log_of all key).fate ≡ Lives) (firm : is_firm (log_of all key) ≡ true) (most : ListsLieOn g key answers (log_of all key).family) where
     current_one : (d : Database) × (current_of all key ≡ Some d)
     current_one = by (current_of all key) refl firm
       where
@@ -458,8 +503,8 @@ module _ (g : Geometry) (all : List Database) (key : Key) (up : Drives) (survey 
     abbrev d : Database
     d = current_one.0
 
-    same_log : log_of all key ≡ d.log
-    same_log = ap log_in current_one.1
+    same_log_of : log_of all key ≡ d.log
+    same_log_of = ap log_in current_one.1
 
     d_world : (w : Core) × IsWorld (Spells g) site d.identity d.log w (last t)
     d_world =
@@ -467,20 +512,21 @@ module _ (g : Geometry) (all : List Database) (key : Key) (up : Drives) (survey 
         (has.0, subst (λ (k : Key). IsWorld (Spells g) (site_of g k) d.identity d.log has.0 (last t)) (current_key key all d current_one.1) has.1)
 
     d_lives : d.log.fate ≡ Lives
-    d_lives = subst (λ (l : Log). l.fate ≡ Lives) same_log lives
+    d_lives = subst (λ (l : Log). l.fate ≡ Lives) same_log_of lives
 
     d_firm : is_firm d.log ≡ true
-    d_firm = subst (λ (l : Log). is_firm l ≡ true) same_log firm
+    d_firm = subst (λ (l : Log). is_firm l ≡ true) same_log_of firm
 
-    d_lists : (x : Version) → MayBeFound d.log.family x → x.table.plan.lists ≡ One list
-    d_lists = subst (λ (l : Log). (x : Version) → MayBeFound l.family x → x.table.plan.lists ≡ One list) same_log lists
+    d_most : ListsLieOn g key answers d.log.family
+    d_most = subst (λ (l : Log). ListsLieOn g key answers l.family) same_log_of most
 
     its_firm : (f : ℕ) × (d_world.0.firm ≡ Some f)
     its_firm = firm_some g site d.identity d.log d_world.0 (last t) d_world.1 d_firm
 
     -- a replica of it that shows a table is found, so the newest table is its one
     meeting : Meets g site d.identity d.log d_world.0 (last t) d_world.1 its_firm.0 its_firm.1 answers
-    meeting = meets g site d.identity d.log d_world.0 (last t) d_world.1 its_firm.0 its_firm.1 list (d_lists (version_at d.log.family its_firm.0) (firm_found g site d.identity d.log d_world.0 (last t) d_world.1 its_firm.0 its_firm.1)) answers most d_lives
+    meeting =
+        meets g site d.identity d.log d_world.0 (last t) d_world.1 its_firm.0 its_firm.1 answers (d_most (version_at d.log.family its_firm.0) (firm_found g site d.identity d.log d_world.0 (last t) d_world.1 its_firm.0 its_firm.1)).0 d_lives
 
     module _ (newest : Newest) (newest_is : survey.newest ≡ Some newest) (replica : Replica) (the : IsTheOne rs newest replica) where
       is_current_one : IsCurrentOf all key (identity newest newest_is replica the)
@@ -492,11 +538,11 @@ module _ (g : Geometry) (all : List Database) (key : Key) (up : Drives) (survey 
 
       places_there : (p : Place) → Contains (places_of newest.table.plan.lists) p → HasPlace (Spells g) site (identity newest newest_is replica the) (last t) p
       unfolding is_current_one
-      places_there = place_found newest newest_is replica the is_current_one d_lives d_firm list d_lists most
+      places_there = place_found newest newest_is replica the is_current_one d_lives (found_by_lists newest newest_is replica the is_current_one d_lives d_most)
 
       most_read : MostOnEach g key answers newest.table.plan.lists
       unfolding is_current_one
-      most_read = subst (λ (l : Lists). MostOnEach g key answers l) (sym (its_lists newest newest_is replica the is_current_one d_lives d_firm list d_lists most)) most
+      most_read = most_on_newest newest newest_is replica the is_current_one d_lives (found_by_lists newest newest_is replica the is_current_one d_lives d_most) d_most
 
       none_fail : (fails : List Place) → failing rs (identity newest newest_is replica the) newest.table.plan.lists ≡ Some fails → ⊥
       unfolding is_current_one

@@ -2,6 +2,7 @@ pub mod Lists
 pub mod Ended
 pub mod Loose
 pub mod Going
+pub mod Freed
 pub mod Committing
 pub mod Booting
 pub mod Lasting
@@ -13,3 +14,5 @@ pub mod Finding
 pub mod Moving
 pub mod Bare
 pub mod Ending
+pub mod Striking
+pub mod Blank

@@ -1,12 +1,11 @@
 -- What a deleted database has left on the drives counts no more: its last place is blank, and a boot may find no table but the one that lists that place alone.
-use Rattle.std.proofs.Common.{◌≡◌, inl, inr, ℕ, ◌-◌, ◌*◌, Bool, true, false, List, [], ◌∷◌, length, cond, Option, Some, Contains, refl, sym, ◌∙◌, ap, subst, arith}
+use Rattle.std.proofs.Common.{◌≡◌, inl, inr, ℕ, ◌-◌, ◌*◌, Bool, true, false, List, [], ◌∷◌, length, cond, Some, Contains, refl, sym, ◌∙◌, ap, subst, arith}
 use Rattle.std.specs.Prelude.{count_by}
 use Rattle.std.proofs.lemmas.Bool.{and_from, cond-true, false_from_ne_true, false≢true, lt-ltb, or_cases, or_left}
 use Rattle.std.proofs.lemmas.List.Elements.{All-contains, All-head}
 use Rattle.mdv_quorum.proofs.Deleted.{IsLastBlank, last_blank}
-use Rattle.mdv_shown.specs.Found.{IsOwn}
 use Rattle.mdv_shown.specs.declared.site.Site.{Site}
-use Rattle.mdv_standing.specs.Below.{Head, Image, IsBelow, Master, Over, Spot, SpotLists, Version, covers, is_in, is_majority, is_named, place_at, same_spot, spot_on, table_at}
+use Rattle.mdv_standing.specs.Below.{Image, IsBelow, Over, Spot, SpotLists, Version, covers, is_in, is_majority, is_named, place_at, same_spot, spot_on, table_at}
 use Rattle.mdv_standing.specs.Matching.{IsDeleted, is_set, lists_of, spot_in, spots_of as lists_of_spots, version_at}
 use Rattle.mdv_standing.specs.Others.{IsLoose}
 use Rattle.mdv_standing.specs.Worlds.{IsWorld}
@@ -14,11 +13,11 @@ use Rattle.mdv_standing.proofs.Versions.{version_newest}
 use Rattle.mdv_store_law.specs.Log.{IsLog, IsNotOlder, IsRising}
 use Rattle.mdv_store_law.proofs.Families.{contains_cases}
 use Rattle.mdv_votes.proofs.Meeting.{same_is, same_self, step_counted}
-use Rattle.mdv_votes.specs.Quorum.{is_read, is_read_list}
+use Rattle.mdv_votes.specs.Quorum.{is_read_list}
 use Rattle.mdv_databases.specs.Below.{Core, Database, Geometry, Identity, Lists, Log, One, SliceLine, Spells, Table, Tale, site_of, slice_at}
 use Rattle.mdv_databases.specs.Creating.{IsLooseAt}
 use Rattle.mdv_databases.specs.Standing.{HasOnePlace, Stand}
-use Rattle.mdv_databases.proofs.Ended.{not_both}
+use Rattle.mdv_store_law.proofs.Fates.{lives_there}
 
 module _ (Spells : List ℕ → Table → Type 0) (g : Geometry) (site : Site) (identity : Identity) (log : Log) (is_log : IsLog g log) (over : log.fate ≡ Over) (sole : HasOnePlace log) where
   -- a boot may find its newest table alone
@@ -97,4 +96,4 @@ module _ (Spells : List ℕ → Table → Type 0) (g : Geometry) (site : Site) (
 pub over_loose : (g : Geometry) (all : List Database) (t : Tale) → Stand g all t → (d : Database) (line : SliceLine) → Contains all d → d.log.fate ≡ Over → IsLooseAt g d line t
 over_loose g all t stand d line has over image is =
     let w = (stand.worlds image is).worlds d has in
-    loose (Spells g) g (site_of g d.key) d.identity d.log (stand.logs d has) over (stand.ended d has (λ lives. not_both d.log.fate lives over)) w.0 image w.1 line
+    loose (Spells g) g (site_of g d.key) d.identity d.log (stand.logs d has) over (stand.ended d has (λ lives. lives_there d.log.fate lives over)) w.0 image w.1 line

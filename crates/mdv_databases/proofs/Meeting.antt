@@ -13,9 +13,9 @@ use Rattle.mdv_shown.specs.declared.site.Site.{Site}
 use Rattle.mdv_shown.proofs.Choice.{enough}
 use Rattle.mdv_shown.proofs.Slots.{never_below}
 use Rattle.mdv_store_law.specs.Log.{Lives}
-use Rattle.mdv_standing.specs.Below.{First, Head, Image, IsBelow, Mark, Open, Second, Slot, Spot, SpotLists, covers, gate_of, is_majority, place_at, place_on, shows, spot_on, table_at}
+use Rattle.mdv_standing.specs.Below.{FamilyTable, First, Head, Image, IsBelow, Mark, Open, Second, Slot, Spot, SpotLists, covers, gate_of, is_majority, is_none, place_at, place_on, shows, spot_on, table_at}
 use Rattle.mdv_standing.specs.Databases.{log_in}
-use Rattle.mdv_standing.specs.Matching.{spot_in, spots_of as lists_of_spots, tables_of, version_at}
+use Rattle.mdv_standing.specs.Matching.{LiesOn, spot_in, spots_in, spots_of as lists_of_spots, tables_of, version_at}
 use Rattle.mdv_standing.specs.Worlds.{IsWorld}
 use Rattle.mdv_standing.proofs.Reaching.{standing}
 use Rattle.mdv_standing.proofs.Versions.{version_has}
@@ -24,9 +24,13 @@ use Rattle.mdv_look.proofs.Bringing.{count_cons}
 use Rattle.mdv_store.proofs.Sitting.{contains_behind, contains_first}
 use Rattle.mdv_store_law.specs.Log.{Version, is_firm}
 use Rattle.mdv_survey.specs.Replica.{IsFoundIn}
-use Rattle.mdv_votes.proofs.Quorums.{lists_are_shared, writes_meet_reads}
-use Rattle.mdv_databases.specs.Below.{Core, Database, Geometry, Identity, Key, Log, One, Place, Replica, SliceAt, Spells, Tale, current_of, last, log_of, site_of, slice_at}
-use Rattle.mdv_databases.specs.Meeting.{MayBeFound, MostOn, is_on}
+use Rattle.mdv_votes.proofs.Quorums.{seats_itself, writes_meet_reads}
+use Rattle.mdv_votes.specs.Laws.{Shares}
+use Rattle.mdv_table.specs.Plan.{first_of}
+use Rattle.mdv_table.specs.declared.plan.Lists.{Lists}
+use Rattle.mdv_store.proofs.Shares.{in_first}
+use Rattle.mdv_databases.specs.Below.{Core, Database, Geometry, Identity, Key, Log, One, Place, Two, Replica, SliceAt, Spells, Tale, current_of, last, log_of, site_of, slice_at}
+use Rattle.mdv_databases.specs.Meeting.{ListsLieOn, MayBeFound, is_on}
 use Rattle.mdv_databases.specs.Standing.{Stand}
 use Rattle.mdv_databases.proofs.Lists.{current_in, current_key}
 
@@ -127,20 +131,44 @@ module _ (g : Geometry) (site : Site) (identity : Identity) (log : Log) (w : Cor
       pub bytes : ℕ
       pub gate : gate_of replica.head slot ≡ Open (table_at w.family number).mark bytes
 
-    -- of the places that took it one is on such a drive
-    module _ (places : List Place) (lists : (version_at log.family f).table.plan.lists ≡ One places) (up : ℕ → Bool) (most : length places < 2 * count_by (λ (place : Place). is_on up (slice_at site.lines place.slice)) places) where
-      its_lists : (table_at w.family f).lists ≡ lists_of_spots site (One places)
-      its_lists = (world.matches.each f known).lists ∙ ap (lists_of_spots site) lists
+    abbrev pub its_lists : Lists
+    its_lists = (version_at log.family f).table.plan.lists
 
-      read : covers (is_majority (is_there up)) (table_at w.family f).lists ≡ true
-      read = subst (λ (l : SpotLists). covers (is_majority (is_there up)) l ≡ true) (sym its_lists) (and_from (is_majority (is_there up) (map (spot site up) places)) true (most_spots site up places most) refl)
+    -- its first list, as the votes count it
+    its_first : (table_at w.family f).lists.first ≡ spots_in site (first_of its_lists)
+    its_first = ap (λ (l : SpotLists). l.first) (world.matches.each f known).lists ∙ first_spots its_lists
+      where
+        first_spots : (lists : Lists) → (lists_of_spots site lists).first ≡ spots_in site (first_of lists)
+        first_spots (One places) = refl
+        first_spots (Two old new) = refl
+
+    -- it lists some
+    pub some_listed : 1 ≤ length (first_of its_lists)
+    some_listed = by (first_of its_lists) refl where
+      by : (places : List Place) → first_of its_lists ≡ places → 1 ≤ length places
+      by [] none = absurd (false≢true (sym (world.matches.each f known).some ∙ ap is_none (its_first ∙ ap (spots_in site) none)))
+      by (place ∷ places) is = omega arith
+
+    -- each on a slice of the site
+    pub all_lie : (place : Place) → Contains (first_of its_lists) place → LiesOn site place
+    all_lie place has = (world.matches.each f known).lie place (in_first its_lists place has)
+
+    -- of the places of its first list that took it one is on such a drive
+    module _ (up : ℕ → Bool) (most : length (first_of its_lists) < 2 * count_by (λ (place : Place). is_on up (slice_at site.lines place.slice)) (first_of its_lists)) where
+      -- as if it had that list alone
+      abbrev alone : FamilyTable
+      alone = record (table_at w.family f) { lists = record { first = (table_at w.family f).lists.first; second = None; mediators = (table_at w.family f).lists.mediators } }
+
+      read : covers (is_majority (is_there up)) alone.lists ≡ true
+      read = and_from (is_majority (is_there up) (table_at w.family f).lists.first) true (subst (λ (l : List Spot). is_majority (is_there up) l ≡ true) (sym its_first) (most_spots site up (first_of its_lists) most)) refl
 
       pub meets : log.fate ≡ Lives → Meets up
       meets lives =
           let t = table_at w.family f in
           let stands = standing site w world.reached in
           let held = stands.held f firm (world.matches.there lives) in
-          let p = writes_meet_reads t t held.0 (is_there up) (λ q. false) (lists_are_shared t.lists) (λ half none. none) held.1 (enough (is_there up) t (λ q. false) read) in
+          let shared : Shares alone.lists t.lists = record { list = t.lists.first; in_a = inl refl; in_b = inl refl; seats = seats_itself t.lists.mediators } in
+          let p = writes_meet_reads alone t held.0 (is_there up) (λ q. false) shared (λ half none. none) held.1 (enough (is_there up) alone (λ q. false) read) in
           let place = and_parts (not p.0.mediator) (up p.0.drive.0) p.2 in
           let has = held.2 p.0 p.1 in
           let one = shown_at p.0 has.table (not-true p.0.mediator place.0) has.formed has.shows in
@@ -165,17 +193,17 @@ module _ (g : Geometry) (site : Site) (identity : Identity) (log : Log) (w : Cor
       let f = world.matches.answered i.0 i.1 (ap (λ (y : Version). y.is_written) i.2 ∙ v.2) in
       (f.0, f.1)
 
-pub databases_meet : (g : Geometry) (all : List Database) (key : Key) (places : List Place) (up : ℕ → Bool) (t : Tale) → Stand g all t → (log_of all key).fate ≡ Lives → is_firm (log_of all key) ≡ true
-    → ((v : Version) → MayBeFound (log_of all key).family v → v.table.plan.lists ≡ One places) → MostOn g key up places
+pub databases_meet : (g : Geometry) (all : List Database) (key : Key) (up : ℕ → Bool) (t : Tale) → Stand g all t → (log_of all key).fate ≡ Lives → is_firm (log_of all key) ≡ true → ListsLieOn g key up (log_of all key).family
     → (r : Replica) × IsFoundIn g (site_of g key) (last t) r × (up r.line.at.drive.0 ≡ true) × (shows r.head ≡ true)
-databases_meet g all key places up t stand lives firm lists most = of_one (current_of all key) refl lives firm lists
+databases_meet g all key up t stand lives firm most = of_one (current_of all key) refl lives firm most
   where
-    of_one : (c : Option Database) → current_of all key ≡ c → (log_in c).fate ≡ Lives → is_firm (log_in c) ≡ true → ((v : Version) → MayBeFound (log_in c).family v → v.table.plan.lists ≡ One places)
+    of_one : (c : Option Database) → current_of all key ≡ c → (log_in c).fate ≡ Lives → is_firm (log_in c) ≡ true → ListsLieOn g key up (log_in c).family
         → (r : Replica) × IsFoundIn g (site_of g key) (last t) r × (up r.line.at.drive.0 ≡ true) × (shows r.head ≡ true)
-    of_one None is lives firm lists = absurd (false≢true firm)
-    of_one (Some d) is lives firm lists =
+    of_one None is lives firm most = absurd (false≢true firm)
+    of_one (Some d) is lives firm most =
         let has = (stand.worlds (last t) (last_image t)).worlds d (current_in key all d is) in
         let world = subst (λ (k : Key). IsWorld (Spells g) (site_of g k) d.identity d.log has.0 (last t)) (current_key key all d is) has.1 in
         let f = firm_some g (site_of g key) d.identity d.log has.0 (last t) world firm in
-        let one = meets g (site_of g key) d.identity d.log has.0 (last t) world f.0 f.1 places (lists (version_at d.log.family f.0) (firm_found g (site_of g key) d.identity d.log has.0 (last t) world f.0 f.1)) up most lives in
+        let may = firm_found g (site_of g key) d.identity d.log has.0 (last t) world f.0 f.1 in
+        let one = meets g (site_of g key) d.identity d.log has.0 (last t) world f.0 f.1 up (most (version_at d.log.family f.0) may).0 lives in
         (one.replica, one.found, one.on, opens one.replica.head one.slot (table_at has.0.family one.number).mark one.bytes one.gate)

@@ -1,19 +1,17 @@
 -- A change of places among all databases.
-use Rattle.std.proofs.Common.{◌≡◌, ◌⊎◌, inl, inr, true, false, Bool, List, [], Option, Some, Ok, Err, Contains, refl, sym, ◌∙◌, ap, subst}
+use Rattle.std.proofs.Common.{◌≡◌, ◌⊎◌, inl, inr, Bool, List, [], Option, Some, Ok, Err, Contains, refl, ◌∙◌, ap, subst}
 use Rattle.std.proofs.lemmas.Bool.{cases_Bool}
-use Rattle.mdv_places.specs.Changing.{both_of}
 use Rattle.mdv_places.specs.Going.{IsMoving}
 use Rattle.mdv_places.specs.Moments.{AreOfMove, AreTakenFrom, IsLogOf, MayGo, MoveEnds, MoveGoes, MoveMoment, RestMay}
 use Rattle.mdv_places.specs.Asked.{Adds, Asks, Drops, KeepsFirst}
 use Rattle.mdv_places.specs.declared.changing.PlacesFault.TheVariants as unmoved
-use Rattle.mdv_shelf.specs.Everywhere.{Image}
 use Rattle.mdv_standing.specs.Holding.{IsOneOf}
 use Rattle.mdv_standing.specs.Others.{MayLose}
 use Rattle.mdv_standing.specs.Rest.{IsRest, RestMayBeTaken, RestStands}
 use Rattle.mdv_standing.specs.Tracing.{GoesTracedBy}
 use Rattle.mdv_standing.proofs.Holding.{rest_of}
 use Rattle.mdv_store.specs.Commit.{AnyLog, AnyWorld, IsCommittedTo}
-use Rattle.mdv_databases.specs.Below.{Change, Core, Database, Geometry, Identity, IsReadyWith, Key, Log, Opened, Place, SliceLine, Spells, Tale, asks_of, current_of, log_of, site_of, spots_of}
+use Rattle.mdv_databases.specs.Below.{Change, Core, Database, Geometry, Identity, IsReadyWith, Key, Log, Opened, SliceLine, Spells, Tale, asks_of, current_of, log_of, site_of, spots_of}
 use Rattle.mdv_databases.specs.Creating.{MayBeTakenAt}
 use Rattle.mdv_databases.specs.Going.{GoOnBy, IsCurrentOf}
 use Rattle.mdv_databases.specs.Moving.{GetsMore, HasDropped, IsMoveIn, IsMovedIn, IsUnmovedIn, MayBeTakenOfOthers}
@@ -98,7 +96,7 @@ module _ (g : Geometry) (all : List Database) (o : Opened) (asked : Asks) (chang
   move_end new clean u moment ends keyed named =
       let done = ends may in
       let to = gone_on (asks_of (Some change)) (IsReadyWith (spots_of new.seats)) (IsCommittedTo g new (Some change)) u moment (done.1 change is.made) in
-      let lives = lives_after_all (IsMoving asked) (log_of all o.key) to.goes.es (λ never. never) is.is_open.lives to.goes.come.issues in
+      let lives = lives_after_all (IsMoving asked) g (log_of all o.key) to.goes.es (λ never. never) is.is_open.lives to.goes.course to.goes.come.issues in
       record {
         goes = to.goes;
         is_open = opens (IsMoving asked) g all o.key o.identity (asks_of (Some change)) _ (IsCommittedTo g new (Some change)) new u to keyed named (λ log after. after.newest) lives done.0;

@@ -1,5 +1,5 @@
 -- How all databases go on while one ends that is open, and has one place.
-use Rattle.std.specs.Prelude.{◌≡◌, ℕ, true, List, []}
+use Rattle.std.specs.Prelude.{◌≡◌, ℕ, true, List, [], ◌∷◌}
 use Rattle.mdv_places.specs.Asked.{KeepsFirst}
 use Rattle.mdv_places.specs.Ending.{EndEnds, EndMoment, IsSole}
 use Rattle.mdv_places.specs.Moments.{IsFront}
@@ -8,7 +8,7 @@ use Rattle.mdv_replica.specs.declared.forms.Master.{Master}
 use Rattle.mdv_replica.specs.declared.replica.Head.{Head}
 use Rattle.mdv_shelf.specs.Everywhere.{Everywhere}
 use Rattle.mdv_shown.specs.Found.{IsFound}
-use Rattle.mdv_store_law.specs.Log.{EndAlone, Ends, Over}
+use Rattle.mdv_store_law.specs.Log.{Clearing, EndAlone, Ends, Gone, Over}
 use Rattle.mdv_table.specs.Plan.{last_of}
 use Rattle.mdv_databases.specs.Below.{Database, Geometry, Key, Opened, SliceLine, Spells, Tale, site_of}
 use Rattle.mdv_databases.specs.Going.{GoOnBy, IsOpenIn, with_events}
@@ -30,11 +30,13 @@ ShowsThere g key on t = Everywhere (λ image. (line : SliceLine) (k : ℕ) (firs
 -- In the end its log is over, and another one of its key may be created. Where no replica of the key showed a table but on its slice, none shows one.
 pub record IsEndedIn (g : Geometry) (all : List Database) (o : Opened) (t u : Tale) : Type 0 where
   pub goes : GoOnBy EndAlone g all o.key o.identity [] (λ log. log.fate ≡ Over) u
+  pub events : goes.es ≡ Clearing ∷ Gone ∷ []
   pub freed : AreFreed g (with_events o.key goes.es all) o.key u
   pub none : (s : IsSole o) → ShowsThere g o.key s.replica.line t → HasNoTable g o.key u
 
 pub record EndsGo : Type 0 where
-  -- at each moment of the end all databases go on, with nothing asked, and its log is about to be over
-  pub moments : (g : Geometry) (all : List Database) (o : Opened) (t m : Tale) → IsEndIn g all o t → EndMoment o t m → GoOnBy EndAlone g all o.key o.identity [] (λ log. log.fate ≡ Ends) m
+  -- at each moment of the end all databases go on, with nothing asked, and its log is about to be over: the end began, once
+  pub moments : (g : Geometry) (all : List Database) (o : Opened) (t m : Tale) → IsEndIn g all o t → EndMoment o t m
+      → (on : GoOnBy EndAlone g all o.key o.identity [] (λ log. log.fate ≡ Ends) m) × (on.es ≡ Clearing ∷ [])
   -- and once it is done
   pub ends : (g : Geometry) (all : List Database) (o : Opened) (t u : Tale) → IsEndIn g all o t → EndMoment o t u → EndEnds o t u → IsEndedIn g all o t u

@@ -9,3 +9,5 @@ pub mod Telling
 pub mod Meeting
 pub mod Moving
 pub mod Ending
+pub mod Striking
+pub mod Blank

@@ -1,5 +1,5 @@
 -- How all databases go on while the places of an open one change.
-use Rattle.std.specs.Prelude.{◌≡◌, ◌⊎◌, Bool, List, [], ◌∷◌, Some, Contains, Ok, Err}
+use Rattle.std.specs.Prelude.{◌≡◌, ◌⊎◌, Bool, List, [], Some, Contains, Ok, Err}
 use Rattle.mdv_places.specs.Asked.{Adds, Asks, Drops, KeepsFirst, dropped}
 use Rattle.mdv_places.specs.Changing.{both_of}
 use Rattle.mdv_places.specs.Going.{IsMoving}

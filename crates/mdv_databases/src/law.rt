@@ -1,3 +1,4 @@
+ghost use Rattle.mdv_databases.specs.Blank.{BlankBootsGo};
 ghost use Rattle.mdv_databases.specs.Booting.{BootsGo};
 ghost use Rattle.mdv_databases.specs.Committing.{CommitsGo};
 ghost use Rattle.mdv_databases.specs.Creating.{CreationsGo};
@@ -5,6 +6,7 @@ ghost use Rattle.mdv_databases.specs.Ending.{EndsGo};
 ghost use Rattle.mdv_databases.specs.Lasting.{DatabasesLast};
 ghost use Rattle.mdv_databases.specs.Meeting.{DatabasesMeet};
 ghost use Rattle.mdv_databases.specs.Moving.{MovesGo};
+ghost use Rattle.mdv_databases.specs.Striking.{StrikesGo};
 ghost use Rattle.mdv_databases.specs.Telling.{TellsGo};
 
 /// What a crash leaves of drives that stand with all databases does; drives without a replica stand with none; and what is done outside the slices on
@@ -44,8 +46,19 @@ pub fn tells_go()
     ensures { TellsGo }
 {}
 
-/// Once a write of the key's current database was answered, and each table that a boot may find lists these places, a replica that shows a table is found on
-/// any drives with more than half of them.
+/// Once a write of the key's current database was answered, as long as it isn't about to be deleted, a replica that shows a table is found on any drives with
+/// more than half of each list of places that a boot may find, and a boot that reads these isn't short of places.
 pub fn databases_meet()
     ensures { DatabasesMeet }
+{}
+
+/// Where each of a key's databases shows no table, as a creation leaves it that failed, or was deleted, the current one may count as over, though no other one
+/// was begun: all stand then.
+pub fn strikes_go()
+    ensures { StrikesGo }
+{}
+
+/// A boot of a key of which no replica shows a table writes nothing, adopts none, and meets no stale vote.
+pub fn blank_boots_go()
+    ensures { BlankBootsGo }
 {}

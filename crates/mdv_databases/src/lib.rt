@@ -5,5 +5,6 @@
 mod law;
 
 pub use law::{
-    boots_go, commits_go, creations_go, databases_last, databases_meet, ends_go, moves_go, tells_go,
+    blank_boots_go, boots_go, commits_go, creations_go, databases_last, databases_meet, ends_go,
+    moves_go, strikes_go, tells_go,
 };

@@ -31,7 +31,7 @@ module _ {S : Type 0} (shelf : Ghosts S) (host : Host) (memory : Memory) where
   pub asked_goes : (a b : S) (command : Command) → KeptAsAsked shelf a b host memory command → GoesOn shelf a b
   asked_goes a b (AddPlaces slices force count blocks) kept = kept.goes
   asked_goes a b (AddListed number force) kept = kept.1.goes
-  asked_goes a b (DropPlaces slices force) kept = kept.1.goes
+  asked_goes a b (DropPlaces slices force) kept = kept.goes
   asked_goes a b (command.MakeStripe volume slice) kept = kept.goes
   asked_goes a b (Read volume at count) kept = kept.1.goes
   asked_goes a b (Write volume at block) kept = kept.1.goes
@@ -40,7 +40,7 @@ module _ {S : Type 0} (shelf : Ghosts S) (host : Host) (memory : Memory) where
   pub asked_replies : (a b : S) (command : Command) → KeptAsAsked shelf a b host memory command → shelf.faults b OnReplies ≡ shelf.faults a OnReplies
   asked_replies a b (AddPlaces slices force count blocks) kept = kept.others OnReplies (no_replies _)
   asked_replies a b (AddListed number force) kept = kept.1.others OnReplies (λ is. absurd (cc (is)))
-  asked_replies a b (DropPlaces slices force) kept = kept.1.others OnReplies (λ is. absurd (cc (is)))
+  asked_replies a b (DropPlaces slices force) kept = kept.others OnReplies (no_replies _)
   asked_replies a b (command.MakeStripe volume slice) kept = kept.others OnReplies (no_replies _)
   asked_replies a b (Read volume at count) kept = kept.1.others OnReplies (λ is. absurd (cc (is)))
   asked_replies a b (Write volume at block) kept = kept.1.others OnReplies (λ is. absurd (cc (is)))
@@ -49,7 +49,7 @@ module _ {S : Type 0} (shelf : Ghosts S) (host : Host) (memory : Memory) where
   pub asked_then : (a b c : S) (command : Command) → KeptAsAsked shelf a b host memory command → KeptOn shelf b c OnReplies → KeptInTime shelf a c
   asked_then a b c (AddPlaces slices force count blocks) kept replied = among_then_replied shelf a b c _ kept replied
   asked_then a b c (AddListed number force) kept replied = in_time_both (λ is. absurd (cc (is))) kept.1 replied
-  asked_then a b c (DropPlaces slices force) kept replied = in_time_both (λ is. absurd (cc (is))) kept.1 replied
+  asked_then a b c (DropPlaces slices force) kept replied = among_then_replied shelf a b c _ kept replied
   asked_then a b c (command.MakeStripe volume slice) kept replied = among_then_replied shelf a b c _ kept replied
   asked_then a b c (Read volume at count) kept replied = in_time_both (λ is. absurd (cc (is))) kept.1 replied
   asked_then a b c (Write volume at block) kept replied = in_time_both (λ is. absurd (cc (is))) kept.1 replied

@@ -1,8 +1,9 @@
 -- What a read and a write of a volume's blocks come to.
 use Rattle.mdv_engine_law.specs.Line.{Ask, ToDo}
-use Rattle.std.proofs.Common.{◌≡◌, inl, inr, ◌+◌, ℕ, List, [], ◌∷◌, Option, Some, None, IfSome, Err, refl, sym, ap, ◌∙◌, subst, arith}
+use Rattle.std.proofs.Common.{◌≡◌, inl, inr, ◌+◌, ℕ, List, false, [], ◌∷◌, Option, Some, None, IfSome, Err, refl, sym, ap, ◌∙◌, subst, arith}
 use Rattle.mdv_engine.specs.Below.{AreCalm, IsOfGeometry, Opened, DriveBlock, FailedOn, Outcomes, VolId, Refusal, IoFault, Moments, Ends, IsSettled, Settling, Tale, Read, Write, Wrote, Host, key_of, IsReady, Memory, AreBlocksAt, CameTo, kept_at, IsPlain, CarriedTo, CarryMoment, Knows}
-use Rattle.mdv_engine.proofs.Judged.{blocks_judged, judged_said, read_judged}
+use Rattle.mdv_engine.proofs.Ending.{refused_answer}
+use Rattle.mdv_engine.proofs.Judged.{IsJudged, blocks_judged, judged_said, read_judged}
 use Rattle.mdv_shelf.proofs.Moments.{moments_end, moments_none, moments_weaker, ends_both}
 use Rattle.mdv_engine_law.specs.Commands as came
 use Rattle.mdv_engine_law.specs.Line.{Stays}
@@ -20,7 +21,7 @@ use Rattle.mdv_engine_law.proofs.Turning.{carry_none, refused_none}
 use Rattle.mdv_shelf.specs.Shelves.{DriveFailures}
 use Rattle.mdv_shelf.specs.declared.shelf.Shelf.{Ghosts}
 use Rattle.mdv_engine.specs.declared.engine.Engine.{Engine}
-use Rattle.mdv_engine.specs.Ends.{AreTorn, AreWritten}
+use Rattle.mdv_engine.specs.Ends.{AreTorn, AreWritten, HasAnswered, after_write}
 use Rattle.mdv_engine.specs.Engine.{FailedBlocks, HasBlocksCause, HasReadCause, IsHeldBy, IsWell}
 
 -- a line that left all as it was
@@ -64,6 +65,30 @@ module _ (host : Host) (memory : Memory) (volume : VolId) (at count : ℕ) where
   unread_cause calls spends r (inr (inl (of, free, fault))) = subst (λ (x : Refusal). HasAnswerCause (of_blocks calls) spends (refusing x)) (sym fault) of
   unread_cause calls spends r (inr (inr (calm, free, want))) = subst (λ (x : Refusal). HasAnswerCause (of_blocks calls) spends (refusing x)) (sym want) calm
 
+-- what was refused before any call leaves the engine as it was
+pub judged_same : (v : Engine) (r : Refusal) → IsJudged r → after_write v (Err r) ≡ v
+judged_same v IoFault judged = absurd judged
+judged_same v other judged = refl
+
+-- how a write of one block is answered that was refused
+pub unwritten_answer : (calls : Outcomes) (v : Engine) → IsWell v.host v.state → (volume : VolId) (at : ℕ) (value : List ℕ) (r : Refusal) → HasBlocksCause calls v.host v.state volume at 1 r → HasAnswered calls (Write volume at value) v (refusing r) (after_write v (Err r))
+unwritten_answer calls v well volume at value r cause = by cause where
+  still_so : HasAnswered calls (Write volume at value) v (refusing r) v
+  still_so = refused_answer calls (Write volume at value) v well r (unwritten_cause v.host v.state volume at 1 calls ⊥ r cause) (unwritten_plain v.host v.state volume at 1 calls r cause) (inr tt)
+
+  by : HasBlocksCause calls v.host v.state volume at 1 r → HasAnswered calls (Write volume at value) v (refusing r) (after_write v (Err r))
+  by (inl is) = subst (λ (e : Engine). HasAnswered calls (Write volume at value) v (refusing r) e) (sym (judged_same v r (blocks_judged v.state.opened volume (at + 1) r is.1))) still_so
+  by (inr (of, free, fault)) = subst (λ (e : Engine). HasAnswered calls (Write volume at value) v (refusing r) e) (ap (λ (x : Refusal). after_write v (Err x)) (sym fault)) (record {
+    plain = still_so.plain;
+    cause = still_so.cause;
+    lost = still_so.lost;
+    free = still_so.free;
+    few = still_so.few;
+    host = refl;
+    well = λ on. record { database = well.database; entries = well.entries };
+    begun = still_so.begun;
+  })
+
 -- of one block that was written some
 pub torn_of : {S : Type 0} (shelf : Ghosts S) (old new : S) (engine : Engine) (volume : VolId) (at : ℕ) (value : List ℕ) (r : Refusal) → AreWritten shelf old new engine volume at (value ∷ []) (Err r) → r ≡ IoFault
     → (place : DriveBlock) × AreBlocksAt engine.host engine.state volume at 1 place × FailedOn place.drive (DriveFailures shelf old new) × Moments (Settling place.drive place.block (value ∷ [])) (shelf.tale old) (shelf.tale new)
@@ -75,6 +100,13 @@ torn_of shelf old new engine volume at value r written is =
 module _ (host : Host) (sizes : List ℕ) (ready : IsReady host sizes) (memory : Memory) (well : IsWell host memory) (volume : VolId) (at : ℕ) (value : List ℕ) (a b : Option Tale) where
   abbrev wrote : Ask
   wrote = ToDo (Wrote (key_of host) volume at (value ∷ []))
+
+  abbrev torn : Memory
+  torn = record memory { clean = false }
+
+  -- what is in memory behind it, where it was refused so
+  abbrev pub behind : Refusal → Memory
+  behind r = (after_write (record { host = host; state = memory }) (Err r)).state
 
   listed : IfSome memory.opened (λ o. IsOfGeometry host.drives o.table)
   listed = some_more memory.opened (IsHeldBy host) (λ (o : Opened). IsOfGeometry host.drives o.table) (λ o held. held.of_geometry) well.database
@@ -96,28 +128,28 @@ module _ (host : Host) (sizes : List ℕ) (ready : IsReady host sizes) (memory :
       written_carried t start = (let end = both t start in (end.0, end.1, wrote_blocks host sizes ready memory volume at place (value ∷ []) (omega arith) there t end.0 end.2.0 end.2.1))
 
     -- a call on the drive failed
-    pub torn_line : (calls : Outcomes) → FailedOn place.drive calls → Ends (λ t u. Knows host memory t → CameTo calls host (kept_at memory t) (Write volume at value) (refusing IoFault) (kept_at memory u)) a b
+    torn_line : (calls : Outcomes) → FailedOn place.drive calls → Ends (λ t u. Knows host memory t → CameTo calls host (kept_at memory t) (Write volume at value) (refusing IoFault) (kept_at torn u)) a b
     torn_line calls so t start =
         (let end = moments_end (Settling place.drive place.block (value ∷ [])) a b settling t start in (end.0, end.1, λ known. came.faulted free refl (place, so, there, refl, may_be_put t end.0 place (value ∷ []) end.2)))
 
-    pub torn_carried : Ends (CarriedTo host wrote memory (refusing IoFault) memory) a b
+    torn_carried : Ends (CarriedTo host wrote memory (refusing IoFault) torn) a b
     torn_carried t start =
         (let end = moments_end (Settling place.drive place.block (value ∷ [])) a b settling t start in (end.0, end.1, wrote_some host sizes ready memory volume at place (value ∷ []) (omega arith) there t end.0 end.2))
 
   -- a write that was refused: the volume has no such block, or a call on the drive failed
-  pub record IsUnwritten (calls : Outcomes) (r : Refusal) : Type 0 where
+  pub record IsUnwritten (calls : Outcomes) (r : Refusal) (next : Memory) : Type 0 where
     pub moments : Moments (CarryMoment host wrote memory) a b
-    pub line : Ends (λ t u. Knows host memory t → CameTo calls host (kept_at memory t) (Write volume at value) (refusing r) (kept_at memory u)) a b
-    pub carried : Ends (CarriedTo host wrote memory (refusing r) memory) a b
+    pub line : Ends (λ t u. Knows host memory t → CameTo calls host (kept_at memory t) (Write volume at value) (refusing r) (kept_at next u)) a b
+    pub carried : Ends (CarriedTo host wrote memory (refusing r) next) a b
 
   pub unwritten : (calls : Outcomes) (r : Refusal) → HasBlocksCause calls host memory volume at 1 r → (r ≡ IoFault → (place : DriveBlock) × AreBlocksAt host memory volume at 1 place × FailedOn place.drive calls × Moments (Settling place.drive place.block (value ∷ [])) a b)
-      → (blocks_refusal memory.opened volume (at + 1) ≡ Some r → b ≡ a) → IsUnwritten calls r
-  unwritten calls r (inl is) torn same = record {
+      → (blocks_refusal memory.opened volume (at + 1) ≡ Some r → b ≡ a) → IsUnwritten calls r (behind r)
+  unwritten calls r (inl is) failed same = subst (λ (e : Engine). IsUnwritten calls r e.state) (sym (judged_same (record { host = host; state = memory }) r (blocks_judged memory.opened volume (at + 1) r is.1))) (record {
     moments = moments_still host wrote memory a b (same is.1);
     line = λ t start. (t, same is.1 ∙ start, λ known. came.refused is.0 r is.1 (refl, still memory t));
     carried = refused_carried host wrote memory a b (same is.1) r;
-  }
-  unwritten calls r (inr (of, free, fault)) torn same =
-      let is = torn fault in
-      subst (λ (x : Refusal). IsUnwritten calls x) (sym fault)
+  })
+  unwritten calls r (inr (of, free, fault)) failed same =
+      let is = failed fault in
+      subst (λ (x : Refusal). IsUnwritten calls x (behind x)) (sym fault)
       (record { moments = write_moments is.0 is.1 free is.3; line = torn_line is.0 is.1 free is.3 calls is.2; carried = torn_carried is.0 is.1 free is.3 })

@@ -70,11 +70,11 @@ module _ (host : Host) (sizes : List ℕ) (ready : IsReady host sizes) where
   its_moment : (up : Drives) (answer : BootEnd) (t m : Tale) → BootMomentOn up host.drives host.site answer t m → BootMomentOn up host.drives (site_of host.drives (key_of host)) answer t m
   its_moment up answer t m is = subst (λ (s : Site). BootMomentOn up host.drives s answer t m) ready.site is
 
-  -- no stale vote is met yet
+  -- or a stale vote is met
   boots_on : (failed : ℕ → Type 0) (answer : BootEnd) (t m : Tale) → store.BootMoment failed host.drives host.site answer t m → BootsOn host t m
-  boots_on failed answer t m is all stand anew = elim (databases.boot_moment is.0 host.drives all (key_of host) answer t m stand (its_moment is.0 answer t m is.2)) [
+  boots_on failed answer t m is all stand = elim (databases.boot_moment is.0 host.drives all (key_of host) answer t m stand (its_moment is.0 answer t m is.2)) [
     | inl still ↦ inl still
-    | inr on ↦ elim on [ inl goes ↦ inr goes | inr stale ↦ absurd (databases.never_meets is.0 host.drives all (key_of host) _ anew stale) ]
+    | inr on ↦ elim on [ inl goes ↦ inr (inl goes) | inr stale ↦ inr (inr (is.0, stale)) ]
   ]
 
   on_site : (wrote : Bool) (t m : Tale) → KeptOutside (boot_area host.site wrote) t m → KeptOutside (site_area host.site) t m
@@ -106,9 +106,9 @@ module _ (host : Host) (sizes : List ℕ) (ready : IsReady host sizes) where
     adopted_to o so its =
         let is = its_booted o so in
         booted_adopted host sizes ready t answer.up u kept moment.2.quiet.quiet answer.clean begun rests o its is.2.opened
-        (λ all stand anew. elim (databases.boot_end moment.0 is.0 host.drives all (key_of host) o t u stand (its_moment moment.0 (end.Adopted o) t u (subst (λ (e : BootEnd). BootMomentOn moment.0 host.drives host.site e t u) so moment.2)) (subst (λ (s : Site). IsBootedOn is.0 host.drives s o t u) ready.site is.2) its) [
-          | inl booted ↦ booted
-          | inr stale ↦ absurd (databases.never_meets is.0 host.drives all (key_of host) _ anew stale)
+        (λ all stand. elim (databases.boot_end moment.0 is.0 host.drives all (key_of host) o t u stand (its_moment moment.0 (end.Adopted o) t u (subst (λ (e : BootEnd). BootMomentOn moment.0 host.drives host.site e t u) so moment.2)) (subst (λ (s : Site). IsBootedOn is.0 host.drives s o t u) ready.site is.2) its) [
+          | inl booted ↦ inl booted
+          | inr stale ↦ inr (is.0, stale)
         ])
 
     empty_to : answer.end ≡ end.Empty → To None

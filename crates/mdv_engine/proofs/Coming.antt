@@ -1,40 +1,15 @@
 -- Lists of places that come, and how many places they have.
-use Rattle.std.proofs.Common.{◌≡◌, ◌<◌, ◌+◌, ◌*◌, ℕ, zero, suc, List, [], ◌∷◌, ◌++◌, ◌≤◌, length, take, refl, sym, ◌∙◌, ap, arith}
+use Rattle.std.proofs.Common.{◌≡◌, ◌<◌, ◌+◌, ◌*◌, ℕ, suc, List, [], ◌∷◌, ◌≤◌, length, take, sym, ap, arith}
 use Rattle.std.specs.Prelude.{flat_map}
 use Rattle.std.proofs.lemmas.List.{length-append, length-take-le}
 use Rattle.std.proofs.Math.Nat.{mul-le-mul_right, suc-mul, zero-mul}
 use Rattle.mdv_engine.specs.Below.{SliceName}
-use Rattle.mdv_engine_law.specs.Below.{Place}
-use Rattle.mdv_engine_law.specs.Places.{places_from, places_on}
+use Rattle.mdv_engine_law.specs.Places.{places_on}
+use Rattle.mdv_places.proofs.Lists.{places_count}
 
 -- what a loop over slices reads past their end
 abbrev pub no_slice : SliceName
 no_slice = record { drive = record { controller = 0; target = 0; disk = 0 }; slice = 0 }
-
-module _ (slice : SliceName) (blocks : ℕ) where
-  abbrev place_at : ℕ → Place
-  place_at k = record { slice = slice; start = 16 + k * blocks; blocks = blocks }
-
-  -- as many as these, and then those behind them
-  pub places_more : (k m n : ℕ) → places_from slice blocks k (m + n) ≡ places_from slice blocks k m ++ places_from slice blocks (k + m) n
-  places_more k zero n =
-      let none : zero + n ≡ n = omega arith in
-      let same : k ≡ k + zero = omega arith in
-      λ i. places_from slice blocks (same i) (none i)
-  places_more k (suc m) n =
-      let shift : k + 1 + m ≡ k + suc m = omega arith in
-      let next : suc m + n ≡ suc (m + n) = omega arith in
-      ap (λ (s : ℕ). places_from slice blocks k s) next
-      ∙ ap (λ (l : List Place). place_at k ∷ l) (places_more (k + 1) m n ∙ ap (λ (s : ℕ). places_from slice blocks (k + 1) m ++ places_from slice blocks s n) shift)
-
-  pub places_next : (n : ℕ) → places_from slice blocks 0 (n + 1) ≡ places_from slice blocks 0 n ++ place_at n ∷ []
-  places_next n =
-      let from : 0 + n ≡ n = omega arith in
-      places_more 0 n 1 ∙ ap (λ (s : ℕ). places_from slice blocks 0 n ++ place_at s ∷ []) from
-
-  pub places_count : (k n : ℕ) → length (places_from slice blocks k n) ≡ n
-  places_count k zero = refl
-  places_count k (suc n) = ap suc (places_count (k + 1) n)
 
 -- so many on each slice
 pub all_count : (count blocks : ℕ) (slices : List SliceName) → length (flat_map (places_on count blocks) slices) ≡ length slices * count

@@ -117,17 +117,17 @@ module _ {S : Type 0} (shelf : Ghosts S) (a b : S) (v : Engine) (ready : IsReady
         Carries answer memory = CarriedTo v.host (ToDo (Changed (key_of v.host) (OfPlan (MakeStripe volume slice)))) v.state answer memory
 
         pub done_ends : commit.IsCommitted (DriveFailures shelf a b) o new next → AtEnd shelf (CommitDone o new next) a b → StripeEnds shelf a b v volume slice accepted after
-        done_ends done ends = command_ends (DriveFailures shelf a b) v (command.MakeStripe volume slice) outcome.Ok after (shelf.tale a) (shelf.tale b)
+        done_ends done ends = command_ends (DriveFailures shelf a b) v (ToDo (Changed (key_of v.host) (OfPlan (MakeStripe volume slice)))) (command.MakeStripe volume slice) outcome.Ok after (shelf.tale a) (shelf.tale b)
             (ends_both (CommitMoment o next) (CommitDone o new next) (Comes accepted (with_open v.state new)) (shelf.tale a) (shelf.tale b)
             (λ t u moment end. committing.done_line v.host (shelf.sizes a) ready v.state o opened held next volume slice chosen t u moment (DriveFailures shelf a b) new done calm end)
             (moments_end (CommitMoment o next) (shelf.tale a) (shelf.tale b) moments) ends)
             (ends_both (CommitMoment o next) (CommitDone o new next) (Carries accepted (with_open v.state new)) (shelf.tale a) (shelf.tale b)
             (λ t u moment end. committing.done_carried v.host (shelf.sizes a) ready v.state o opened held next volume slice chosen t u moment (DriveFailures shelf a b) new done calm end)
             (moments_end (CommitMoment o next) (shelf.tale a) (shelf.tale b) moments) ends)
-            (λ on u. tt)
+            (λ on u. tt) (λ is u. tt)
 
         lost_ends : (active listed : ℕ) → CommitAnswer shelf a b o new next (Err (unwritten.Lost active listed)) → StripeEnds shelf a b v volume slice (Over (ended.Lost active listed)) after
-        lost_ends active listed said = other_ends (DriveFailures shelf a b) v (command.MakeStripe volume slice) (Over (ended.Lost active listed)) after (shelf.tale a) (shelf.tale b)
+        lost_ends active listed said = other_ends (DriveFailures shelf a b) v (ToDo (Changed (key_of v.host) (OfPlan (MakeStripe volume slice)))) (command.MakeStripe volume slice) (Over (ended.Lost active listed)) after (shelf.tale a) (shelf.tale b)
             (ends_both (CommitMoment o next) Shown (Comes (Over (ended.Lost active listed)) (with_open v.state new)) (shelf.tale a) (shelf.tale b)
             (λ t u moment shown known. committing.lost_line v.host (shelf.sizes a) ready v.state o opened held next volume slice chosen t u moment (DriveFailures shelf a b) active listed new (lost_now active listed said.came.0 said.came.1) said.came.0 calm
             (shown v.host.drives chosen.of_geometry) (with_open v.state new) known)
@@ -135,21 +135,21 @@ module _ {S : Type 0} (shelf : Ghosts S) (a b : S) (v : Engine) (ready : IsReady
             (moments_end (Carries (Over (ended.Lost active listed)) (with_open v.state new)) (shelf.tale a) (shelf.tale b)
             (moments_weaker (CommitMoment o next) (Carries (Over (ended.Lost active listed)) (with_open v.state new)) (shelf.tale a) (shelf.tale b)
             (λ t u moment. committing.lost_carried v.host (shelf.sizes a) ready v.state o opened held next volume slice chosen t u moment (DriveFailures shelf a b) active listed (with_open v.state new)) moments))
-            (λ on u. absurd on) (λ one two is u. tt)
+            (λ on u. absurd on) (λ one two is u. tt) (λ is u. tt)
 
         over_ends : (fault : TooLong) → commit.IsOver o new next fault → shelf.tale b ≡ shelf.tale a → ((drive : ℕ) → (DriveFailures shelf a b drive).none) → StripeEnds shelf a b v volume slice (refusing (ReplicaFull fault.bytes fault.room)) after
         over_ends fault long same none = subst (λ (e : Engine). StripeEnds shelf a b v volume slice (refusing (ReplicaFull fault.bytes fault.room)) e) (sym (as_before long.is))
-            (command_ends (DriveFailures shelf a b) v (command.MakeStripe volume slice) (outcome.Refused (ReplicaFull fault.bytes fault.room)) v (shelf.tale a) (shelf.tale b)
+            (command_ends (DriveFailures shelf a b) v (ToDo (Changed (key_of v.host) (OfPlan (MakeStripe volume slice)))) (command.MakeStripe volume slice) (outcome.Refused (ReplicaFull fault.bytes fault.room)) v (shelf.tale a) (shelf.tale b)
             (λ t start. (t, same ∙ start, λ known. came.refused none (ReplicaFull fault.bytes fault.room) (committing.long_refusal v.host v.state o opened volume slice next chosen new fault long) (refl, record { memory = refl; content = λ drive block. refl })))
             (refused_carried v.host (ToDo (Changed (key_of v.host) (OfPlan (MakeStripe volume slice)))) v.state (shelf.tale a) (shelf.tale b) same (ReplicaFull fault.bytes fault.room))
-            (λ on u. tt))
+            (λ on u. tt) (λ is u. tt))
 
         spent_ends : commit.IsSpent o new next → shelf.tale b ≡ shelf.tale a → ((drive : ℕ) → (DriveFailures shelf a b drive).none) → StripeEnds shelf a b v volume slice (Over ended.Spent) after
         spent_ends spent same none = subst (λ (e : Engine). StripeEnds shelf a b v volume slice (Over ended.Spent) e) (sym (as_before spent.is))
-            (other_ends (DriveFailures shelf a b) v (command.MakeStripe volume slice) (Over ended.Spent) v (shelf.tale a) (shelf.tale b)
+            (other_ends (DriveFailures shelf a b) v (ToDo (Changed (key_of v.host) (OfPlan (MakeStripe volume slice)))) (command.MakeStripe volume slice) (Over ended.Spent) v (shelf.tale a) (shelf.tale b)
             (λ t start. (t, same ∙ start, λ known. came.over ended.Spent (committing.free_of v.host v.state o opened volume slice next chosen spent.fits) refl (none, o, opened, spent.spent, record { memory = refl; content = λ drive block. refl })))
             (λ t start. (t, same ∙ start, spent_still v.host (ToDo (Changed (key_of v.host) (OfPlan (MakeStripe volume slice)))) v.state v.state t))
-            (λ on u. absurd on) (λ one two is u. tt))
+            (λ on u. absurd on) (λ one two is u. tt) (λ is u. tt))
 
         -- by the fault
         unwritten_by : (fault : CommitFault) → CommitAnswer shelf a b o new next (Err fault) → IsCommitCounted shelf a b (length (record_text next)) o new.seats (Err fault) → StripeEnds shelf a b v volume slice (commit_answer fault) after
@@ -180,7 +180,7 @@ module _ {S : Type 0} (shelf : Ghosts S) (a b : S) (v : Engine) (ready : IsReady
           plain = tt;
           cause = (o, opened, calm);
           lost = λ one two is. absurd (cc (is));
-          free = λ on has. absurd (never_made has);
+          free = λ on has closed. absurd (never_made has);
           few = inr tt;
           host = refl;
           well = λ on. well_left (DriveFailures shelf a b) said.came.enough said.laid (ap (λ (x : Opened). x.key) said.came.is) (ap (λ (x : Opened). x.table) said.came.is) (subst (λ (t : Table). IsOfGeometry v.host.drives t) (sym (ap (λ (x : Opened). x.table) said.came.is)) chosen.of_geometry) said.came.tried.left;
@@ -194,7 +194,7 @@ module _ {S : Type 0} (shelf : Ghosts S) (a b : S) (v : Engine) (ready : IsReady
           lost = λ one two same. moved (λ (x y : ℕ). IsLostOnSite (DriveFailures shelf a b) v.host x y) active listed one two same
               (let now = lost_now active listed said.came.0 said.came.1 in
               lost_on_site (DriveFailures shelf a b) v.host (TakesSlot (commit.next_mark o.mark) (length (record_text next))) o.seats new.seats o.table.plan.lists now.tried.left held.half (λ r has. (held.seated r has).one_of) active listed (of_old active listed now said.came.0));
-          free = λ on has. absurd on;
+          free = λ on has closed. absurd on;
           few = inr tt;
           host = refl;
           well = λ on. absurd on;
@@ -203,7 +203,7 @@ module _ {S : Type 0} (shelf : Ghosts S) (a b : S) (v : Engine) (ready : IsReady
 
         still_answer : (answer : Answer) → IsPlainAnswer answer → HasAnswerCause (blame_of (DriveFailures shelf a b) v.host v.state (command.MakeStripe volume slice)) (Unit {0}) answer → (IsAccepted answer → ⊥) → ((active listed : ℕ) → answer ≡ Over (ended.Lost active listed) → ⊥) → new ≡ o → Answered answer after
         still_answer answer plain cause never unlost same = subst (λ (e : Engine). Answered answer e) (sym (as_before same))
-            (record { plain = plain; cause = cause; lost = λ one two is. absurd (unlost one two is); free = λ on has. absurd (never on); few = inr tt; host = refl; well = λ on. well; begun = same_most v.state.begun })
+            (record { plain = plain; cause = cause; lost = λ one two is. absurd (unlost one two is); free = λ on has closed. absurd (never on); few = inr tt; host = refl; well = λ on. well; begun = same_most v.state.begun })
 
         unwritten_said : (fault : CommitFault) → CommitAnswer shelf a b o new next (Err fault) → IsCommitCounted shelf a b (length (record_text next)) o new.seats (Err fault) → Answered (commit_answer fault) after
         unwritten_said (unwritten.Lost active listed) said counted = lost_answer active listed said

@@ -220,7 +220,7 @@ module _ (host : Host) (sizes : List ℕ) (ready : IsReady host sizes) (memory :
 
       pub done_carried : Carries accepted (with_open memory new)
       done_carried =
-          changing.changed host sizes ready memory o opened volume slice next (is_made host o stripe next is) is.of_geometry (seats_on host o held_is) t u moment.quiet.outside new (with_open memory new) refl (omega arith) refl
+          changing.changed host sizes ready memory o opened volume slice next (is_made host o stripe next is) is.of_geometry (seats_on host o held_is) t u moment.quiet.outside new (with_open memory new) refl refl (omega arith) refl
           (ap (λ (x : Opened). x.key) done.is) (ap (λ (x : Opened). x.table) done.is) opens
           (λ all which. databases.commit_end host.drives all o new (Some (OfPlan stripe)) next t u which moment ends (ap (λ (x : Opened). x.key) done.is) (ap (λ (x : Opened). x.identity) done.is))
 

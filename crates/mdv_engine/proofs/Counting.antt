@@ -1,8 +1,8 @@
 -- How the calls of a command add up, and what a refusal says of them.
-use Rattle.std.proofs.Common.{◌≡◌, ◌≢◌, ◌⊎◌, ◌≤◌, inl, inr, ◌+◌, ◌*◌, ℕ, List, Option, Some, None, refl, sym, subst, ap, arith}
+use Rattle.std.proofs.Common.{◌≡◌, ◌≢◌, ◌⊎◌, ◌≤◌, inl, inr, ◌+◌, ◌*◌, ℕ, Bool, true, false, if◌then◌else◌, List, Option, Some, None, refl, sym, subst, ap, arith}
 use Rattle.mdv_shelf.specs.Calls.{OnReplies, Part}
 use Rattle.mdv_shelf.specs.Made.{and_more, made_of}
-use Rattle.mdv_shelf.specs.Shelves.{MadeCalls}
+use Rattle.mdv_shelf.specs.Shelves.{DriveFailures, MadeCalls}
 use Rattle.mdv_shelf.specs.declared.shelf.Shelf.{Ghosts}
 use Rattle.mdv_shelf.proofs.Between.{between_none, between_of, between_then, between_wider}
 use Rattle.mdv_shelf.proofs.Made.{with_more}
@@ -19,8 +19,18 @@ use Rattle.mdv_engine_law.specs.declared.answer.Outcome.{Outcome}
 use Rattle.mdv_engine_law.specs.declared.answer.Outcome.TheVariants as outcome
 use Rattle.mdv_engine_law.specs.declared.answer.Reply.{Reply}
 use Rattle.mdv_engine_law.specs.declared.answer.Reply.TheVariants as reply
-use Rattle.mdv_engine_law.proofs.Efforts.{command_too, done_too, fault_too}
-use Rattle.mdv_engine.specs.Counts.{DoneCalls, HasTriedAll, IsCommandCounted, IsQuietRefusal, IsUnlooked, blocks_of, calls_of}
+use Rattle.mdv_acts.specs.Acts as acts
+use Rattle.mdv_places.specs.Asked.{Adds, Asks, Drops, KeepsFirst, acts_moved}
+use Rattle.mdv_places.specs.Changing.{both_of}
+use Rattle.mdv_places.specs.Counts.{dropped_count, first_count, last_count, move_blocks, move_calls}
+use Rattle.mdv_store.specs.Text.{blocks_for}
+use Rattle.mdv_store.specs.Writing.{text_size}
+use Rattle.mdv_table.specs.Plan.{settled}
+use Rattle.mdv_engine_law.specs.Efforts.{deletion_blocks, deletion_calls}
+use Rattle.mdv_engine_law.specs.Places.{are_all}
+use Rattle.mdv_engine_law.proofs.Efforts.{command_too, done_too, fault_too, too_itself}
+use Rattle.mdv_engine_law.proofs.Widening.{AreWithin}
+use Rattle.mdv_engine.specs.Counts.{DoneCalls, HasHalted, HasTriedAll, IsCommandCounted, IsQuietRefusal, IsUnlooked, blocks_of, calls_of}
 use Rattle.mdv_engine.specs.Engine.{HasBlocksCause}
 
 -- what is only said has a reply
@@ -47,12 +57,12 @@ said_of failed (Said this) given piece told on = tt
 said_of failed (Over end) given piece told on = absurd (on (subst IsLost (sym told.0) (at_end end)))
 
 -- a command's calls and its reply's: one where it has a reply, and none where the run is over
-pub replied_calls : {S : Type 0} (shelf : Ghosts S) (a b c : S) (failed : Type 0) (host : Host) (command : Command) (before now : Option Opened) (answer : Answer) (given : Reply) (piece : List ℕ)
-    → IsTold failed answer given piece → ((IsLost given → ⊥) → MadeCalls shelf b c 1 0) → (IsLost given → c ≡ b) → CommandCalls (made_of shelf a b) host command answer before now → CommandCalls (replied_to answer (made_of shelf a c)) host command answer before now
-replied_calls shelf a b c failed host command before now (Said this) given piece told once silent by =
-    command_too (made_of shelf a b) (and_more 1 (made_of shelf a c)) (with_more shelf.calls shelf.written a b c 1 (once (only_told failed this given piece told))) host command (Said this) before now by
-replied_calls {S} shelf a b c failed host command before now (Over end) given piece told once silent by =
-    subst (λ (x : S). CommandCalls (made_of shelf a x) host command (Over end) before now) (sym (silent (subst IsLost (sym told.0) (at_end end)))) by
+pub replied_calls : {S : Type 0} (shelf : Ghosts S) (a b c : S) (failed : Type 0) (host : Host) (command : Command) (before now : Option Opened) (answer : Answer) (given : Reply) (piece : List ℕ) (calls more : Outcomes) → AreWithin calls more
+    → IsTold failed answer given piece → ((IsLost given → ⊥) → MadeCalls shelf b c 1 0) → (IsLost given → c ≡ b) → CommandCalls calls (made_of shelf a b) host command answer before now → CommandCalls more (replied_to answer (made_of shelf a c)) host command answer before now
+replied_calls shelf a b c failed host command before now (Said this) given piece calls more within told once silent by =
+    command_too calls more within (made_of shelf a b) (and_more 1 (made_of shelf a c)) (with_more shelf.calls shelf.written a b c 1 (once (only_told failed this given piece told))) host command (Said this) before now by
+replied_calls {S} shelf a b c failed host command before now (Over end) given piece calls more within told once silent by =
+    subst (λ (x : S). CommandCalls more (made_of shelf a x) host command (Over end) before now) (sym (silent (subst IsLost (sym told.0) (at_end end)))) (command_too calls more within (made_of shelf a b) (made_of shelf a b) (too_itself (made_of shelf a b)) host command (Over end) before now by)
 
 -- no giving of replies failed where none did in the calls before it, nor in its own
 pub calm_given : {S : Type 0} (faults : S → Part → ℕ) (a b c : S) → faults b OnReplies ≡ faults a OnReplies → faults b OnReplies ≤ faults c OnReplies → faults c OnReplies ≤ faults b OnReplies → faults c OnReplies ≡ faults a OnReplies
@@ -70,7 +80,7 @@ whole_or_lost (reply.NoQuorum readable needed) uncut = inr tt
 whole_or_lost (reply.TwoDatabases a b) uncut = inr tt
 
 -- the answer behind a refusal that was told
-told_refusal : (failed : Type 0) (answer : Answer) (refusal : Refusal) (piece : List ℕ) → IsTold failed answer (reply.Refused refusal) piece → answer ≡ refusing refusal
+pub told_refusal : (failed : Type 0) (answer : Answer) (refusal : Refusal) (piece : List ℕ) → IsTold failed answer (reply.Refused refusal) piece → answer ≡ refusing refusal
 told_refusal failed (Said this) refusal piece (inl whole) = by this whole.0 where
   by : (this : Outcome) → reply.Refused refusal ≡ reply_to this → Said this ≡ refusing refusal
   by outcome.Ok is = absurd (cc (is))
@@ -157,27 +167,30 @@ module _ {S : Type 0} (shelf : Ghosts S) where
   then_told a b c given most blocks first told = between_then shelf.calls shelf.written a b c 0 most blocks 0 1 0 0 (1 + most) blocks (omega arith) (omega arith) (omega arith) first (telling_most shelf b c given told)
 
   -- the call of a telling behind a command in which a call failed
-  pub fault_then : (a b c : S) (host : Host) (command : Command) → FaultCalls (made_of shelf a b) command host → MadeCalls shelf b c 1 0 → FaultCalls (and_more 1 (made_of shelf a c)) command host
-  fault_then a b c host command took told = fault_too (made_of shelf a b) (and_more 1 (made_of shelf a c)) (with_more shelf.calls shelf.written a b c 1 told) command host took
+  pub fault_then : (a b c : S) (host : Host) (command : Command) (before : Option Opened) (calls : Outcomes) → AreWithin calls calls → FaultCalls (made_of shelf a b) command host before → MadeCalls shelf b c 1 0 → FaultCalls (and_more 1 (made_of shelf a c)) command host before
+  fault_then a b c host command before calls within took told = fault_too calls calls within (made_of shelf a b) (and_more 1 (made_of shelf a c)) (with_more shelf.calls shelf.written a b c 1 told) command host before took
 
   -- and behind one that was done
-  pub done_then : (a b c : S) (host : Host) (command : Command) (before now : Option Opened) → MadeCallsOf (made_of shelf a b) command host before now → MadeCalls shelf b c 1 0 → MadeCallsOf (and_more 1 (made_of shelf a c)) command host before now
-  done_then a b c host command before now done told = done_too (made_of shelf a b) (and_more 1 (made_of shelf a c)) (with_more shelf.calls shelf.written a b c 1 told) command host before now done
+  pub done_then : (a b c : S) (host : Host) (command : Command) (before now : Option Opened) (calls more : Outcomes) → AreWithin calls more → MadeCallsOf calls (made_of shelf a b) command host before now → MadeCalls shelf b c 1 0 → MadeCallsOf more (and_more 1 (made_of shelf a c)) command host before now
+  done_then a b c host command before now calls more within done told = done_too calls more within (made_of shelf a b) (and_more 1 (made_of shelf a c)) (with_more shelf.calls shelf.written a b c 1 told) command host before now done
 
   -- the calls by an answer that is this one
   pub counted_as : (old new : S) (host : Host) (command : Command) (this answer : Answer) → answer ≡ this → (before now : Option Opened) → IsCommandCounted shelf old new host command this before now → IsCommandCounted shelf old new host command answer before now
   counted_as old new host command this answer is before now counted = subst (λ (x : Answer). IsCommandCounted shelf old new host command x before now) (sym is) counted
 
   module _ (old new : S) (host : Host) where
+    abbrev Faulted : Command → Option Opened → Option Opened → Type 0
+    Faulted command before now = FaultCalls (made_of shelf old new) command host before × (made_of shelf old new).within 0 (calls_of host before command) (blocks_of host before command) × HasHalted shelf old new host command before now
+
     -- a refusal before any call
-    pub refused_counted : (command : Command) (refusal : Refusal) (before now : Option Opened) → (refusal ≡ IoFault → FaultCalls (made_of shelf old new) command host) → new ≡ old → IsCommandCounted shelf old new host command (refusing refusal) before now
+    pub refused_counted : (command : Command) (refusal : Refusal) (before now : Option Opened) → (refusal ≡ IoFault → Faulted command before now) → new ≡ old → IsCommandCounted shelf old new host command (refusing refusal) before now
     refused_counted command IoFault before now fault same = fault refl
     refused_counted command OutOfMemory before now fault same = (none_within old new (wanting_calls command) 0 same, ap shelf.tale same)
     refused_counted command other before now fault same = same
 
     -- blocks that aren't read or written
     pub blocks_counted : (command : Command) (outcomes : Outcomes) (memory : Memory) (volume : VolId) (at n : ℕ) (refusal : Refusal) (before now : Option Opened) → HasBlocksCause outcomes host memory volume at n refusal
-        → (blocks_refusal memory.opened volume (at + n) ≡ Some refusal → new ≡ old) → (refusal ≡ IoFault → FaultCalls (made_of shelf old new) command host) → IsCommandCounted shelf old new host command (refusing refusal) before now
+        → (blocks_refusal memory.opened volume (at + n) ≡ Some refusal → new ≡ old) → (refusal ≡ IoFault → Faulted command before now) → IsCommandCounted shelf old new host command (refusing refusal) before now
     blocks_counted command outcomes memory volume at n refusal before now (inl is) none took = refused_counted command refusal before now took (none is.1)
     blocks_counted command outcomes memory volume at n refusal before now (inr (of, free, fault)) none took = subst (λ (x : Refusal). IsCommandCounted shelf old new host command (refusing x) before now) (sym fault) (took fault)
 
@@ -199,19 +212,40 @@ module _ {S : Type 0} (shelf : Ghosts S) where
         → (made_of shelf old new).within 0 (2 * blanked_asked (lines_asked host slices) count + 12 * places_on (lines_asked host slices) count) (blanked_asked (lines_asked host slices) count + 4103 * places_on (lines_asked host slices) count)
     creation_most slices count least took = places_most (blanked_asked (lines_asked host slices) count) (places_on (lines_asked host slices) count) least took
 
-    fault_most : (command : Command) (before : Option Opened) → FaultCalls (made_of shelf old new) command host → (made_of shelf old new).within 0 (calls_of host before command) (blocks_of host before command)
-    fault_most (AddPlaces slices force count blocks) before took = formats_most (blanked_asked (lines_asked host slices) count) (places_on (lines_asked host slices) count) took
-    fault_most (AddListed number force) before took = absurd took
-    fault_most (DropPlaces slices force) before took = absurd took
-    fault_most (MakeStripe volume slice) before took = absurd took
-    fault_most (Read volume at count) before took = wider 1 1 0 1 0 (omega arith) (omega arith) took
-    fault_most (Write volume at block) before took = wider 1 2 1 2 1 (omega arith) (omega arith) took
-    fault_most (Print names) before took = absurd took
+    -- the formats of a change of places are no more than all of it
+    moved_most : (o : Opened) (asked : Asks) → (made_of shelf old new).within 1 (acts.calls_of (acts_moved o asked)) (acts.blocks_of (acts_moved o asked)) → (made_of shelf old new).within 0 (move_calls o asked) (move_blocks o asked)
+    moved_most o asked took =
+        part (acts.calls_of (acts_moved o asked)) (acts.blocks_of (acts_moved o asked)) (6 * first_count o asked) (6 * last_count o asked) (2 * dropped_count o asked) ((2 + blocks_for (text_size (both_of o asked).table)) * first_count o asked)
+        ((2 + blocks_for (text_size (settled (both_of o asked).table))) * last_count o asked) (dropped_count o asked) took
+      where
+        part : (k l a b c d e f : ℕ) → (made_of shelf old new).within 1 k l → (made_of shelf old new).within 0 (k + a + b + c) (l + d + e + f)
+        part k l a b c d e f took = wider 1 k l (k + a + b + c) (l + d + e + f) (omega arith) (omega arith) took
+
+    -- where a call failed in the formats of a creation, or of places that are added
+    pub formats_fault : (slices : List _) (force : Bool) (count blocks : ℕ) (before now : Option Opened) → FaultCalls (made_of shelf old new) (AddPlaces slices force count blocks) host before → Faulted (AddPlaces slices force count blocks) before now
+    formats_fault slices force count blocks None now took = (took, formats_most (blanked_asked (lines_asked host slices) count) (places_on (lines_asked host slices) count) took, tt)
+    formats_fault slices force count blocks (Some o) now took = (took, moved_most o (Adds (lines_asked host slices) count blocks) took, tt)
+
+    -- in a transfer
+    pub read_fault : (volume : VolId) (at count : ℕ) (before now : Option Opened) → FaultCalls (made_of shelf old new) (Read volume at count) host before → Faulted (Read volume at count) before now
+    read_fault volume at count before now took = (took, wider 1 1 0 1 0 (omega arith) (omega arith) took, tt)
+
+    pub write_fault : (volume : VolId) (at : ℕ) (block : List ℕ) (before now : Option Opened) → FaultCalls (made_of shelf old new) (Write volume at block) host before → Faulted (Write volume at block) before now
+    write_fault volume at block before now took = (took, wider 1 2 1 2 1 (omega arith) (omega arith) took, tt)
+
+    drop_most : (o : Opened) (slices : List _) (all : Bool) → (made_of shelf old new).within 0 (move_calls o (if all then KeepsFirst else Drops slices)) (move_blocks o (if all then KeepsFirst else Drops slices))
+        → (made_of shelf old new).within 0 (if all then deletion_calls o else move_calls o (Drops slices)) (if all then deletion_blocks o else move_blocks o (Drops slices))
+    drop_most o slices true took = with_last (move_calls o KeepsFirst) (move_blocks o KeepsFirst) took where
+      with_last : (k l : ℕ) → (made_of shelf old new).within 0 k l → (made_of shelf old new).within 0 (k + 2) (l + 1)
+      with_last k l took = wider 0 k l (k + 2) (l + 1) (omega arith) (omega arith) took
+    drop_most o slices false took = took
 
     loss_most : (command : Command) (before : Option Opened) → LossCalls (made_of shelf old new) command host before → (made_of shelf old new).within 0 (calls_of host before command) (blocks_of host before command)
-    loss_most (AddPlaces slices force count blocks) before took = creation_most slices count _ took
+    loss_most (AddPlaces slices force count blocks) None took = creation_most slices count _ took
+    loss_most (AddPlaces slices force count blocks) (Some o) took = took
     loss_most (AddListed number force) before took = absurd took
-    loss_most (DropPlaces slices force) before took = absurd took
+    loss_most (DropPlaces slices force) None took = absurd took
+    loss_most (DropPlaces slices force) (Some o) took = drop_most o slices (are_all o slices) took
     loss_most (MakeStripe volume slice) (Some o) took = wider 1 (calls_of host (Some o) (MakeStripe volume slice)) (blocks_of host (Some o) (MakeStripe volume slice)) _ _ (omega arith) (omega arith) took
     loss_most (MakeStripe volume slice) None took = absurd took
     loss_most (Read volume at count) before took = absurd took
@@ -221,7 +255,7 @@ module _ {S : Type 0} (shelf : Ghosts S) where
     wanting_most : (command : Command) (before : Option Opened) (blocks : ℕ) → (made_of shelf old new).within 0 (wanting_calls command) 0 → (made_of shelf old new).within 0 (calls_of host before command) blocks
     wanting_most (AddPlaces slices force count blocks) before written took = wider 0 0 0 _ written (omega arith) (omega arith) took
     wanting_most (AddListed number force) before written took = wider 0 0 0 0 written (omega arith) (omega arith) took
-    wanting_most (DropPlaces slices force) before written took = wider 0 0 0 0 written (omega arith) (omega arith) took
+    wanting_most (DropPlaces slices force) before written took = wider 0 0 0 _ written (omega arith) (omega arith) took
     wanting_most (MakeStripe volume slice) before written took = wider 0 0 0 _ written (omega arith) (omega arith) took
     wanting_most (Read volume at count) before written took = wider 0 1 0 1 written (omega arith) (omega arith) took
     wanting_most (Write volume at block) before written took = wider 0 0 0 2 written (omega arith) (omega arith) took
@@ -247,7 +281,7 @@ module _ {S : Type 0} (shelf : Ghosts S) where
     pub command_most : (answer : Answer) → Counted answer → Most
     command_most (Said outcome.Ok) took = took.most
     command_most (Said (outcome.Values text)) took = took.most
-    command_most (Said (outcome.Refused IoFault)) took = fault_most old new host command before took
+    command_most (Said (outcome.Refused IoFault)) took = took.1
     command_most (Said (outcome.Refused OutOfMemory)) took = wanting_most old new host command before _ took.0
     command_most (Said (outcome.Refused other)) same = none_within old new _ _ same
     command_most (Over (ended.Lost active listed)) took = loss_most old new host command before took.0
@@ -265,13 +299,13 @@ module _ {S : Type 0} (shelf : Ghosts S) where
     mere_most (Said (outcome.Refused other)) is same = none_within old new _ _ same
     mere_most (Over end) is took = absurd is
 
-    refused_calls : (refusal : Refusal) → Counted (refusing refusal) → CommandCalls (made_of shelf old new) host command (refusing refusal) before now
-    refused_calls IoFault counted = counted
+    refused_calls : (refusal : Refusal) → Counted (refusing refusal) → CommandCalls (DriveFailures shelf old new) (made_of shelf old new) host command (refusing refusal) before now
+    refused_calls IoFault counted = counted.0
     refused_calls OutOfMemory counted = counted.0
     refused_calls other same = none_within old new 0 0 same
 
     -- by the two counts alone
-    pub command_calls : (answer : Answer) → Counted answer → CommandCalls (made_of shelf old new) host command answer before now
+    pub command_calls : (answer : Answer) → Counted answer → CommandCalls (DriveFailures shelf old new) (made_of shelf old new) host command answer before now
     command_calls (Said outcome.Ok) counted = counted.exactly
     command_calls (Said (outcome.Values text)) counted = counted.exactly
     command_calls (Said (outcome.Refused refusal)) counted = refused_calls refusal counted
@@ -282,8 +316,11 @@ module _ {S : Type 0} (shelf : Ghosts S) where
     command_calls (Over (ended.TwoDatabases a b)) same = none_within old new 0 0 same
 
     -- by what was told: a call failed, or memory was wanting
-    pub fault_told : (failed : Type 0) (answer : Answer) (piece : List ℕ) → IsTold failed answer (reply.Refused IoFault) piece → Counted answer → FaultCalls (made_of shelf old new) command host
-    fault_told failed answer piece told counted = subst Counted (told_refusal failed answer IoFault piece told) counted
+    pub fault_told : (failed : Type 0) (answer : Answer) (piece : List ℕ) → IsTold failed answer (reply.Refused IoFault) piece → Counted answer → FaultCalls (made_of shelf old new) command host before
+    fault_told failed answer piece told counted = (subst Counted (told_refusal failed answer IoFault piece told) counted).0
+
+    pub halted_told : (failed : Type 0) (answer : Answer) (piece : List ℕ) → IsTold failed answer (reply.Refused IoFault) piece → Counted answer → HasHalted shelf old new host command before now
+    halted_told failed answer piece told counted = (subst Counted (told_refusal failed answer IoFault piece told) counted).2
 
     pub wanting_told : (failed : Type 0) (answer : Answer) (piece : List ℕ) → IsTold failed answer (reply.Refused OutOfMemory) piece → Counted answer → (made_of shelf old new).within 0 (wanting_calls command) 0
     wanting_told failed answer piece told counted = (subst Counted (told_refusal failed answer OutOfMemory piece told) counted).0

@@ -1,5 +1,5 @@
 -- What a `tab` block comes to, told of the engine that kept its entries or didn't.
-use Rattle.std.proofs.Common.{◌≡◌, ◌≤◌, ◌+◌, inl, inr, ℕ, List, [], length, Contains, refl, sym, ap, subst, ◌∙◌, arith}
+use Rattle.std.proofs.Common.{◌≡◌, ◌≤◌, ◌+◌, inl, inr, ℕ, List, length, refl, sym, ap, subst, ◌∙◌, arith}
 use Rattle.mdv_base.specs.declared.refusal.Refusal.TheVariants as refusal
 use Rattle.mdv_tab.specs.Text.{IsFaultOf}
 use Rattle.mdv_tab.specs.declared.read.TabFault.{TabFault}
@@ -21,7 +21,7 @@ use Rattle.mdv_words.proofs.Tabs.{entries_are_in_form}
 use Rattle.mdv_engine_law.proofs.Plain.{bad_line_plain, memory_plain, too_many_plain}
 use Rattle.mdv_engine_law.proofs.Turning.{carry_none, entered_none, refused_none, turn_tell, turned}
 use Rattle.mdv_engine_law.proofs.Knowing.{knows_kept}
-use Rattle.mdv_engine.specs.Below.{AreCalm, Outcomes, Key, Refusal, Tale, Created, key_of, CarriedTo, IsPlain, Knows, OnlyReplied, TellMoment, TurnMoment, kept_at}
+use Rattle.mdv_engine.specs.Below.{AreCalm, Outcomes, Refusal, Tale, CarriedTo, IsPlain, Knows, OnlyReplied, TellMoment, TurnMoment, kept_at}
 use Rattle.mdv_engine.specs.declared.engine.Engine.{Engine}
 use Rattle.mdv_engine.specs.Engine.{IsWell}
 use Rattle.mdv_engine.specs.Tab.{HasKept, IsRefusalOf, TabEnd, all, none, with_entries}
@@ -36,10 +36,6 @@ pub refused_kept : (lines : List ℕ) (old : Engine) (why : TabFault) (r : Refus
 refused_kept lines old (fault.BadLine number) r is so = none r (inl (subst (IsTabRefusal lines) (sym so) (number, is))) refl refl
 refused_kept lines old fault.TooMany r is so = none r (inl (subst (IsTabRefusal lines) (sym so) is)) refl refl
 refused_kept lines old fault.Memory r is so = none r (inr so) refl refl
-
--- no deed is among none
-none_created : (key : Key) → Contains [] (Created key) → ⊥
-none_created key (n, less, is) = absurd (omega (arith, less))
 
 module _ (lines : List ℕ) where
   -- what the answer says
@@ -78,14 +74,14 @@ module _ (lines : List ℕ) where
       (subst (λ (o : Outcome). CarriedTo old.host Nothing old.state (Said o) old.state t t) (sym is) (refused_none old.host Nothing old.state r t))
 
   pub kept_knows : (old new : Engine) (this : Outcome) → HasKept old lines this new → (t : Tale) → Knows old.host old.state t → Knows old.host new.state t
-  kept_knows old new this (all entries tab is now) t knows = subst (λ (e : Engine). Knows old.host e.state t) (sym now) (record { nothing = knows.nothing; opened = knows.opened; unused = λ drive block up free. knows.unused drive block up (record { plain = free.plain; free = free.free }) })
+  kept_knows old new this (all entries tab is now) t knows = subst (λ (e : Engine). Knows old.host e.state t) (sym now) (record { opened = knows.opened; steady = λ drive block up is. knows.steady drive block up (record { plain = is.plain; free = is.free }) })
   kept_knows old new this (none r why is now) t knows = subst (λ (e : Engine). Knows old.host e.state t) (sym now) knows
 
   module _ (old new : Engine) (this : Outcome) (kept : HasKept old lines this new) where
     -- while it is told
     pub kept_told : (t m : Tale) → TellMoment (text_of (Said this)) t m → TurnMoment old.host Nothing old.state t m
     kept_told t m tell =
-        turn_tell old.host Nothing old.state new.state (Said this) (λ on has. absurd (none_created (key_of old.host) has)) (kept_plain old new this kept) t t (carry_none old.host Nothing old.state t) (kept_carried old new this kept t) m tell
+        turn_tell old.host Nothing old.state new.state (Said this) (kept_plain old new this kept) t t (carry_none old.host Nothing old.state t) (kept_carried old new this kept t) m tell
 
     -- and once it was
     pub kept_end : (calls : Outcomes) (replies : Type 0) (made : Made) (given : Reply) (t u : Tale) → AreCalm calls → NoCalls (and_more 1 made) → OnlyReplied replies (Said this) given t u → TabEnd calls replies made old lines given new t u
@@ -96,7 +92,7 @@ module _ (lines : List ℕ) where
         effort = none_made;
         replied = told.replied;
       };
-      turned = λ on. turned old.host Nothing old.state new.state replies t t u refl (Said this) (kept_plain old new this kept) (λ on has. absurd (none_created (key_of old.host) has)) (kept_carried old new this kept t) given on told;
+      turned = λ on. turned old.host Nothing old.state new.state replies t t u refl (Said this) (kept_plain old new this kept) (kept_carried old new this kept t) given on told;
       knows = λ knows. knows_kept old.host t u told.kept new.state (kept_knows old new this kept t knows);
       kept = told.kept;
     }

@@ -1,10 +1,10 @@
 -- What a refusal says that comes before anything is done: nothing of a failed call, and nothing of want of memory.
-use Rattle.std.proofs.Common.{◌≡◌, inl, inr, ◌+◌, ◌*◌, ◌++◌, ◌&&◌, ◌||◌, not, ℕ, Bool, true, false, List, [], ◌∷◌, length, Option, Some, None, All, sym, subst, ◌∙◌}
+use Rattle.std.proofs.Common.{◌≡◌, inl, inr, ◌+◌, ◌*◌, ◌++◌, ◌&&◌, ◌||◌, not, ℕ, Bool, true, false, List, [], length, Option, Some, None, All, sym, subst, ◌∙◌}
 use Rattle.std.proofs.lemmas.List.Elements.{All-append, All-cons, All-nil}
 use Rattle.std.specs.List.{find, list_any}
 use Rattle.std.specs.Prelude.{nat_lt, is_some, is_none}
 use Rattle.mdv_base.specs.Order.{order, where_so}
-use Rattle.mdv_base.specs.declared.refusal.Refusal.TheVariants.{BadLine, NameTaken, NeedForce, NoDatabase, NoSuchSlice, NoSuchVolume, OutOfRange, ReplicaFull, SliceInUse, TooMany, TooSmall, WrongKind, WrongState}
+use Rattle.mdv_base.specs.declared.refusal.Refusal.TheVariants.{NameTaken, NeedForce, NoDatabase, NoSuchSlice, NoSuchVolume, OutOfRange, ReplicaFull, SliceInUse, TooMany, TooSmall, WrongKind, WrongState}
 use Rattle.mdv_base.proofs.Order.{first_holds}
 use Rattle.mdv_name.specs.SliceIndex.{slice_at}
 use Rattle.mdv_table.specs.Change.{is_db}
@@ -12,11 +12,12 @@ use Rattle.mdv_plan.specs.Slices.{meets_db}
 use Rattle.mdv_table.specs.Plan.{is_in_use, used_slices}
 use Rattle.mdv_table.specs.Volumes.{has_volume}
 use Rattle.mdv_engine_law.specs.Below.{Down, Place, StateWord}
-use Rattle.mdv_engine_law.specs.Places.{bytes_with, list_more, list_of, room_with}
+use Rattle.mdv_engine_law.specs.Places.{are_all, bytes_with, list_more, list_of, room_with}
 use Rattle.mdv_engine_law.specs.Answers.{IsMereRefusal, refusing}
-use Rattle.mdv_engine_law.specs.Refusals.{Case, are_all, held_of_drop, held_of_less, held_of_lists, held_of_others, in_state, rest_of, state_of_less, blocks_refusal, bytes_after, change_refusal, has_number, held_of_blocks, held_of_change, held_of_creation, held_of_more, held_of_read, held_of_replicas, held_past, is_doubled, is_missing, is_plain, is_short, is_taken, places_open, read_refusal, refusal_of, size_of}
+use Rattle.mdv_engine_law.specs.Refusals.{Case, held_of_drop, held_of_less, held_of_lists, held_of_others, in_state, rest_of, state_of_less, blocks_refusal, bytes_after, change_refusal, has_number, held_of_blocks, held_of_change, held_of_creation, held_of_read, held_of_replicas, held_past, is_doubled, is_missing, is_plain, is_short, is_taken, places_open, read_refusal, refusal_of, size_of}
+use Rattle.mdv_engine_law.specs.Commands.{blame_of, blame_of_places}
 use Rattle.mdv_engine_law.specs.Replies.{Blame, HasAnswerCause}
-use Rattle.mdv_engine.specs.Below.{SliceName, VolId, Refusal, IoFault, OutOfMemory, PlanChange, MakeStripe, Host, Memory, Opened, Volume, record_room, AddPlaces, DropPlaces}
+use Rattle.mdv_engine.specs.Below.{AreCalm, Outcomes, lines_asked, SliceName, VolId, Refusal, IoFault, OutOfMemory, PlanChange, MakeStripe, Host, Memory, Opened, Volume, record_room, AddPlaces, DropPlaces}
 use Rattle.mdv_engine.specs.Engine.{HasChangeCause}
 
 -- a refusal that tells of no failed call and of no want of memory
@@ -72,12 +73,7 @@ creation_held gone plain unread many unforced used small =
     (and_judged plain WrongKind third tt
     (and_judged unread (WrongState Down) fourth tt (and_judged many TooMany fifth tt (and_judged unforced NeedForce sixth tt (and_judged used SliceInUse last tt (where_judged small TooSmall tt))))))
 
--- so is that nothing can be added yet
-more_held : (opened : Option Opened) (held : List Refusal) → All IsJudged held → All IsJudged (held_of_more opened held)
-more_held (Some o) [] all = All-cons IsJudged BadLine [] tt (All-nil IsJudged)
-more_held (Some o) (r ∷ rs) all = all
-more_held None held all = all
-
+-- so is a record that is too long
 lists_held : (o : Opened) (list : List Place) → All IsJudged (held_of_lists o list)
 lists_held o list = where_judged (nat_lt (room_with o list) (bytes_with o list)) (ReplicaFull (bytes_with o list) (room_with o list)) tt
 
@@ -87,9 +83,9 @@ others_held (Some o) slices count blocks = lists_held o (list_more slices count 
 
 pub creation_judged : (case : Case) (slices : List SliceName) (force : Bool) (count blocks : ℕ) (r : Refusal) → refusal_of case (AddPlaces slices force count blocks) ≡ Some r → IsJudged r
 creation_judged case slices force count blocks r is =
-    first_holds IsJudged order (held_of_creation case slices force count blocks) r (more_held case.memory.opened (held_of_replicas case slices force count blocks ++ held_of_others case.memory.opened slices count blocks)
+    first_holds IsJudged order (held_of_creation case slices force count blocks) r
     (All-append IsJudged (held_of_replicas case slices force count blocks) (held_of_others case.memory.opened slices count blocks) (creation_held (list_any (is_missing case.host) slices) (list_any (λ slice. is_plain (slice_at case.host.drives.slices slice)) slices) (not (is_some case.memory.opened) && not case.memory.clean)
-    (nat_lt 50 (length (places_open case.memory.opened) + length slices * count)) (not (is_some case.memory.opened) && not force) (list_any (is_taken case) slices || is_doubled slices) (list_any (is_short case.host count blocks) slices)) (others_held case.memory.opened slices count blocks))) is
+    (nat_lt 50 (length (places_open case.memory.opened) + length slices * count)) (not (is_some case.memory.opened) && not force) (list_any (is_taken case) slices || is_doubled slices) (list_any (is_short case.host count blocks) slices)) (others_held case.memory.opened slices count blocks)) is
 
 -- nor is what places are refused for that are to go
 state_held : (state : Option StateWord) → All IsJudged (in_state state)
@@ -103,9 +99,9 @@ less_held gone plain unforced state =
 
 drop_held : (case : Case) (opened : Option Opened) (slices : List SliceName) (force : Bool) → All IsJudged (held_of_drop case opened slices force)
 drop_held case None slices force = All-cons IsJudged NoDatabase [] tt (All-nil IsJudged)
-drop_held case (Some o) slices force = more_held (Some o) (held_of_less case o slices force ++ held_of_lists o (rest_of o slices)) (All-append IsJudged (held_of_less case o slices force) (held_of_lists o (rest_of o slices))
+drop_held case (Some o) slices force = All-append IsJudged (held_of_less case o slices force) (held_of_lists o (rest_of o slices))
     (less_held (list_any (is_missing case.host) slices) (list_any (λ slice. is_plain (slice_at case.host.drives.slices slice)) slices) (are_all o slices && not force) (state_of_less case o slices))
-    (lists_held o (rest_of o slices)))
+    (lists_held o (rest_of o slices))
 
 pub drop_judged : (case : Case) (slices : List SliceName) (force : Bool) (r : Refusal) → refusal_of case (DropPlaces slices force) ≡ Some r → IsJudged r
 drop_judged case slices force r is = first_holds IsJudged order (held_of_drop case case.memory.opened slices force) r (drop_held case case.memory.opened slices force) is
@@ -148,3 +144,10 @@ change_cause host memory change blame spends calm r (inr (some, want)) = subst (
 pub change_no_fault : (host : Host) (memory : Memory) (change : PlanChange) (r : Refusal) → HasChangeCause host memory change r → r ≡ IoFault → ⊥
 change_no_fault host memory change r (inl is) fault = subst IsJudged fault (change_judged host memory.opened change r is)
 change_no_fault host memory change r (inr (some, want)) fault = absurd (cc (sym want ∙ fault))
+
+-- no call failed where places are asked that are refused, whatever is open
+pub places_calm : (calls : Outcomes) (host : Host) (memory : Memory) (slices : List SliceName) (force : Bool) (count blocks : ℕ) → AreCalm calls → (blame_of calls host memory (AddPlaces slices force count blocks)).none
+places_calm calls host memory slices force count blocks calm = by memory.opened where
+  by : (opened : Option Opened) → (blame_of_places calls host memory opened (lines_asked host slices) count blocks).none
+  by None = calm
+  by (Some o) = calm

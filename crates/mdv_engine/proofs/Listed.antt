@@ -5,12 +5,10 @@ use Rattle.mdv_tab.specs.declared.entry.Entry.{Entry}
 use Rattle.std.proofs.Math.Nat.{mul-le-mul_left, mul-one}
 use Rattle.mdv_engine_law.specs.Answers.{refusing}
 use Rattle.mdv_engine_law.specs.Commands.{MaySpend, blame_of}
-use Rattle.mdv_engine_law.specs.Line.{ToMake, ToMakeListed}
 use Rattle.mdv_engine_law.specs.Refusals.{refusal_of}
-use Rattle.mdv_engine_law.proofs.Listing.{listed_carried}
 use Rattle.mdv_engine_law.proofs.Plain.{refusal_plain}
-use Rattle.mdv_engine.specs.Below.{AddListed, AddPlaces, Answer, AreCalm, AreInForm, Command, Memory, Outcomes, Refusal, Replicas, Tale, key_of, lines_asked, listed_by, meant}
-use Rattle.mdv_engine.specs.Ends.{CarriedOut, HasAnswered}
+use Rattle.mdv_engine.specs.Below.{AddListed, AddPlaces, AreCalm, AreInForm, Command, Outcomes, Refusal, Replicas, listed_by, meant}
+use Rattle.mdv_engine.specs.Ends.{HasAnswered}
 use Rattle.mdv_engine.specs.Engine.{IsWell, case_at}
 use Rattle.mdv_engine.specs.declared.engine.Engine.{Engine}
 use Rattle.mdv_engine.proofs.Ending.{refused_answer}
@@ -18,7 +16,7 @@ use Rattle.std.proofs.lemmas.List.Elements.{All-cons, All-nil}
 use Rattle.mdv_base.proofs.Order.{first_holds}
 use Rattle.mdv_base.specs.Order.{order}
 use Rattle.mdv_base.specs.declared.refusal.Refusal.TheVariants.{BadLine}
-use Rattle.mdv_engine.proofs.Judged.{IsJudged, creation_judged, judged_mere, judged_said}
+use Rattle.mdv_engine.proofs.Judged.{IsJudged, creation_judged, judged_mere, judged_said, places_calm}
 
 -- without entries none is kept
 pub none_listed : AreInForm []
@@ -37,10 +35,10 @@ module _ (old : Engine) (number : ℕ) (force : Bool) where
   listed_answer said r is calls calm well =
       let command = as_listed number force said in
       let judged = listed_judged said r is in
-      refused_answer calls command old well r (judged_said (blame_of calls old.host old.state command) (MaySpend command) r judged (none said)) (refusal_plain (case_at old) command r is) (inl (judged_mere r judged))
+      refused_answer calls command old well r (judged_said (blame_of calls old.host old.state command) (MaySpend old.state command) r judged (none said)) (refusal_plain (case_at old) command r is) (inl (judged_mere r judged))
     where
       none : (said : Option Replicas) → (blame_of calls old.host old.state (as_listed number force said)).none
-      none (Some of) = calm
+      none (Some of) = places_calm calls old.host old.state of.slices force of.count of.blocks calm
       none None = calm
 
   -- where one is kept it means that
@@ -50,11 +48,6 @@ module _ (old : Engine) (number : ℕ) (force : Bool) where
 
     pub of_listed : (P : Command → Type 0) → P (AddPlaces r.slices force r.count r.blocks) → P (meant old.state.entries (AddListed number force))
     of_listed P it = subst P (sym listed_means) it
-
-    pub listed_end : (calls : Outcomes) (answer : Answer) (new : Memory) (t u : Tale) → CarriedOut calls old.host (ToMake (key_of old.host) (lines_asked old.host r.slices) r.count r.blocks) (AddPlaces r.slices force r.count r.blocks) old.state answer new t u
-        → CarriedOut calls old.host (ToMakeListed (key_of old.host) number) (meant old.state.entries (AddListed number force)) old.state answer new t u
-    listed_end calls answer new t u end = of_listed (λ command. CarriedOut calls old.host (ToMakeListed (key_of old.host) number) command old.state answer new t u)
-        (record { carry = record { answered = end.carry.answered; carried = listed_carried old.host (key_of old.host) number old.state r is answer new t u end.carry.carried }; done = end.done; lost = end.lost })
 
 -- what is found among the entries that the engine lends is found among those that are kept
 pub is_kept : (old lent : Engine) → lent ≡ old → (entries : List Entry) → entries ≡ lent.state.entries → (number : ℕ) (r : Replicas) → listed_by entries number ≡ Some r → listed_by old.state.entries number ≡ Some r

@@ -101,7 +101,7 @@ module _ (old : Engine) (names : List Named) where
 
   pub print_ends : (this : Outcome) → HasPrinted old.state names this → (calls : Outcomes) → AreCalm calls → (a : Option Tale) → Ends (CommandEnd calls old (Print names) (Said this) old) a a
   print_ends this has calls calm a =
-      command_ends calls old (Print names) this old a a (λ t start. (t, start, λ known. comes this has calls calm t)) (λ t start. (t, start, carried this has t)) (λ on u. tt)
+      command_ends calls old _ (Print names) this old a a (λ t start. (t, start, λ known. comes this has calls calm t)) (λ t start. (t, start, carried this has t)) (λ on u. tt) (λ is u. tt)
 
   -- the text is one reply
   text_plain : (plan : Plan) → IsPlainAnswer (Said (outcome.Values (printed_reply (listing_of plan names))))
@@ -113,12 +113,12 @@ module _ (old : Engine) (names : List Named) where
   print_plain this (printed database opened free (inr want)) = subst (λ (o : Outcome). IsPlainAnswer (Said o)) (sym want) memory_plain
 
   abbrev Cause : Outcomes → Outcome → Type 0
-  Cause calls this = HasAnswerCause (blame_of calls old.host old.state (Print names)) (MaySpend (Print names)) (Said this)
+  Cause calls this = HasAnswerCause (blame_of calls old.host old.state (Print names)) (MaySpend old.state (Print names)) (Said this)
 
   print_cause : (this : Outcome) → HasPrinted old.state names this → (calls : Outcomes) → AreCalm calls → Cause calls this
   print_cause this (turned_down r is said) calls calm =
       subst (Cause calls) (sym said)
-      (judged_said (blame_of calls old.host old.state (Print names)) (MaySpend (Print names)) r (print_judged old.state.opened names r is) calm)
+      (judged_said (blame_of calls old.host old.state (Print names)) (MaySpend old.state (Print names)) r (print_judged old.state.opened names r is) calm)
   print_cause this (printed database opened free (inl said)) calls calm = subst (Cause calls) (sym said) calm
   print_cause this (printed database opened free (inr want)) calls calm = subst (Cause calls) (sym want) calm
 
@@ -130,7 +130,7 @@ module _ (old : Engine) (names : List Named) where
     plain = print_plain this has;
     cause = print_cause this has calls calm;
     lost = λ active listed is. absurd (cc (is));
-    free = λ on among. absurd (omega (arith, among.1));
+    free = λ on among closed. absurd (omega (arith, among.1));
     few = inr tt;
     host = refl;
     well = λ on. well;

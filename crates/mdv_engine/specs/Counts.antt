@@ -1,6 +1,7 @@
 -- How many calls on the drives a command and a boot make, by what they came to.
-use Rattle.std.specs.Prelude.{◌≡◌, ◌+◌, ◌*◌, ℕ, true, List, length, Option, Some, None, Result, Ok, Err}
+use Rattle.std.specs.Prelude.{◌≡◌, ◌+◌, ◌*◌, ℕ, Bool, true, false, List, length, if◌then◌else◌, Option, Some, None, Result, Ok, Err}
 use Rattle.mdv_base.specs.DriveSet.{no_drives}
+use Rattle.mdv_base.specs.declared.drive.Failed.{Failed}
 use Rattle.mdv_base.specs.declared.refusal.Refusal.{Refusal}
 use Rattle.mdv_base.specs.declared.refusal.Refusal.TheVariants.{IoFault, OutOfMemory}
 use Rattle.mdv_base.specs.declared.name.VolId.{VolId}
@@ -23,7 +24,13 @@ use Rattle.mdv_standing.specs.Creating.{first_mark}
 use Rattle.mdv_survey.specs.Counts.{AreLinesBy}
 use Rattle.mdv_table.specs.Change.{table_after}
 use Rattle.mdv_engine_law.specs.Line.{answered_by, opened_by}
-use Rattle.mdv_engine_law.specs.Efforts.{FaultCalls, LossCalls, MadeCallsOf, places_on, wanting_calls}
+use Rattle.mdv_engine_law.specs.Efforts.{FaultCalls, LossCalls, MadeCallsOf, deletion_blocks, deletion_calls, places_on, wanting_calls}
+use Rattle.mdv_engine_law.specs.Places.{are_all}
+use Rattle.mdv_engine_law.specs.Moves.{drop_of}
+use Rattle.mdv_places.specs.Asked.{Adds, Drops, KeepsFirst}
+use Rattle.mdv_places.specs.Changing.{WasLost, WereMoved}
+use Rattle.mdv_places.specs.Counts.{move_blocks, move_calls}
+use Rattle.mdv_places.specs.Ending.{HasEnded}
 use Rattle.mdv_engine_law.specs.declared.answer.Answer.{Answer}
 use Rattle.mdv_engine_law.specs.declared.answer.Answer.TheVariants.{Said, Over}
 use Rattle.mdv_engine_law.specs.declared.answer.Ended.TheVariants as ended
@@ -31,16 +38,18 @@ use Rattle.mdv_engine_law.specs.declared.answer.Outcome.TheVariants as outcome
 use Rattle.mdv_engine_law.specs.Answers.{accepted, refusing}
 use Rattle.mdv_engine_law.specs.declared.answer.Reply.{Reply}
 use Rattle.mdv_engine_law.specs.declared.answer.Reply.TheVariants as reply
-use Rattle.mdv_engine.specs.Below.{AddListed, AddPlaces, DropPlaces, Host, Identity, Key, MakeStripe, Memory, Opened, Read, Seat, SliceLine, Write, active_of, key_of, lines_asked}
+use Rattle.mdv_engine.specs.Below.{AddListed, AddPlaces, DropPlaces, Geometry, Host, Identity, Key, MakeStripe, Memory, Opened, Read, Seat, SliceLine, Write, active_of, key_of, lines_asked}
 use Rattle.mdv_store.specs.Shares.{short_of}
 use Rattle.mdv_store.specs.declared.seats.Need.TheVariants.{Half}
 use Rattle.mdv_table.specs.declared.plan.Lists.{Lists}
 
 -- the most calls that a command makes, and the most blocks that it writes
 abbrev pub calls_of : Host → Option Opened → Command → ℕ
-calls_of host opened (AddPlaces slices force count blocks) = 2 * blanked_asked (lines_asked host slices) count + 12 * places_on (lines_asked host slices) count
+calls_of host (Some o) (AddPlaces slices force count blocks) = move_calls o (Adds (lines_asked host slices) count blocks)
+calls_of host None (AddPlaces slices force count blocks) = 2 * blanked_asked (lines_asked host slices) count + 12 * places_on (lines_asked host slices) count
 calls_of host opened (AddListed number force) = 0
-calls_of host opened (DropPlaces slices force) = 0
+calls_of host (Some o) (DropPlaces slices force) = if are_all o slices then deletion_calls o else move_calls o (Drops slices)
+calls_of host None (DropPlaces slices force) = 0
 calls_of host None (command.MakeStripe volume slice) = 0
 calls_of host (Some o) (command.MakeStripe volume slice) = 6 * active_of o.seats
 calls_of host opened (Read volume at count) = 1
@@ -48,9 +57,11 @@ calls_of host opened (Write volume at block) = 2
 calls_of host opened (command.Print names) = 0
 
 abbrev pub blocks_of : Host → Option Opened → Command → ℕ
-blocks_of host opened (AddPlaces slices force count blocks) = blanked_asked (lines_asked host slices) count + 4103 * places_on (lines_asked host slices) count
+blocks_of host (Some o) (AddPlaces slices force count blocks) = move_blocks o (Adds (lines_asked host slices) count blocks)
+blocks_of host None (AddPlaces slices force count blocks) = blanked_asked (lines_asked host slices) count + 4103 * places_on (lines_asked host slices) count
 blocks_of host opened (AddListed number force) = 0
-blocks_of host opened (DropPlaces slices force) = 0
+blocks_of host (Some o) (DropPlaces slices force) = if are_all o slices then deletion_blocks o else move_blocks o (Drops slices)
+blocks_of host None (DropPlaces slices force) = 0
 blocks_of host None (command.MakeStripe volume slice) = 0
 blocks_of host (Some o) (command.MakeStripe volume slice) = 4096 * active_of o.seats
 blocks_of host opened (Read volume at count) = 0
@@ -63,11 +74,28 @@ pub record WereMadeInTurn {S : Type 0} (shelf : Ghosts S) (old new : S) (key : K
   pub gone : HaveGone shelf old formed (drives_asked lines) (acts_asked key identity 1 lines count blocks)
   pub steps : AreWrittenBy shelf first_mark (table_of (seats_asked key identity lines count blocks)) formed new (seats_asked key identity lines count blocks) now
 
--- A change that is done wrote its table at each place that was active, in turn: one is left only where its own writing was begun and a call on its drive failed, or behind an earlier one of this pass on its drive. So did a creation behind its formats.
+-- All places went: the first one alone was left, and each other one wiped; and behind that its master was blanked, or a call failed there.
+pub record WasDeleted {S : Type 0} (shelf : Ghosts S) (old new : S) (g : Geometry) (o : Opened) (result : Result (Unit {0}) Failed) : Type 0 where
+  pub through : S
+  pub one : Opened
+  pub moved : WereMoved shelf old through g o one KeepsFirst true
+  pub ended : HasEnded shelf through new one result
+
+-- A change that is done wrote its table at each place that was active, in turn: one is left only where its own writing was begun and a call on its drive failed, or behind an earlier one of this pass on its drive. So did a creation behind
+-- its formats; and a change of places behind its formats twice, with both lists at the places of both, and with the new one alone at those of them that it has. Behind these it tried each wipe.
 abbrev pub HasWrittenAll : {S : Type 0} → Ghosts S → S → S → Host → Command → Option Opened → Option Opened → Type 0
-HasWrittenAll shelf old new host (AddPlaces slices force count blocks) before (Some now) = WereMadeInTurn shelf old new now.key now.identity (lines_asked host slices) count blocks now.seats
+HasWrittenAll shelf old new host (AddPlaces slices force count blocks) None (Some now) = WereMadeInTurn shelf old new now.key now.identity (lines_asked host slices) count blocks now.seats
 HasWrittenAll shelf old new host (command.MakeStripe volume slice) (Some before) (Some now) = AreWrittenBy shelf now.mark now.table old new before.seats now.seats
+HasWrittenAll shelf old new host (AddPlaces slices force count blocks) (Some before) (Some now) = (clean : Bool) × WereMoved shelf old new host.drives before now (Adds (lines_asked host slices) count blocks) clean
+HasWrittenAll shelf old new host (DropPlaces slices force) (Some before) (Some now) = (clean : Bool) × WereMoved shelf old new host.drives before now (Drops slices) clean
+HasWrittenAll shelf old new host (DropPlaces slices force) (Some before) None = WasDeleted shelf old new host.drives before (Ok tt)
 HasWrittenAll shelf old new host other before now = Unit {0}
+
+-- A deletion that a failed call ended: a wipe failed, and the first place alone is left; or all others were wiped, and the blanking of its master failed.
+abbrev pub HasHalted : {S : Type 0} → Ghosts S → S → S → Host → Command → Option Opened → Option Opened → Type 0
+HasHalted shelf old new host (DropPlaces slices force) (Some before) (Some now) = WereMoved shelf old new host.drives before now KeepsFirst false
+HasHalted shelf old new host (DropPlaces slices force) (Some before) None = (fault : Failed) × WasDeleted shelf old new host.drives before (Err fault)
+HasHalted shelf old new host other before now = Unit {0}
 
 -- By these steps some of the places are left, those on whose drives no call failed; and of a list of these, the first one of which fewer than half are left, so many have the table.
 pub record WereTried {S : Type 0} (shelf : Ghosts S) (old new : S) (Steps : List Seat → Type 0) (seats : List Seat) (lists : Lists) (active listed : ℕ) : Type 0 where
@@ -78,16 +106,18 @@ pub record WereTried {S : Type 0} (shelf : Ghosts S) (old new : S) (Steps : List
 
 -- so it is where too few places took the table of a command
 abbrev pub HasTriedAll : {S : Type 0} → Ghosts S → S → S → Host → Command → Option Opened → ℕ → ℕ → Type 0
-HasTriedAll shelf old new host (AddPlaces slices force count blocks) before active listed =
+HasTriedAll shelf old new host (AddPlaces slices force count blocks) None active listed =
     (identity : Identity) × WereTried shelf old new (WereMadeInTurn shelf old new (key_of host) identity (lines_asked host slices) count blocks) (seats_asked (key_of host) identity (lines_asked host slices) count blocks)
     (table_of (seats_asked (key_of host) identity (lines_asked host slices) count blocks)).plan.lists active listed
 HasTriedAll shelf old new host (command.MakeStripe volume slice) (Some o) active listed =
     WereTried shelf old new (AreWrittenBy shelf (next_mark o.mark) (table_after host.drives (MakeStripe volume slice) o.table) old new o.seats) o.seats o.table.plan.lists active listed
+HasTriedAll shelf old new host (AddPlaces slices force count blocks) (Some o) active listed = (now : Opened) × WasLost shelf old new host.drives o now (Adds (lines_asked host slices) count blocks) (record { active = active; listed = listed })
+HasTriedAll shelf old new host (DropPlaces slices force) (Some o) active listed = (now : Opened) × WasLost shelf old new host.drives o now (drop_of o slices) (record { active = active; listed = listed })
 HasTriedAll shelf old new host other before active listed = Unit {0}
 
 -- The calls of a command that was done: exactly so many, and no more than it may make at all; a creation and a change wrote to each place so.
 pub record DoneCalls {S : Type 0} (shelf : Ghosts S) (old new : S) (host : Host) (command : Command) (before now : Option Opened) : Type 0 where
-  pub exactly : MadeCallsOf (made_of shelf old new) command host before now
+  pub exactly : MadeCallsOf (DriveFailures shelf old new) (made_of shelf old new) command host before now
   pub most : (made_of shelf old new).within 0 (calls_of host before command) (blocks_of host before command)
   pub wrote : HasWrittenAll shelf old new host command before now
 
@@ -96,7 +126,8 @@ pub record DoneCalls {S : Type 0} (shelf : Ghosts S) (old new : S) (host : Host)
 abbrev pub IsCommandCounted : {S : Type 0} → Ghosts S → S → S → Host → Command → Answer → Option Opened → Option Opened → Type 0
 IsCommandCounted shelf old new host command (Said outcome.Ok) before now = DoneCalls shelf old new host command before now
 IsCommandCounted shelf old new host command (Said (outcome.Values text)) before now = DoneCalls shelf old new host command before now
-IsCommandCounted shelf old new host command (Said (outcome.Refused IoFault)) before now = FaultCalls (made_of shelf old new) command host
+IsCommandCounted shelf old new host command (Said (outcome.Refused IoFault)) before now =
+    FaultCalls (made_of shelf old new) command host before × (made_of shelf old new).within 0 (calls_of host before command) (blocks_of host before command) × HasHalted shelf old new host command before now
 IsCommandCounted shelf old new host command (Said (outcome.Refused OutOfMemory)) before now = (made_of shelf old new).within 0 (wanting_calls command) 0 × (shelf.tale new ≡ shelf.tale old)
 IsCommandCounted shelf old new host command (Said (outcome.Refused other)) before now = new ≡ old
 IsCommandCounted shelf old new host command (Over (ended.Lost active listed)) before now = LossCalls (made_of shelf old new) command host before × HasTriedAll shelf old new host command before active listed

@@ -1,5 +1,5 @@
 -- What the calls of an engine say of their answers, and of the drives in the end.
-use Rattle.std.specs.Prelude.{◌≡◌, ◌≢◌, ◌⊎◌, ◌≤◌, ◌+◌, ◌*◌, ℕ, Bool, true, false, List, [], Option, Some, None, Result, Ok, Err, IfOk, IfErr, OnOk, Contains, length}
+use Rattle.std.specs.Prelude.{◌≡◌, ◌≢◌, ◌⊎◌, ◌≤◌, ◌+◌, ◌*◌, ℕ, Bool, true, false, List, [], Option, Some, None, Result, Ok, Err, IfOk, IfErr, OnOk, MatchOption, Contains, length}
 use Rattle.mdv_acts.specs.Asked.{drives_asked}
 use Rattle.mdv_shelf.specs.Drives.{KeptAmong}
 use Rattle.mdv_shelf.specs.Shelves.{AtEachMoment, AtEachTale, AtEnd, DriveFailures, EndsTold, GivingFailed, GivingFailures, KeptOn, MadeCalls, RestsOnceTold}
@@ -11,11 +11,15 @@ use Rattle.mdv_store.specs.Seats.{AreTheirs}
 use Rattle.mdv_words.specs.declared.command.Command.{Command}
 use Rattle.mdv_words.specs.declared.command.Command.TheVariants as command
 use Rattle.mdv_words.specs.Line as words
-use Rattle.mdv_engine.specs.Below.{Answer, AreBlocksAt, AreCalm, BootedTo, CameTo, CarryEnd, CarryMoment, OfPlan, PlanChange, Changed, Created, DriveBlock, DriveNo, Ended, Executed, FailedOn, Host, IoFault, IsAllowed, IsOpenedAt, IsPlainAnswer, IsRebooted, IsSettled, IsSynced, Kept, KeptOutside, Knows, MakeStripe, MayLeave, Memory, OnDrive, Opened, OutOfMemory, Outcomes, Read, Refusal, Seat, Settling, SliceLine, SliceName, Table, Tale, TellMoment, TellsFront, TurnMoment, Turned, VolId, Write, asked_by, blocks_of, has_drive, identity_of, kept_at, key_of, last, lines_asked, nowhere, text_of, unbooted, AddListed, AddPlaces, DropPlaces, meant}
+use Rattle.mdv_engine.specs.Below.{Answer, AreBlocksAt, AreCalm, BootedTo, CameTo, CarryEnd, CarryMoment, OfPlan, PlanChange, Changed, Created, DriveBlock, DriveNo, Ended, Executed, FailedOn, Host, IoFault, IsAllowed, IsOpenedAt, IsPlainAnswer, IsRebooted, IsSettled, IsSynced, Kept, KeptOutside, Knows, MakeStripe, MayLeave, Memory, OnDrive, Opened, OutOfMemory, Outcomes, Read, Refusal, Seat, Settling, SliceLine, SliceName, Table, Tale, TellMoment, TellsFront, TurnMoment, Turned, VolId, Write, asked_by, blocks_of, has_drive, identity_of, kept_at, key_of, last, lines_asked, nowhere, text_of, unbooted, AddListed, AddPlaces, DropPlaces, listed_by, meant}
 use Rattle.mdv_shelf.specs.Made.{Made, and_more, made_of}
 use Rattle.mdv_engine_law.specs.declared.answer.Answer.TheVariants.{Over}
 use Rattle.mdv_engine_law.specs.declared.answer.Ended.TheVariants as ended
-use Rattle.mdv_engine_law.specs.Line.{Ask, ToDo, ToMake, contents, deeds}
+use Rattle.mdv_engine_law.specs.Line.{Ask, ToDo, ToDrop, ToMake, ToMakeListed, contents, deeds}
+use Rattle.mdv_engine_law.specs.Moves.{IsLostChange, drop_of}
+use Rattle.mdv_places.specs.Asked.{Adds, Asks, seats_added}
+use Rattle.mdv_places.specs.Changing.{drives_moved}
+use Rattle.mdv_store.specs.Commit.{next_mark}
 use Rattle.mdv_engine_law.specs.Answers.{IsMereRefusal, IsSaid, accepted, refusing}
 use Rattle.mdv_engine_law.specs.Commands.{MaySpend, blame_of}
 use Rattle.mdv_engine_law.specs.Efforts.{BootCalls, FaultCalls, LossCalls, MadeCallsOf, wanting_calls}
@@ -24,7 +28,7 @@ use Rattle.mdv_engine_law.specs.declared.answer.Outcome.{Outcome}
 use Rattle.mdv_engine_law.specs.declared.answer.Reply.{Reply}
 use Rattle.mdv_engine_law.specs.declared.answer.Reply.TheVariants as reply
 use Rattle.mdv_engine_law.specs.Replies.{HasAnswerCause, HasCommandCause, IsAccepted, IsLost, IsReplied, IsReplyTo}
-use Rattle.mdv_engine_law.specs.Standing.{IsBare, LeavesDone}
+use Rattle.mdv_engine_law.specs.Standing.{IsBare, LeavesDone, LeavesTorn}
 use Rattle.mdv_engine.specs.declared.engine.Engine.{Engine}
 use Rattle.mdv_engine.specs.Counts.{IsQuietRefusal, IsUnlooked, calls_of}
 use Rattle.mdv_engine.specs.Counts as counts
@@ -54,16 +58,25 @@ pub record LeavesReplicas (calls : Outcomes) (host : Host) (begun : ℕ) (lines 
   pub formed : AreTheirs host.drives (key_of host) (identity_of host begun) (create.seats_asked (key_of host) (identity_of host begun) lines count blocks) u
   pub left : IsOpenedAt host.drives (made_at host begun lines count blocks lost.now) u
 
+-- Too few of a list's places took a table by a change of places, as the calls say that failed; whatever a crash leaves, each that did shows it, and each place that was added has a replica of the database.
+pub record LeavesBoth (calls : Outcomes) (host : Host) (o : Opened) (asked : Asks) (active listed : ℕ) (u : Tale) : Type 0 where
+  pub lost : IsLostChange calls host.drives o asked active listed
+  pub left : IsOpenedAt host.drives (record lost.new { mark = next_mark lost.new.mark }) u
+  pub formed : AreTheirs host.drives o.key o.identity (seats_added o asked) u
+
 -- what a command leaves that the run is over with, for too few places are left
 abbrev pub LeavesMade : Outcomes → Host → Memory → Command → ℕ → ℕ → Tale → Type 0
-LeavesMade calls host old (AddPlaces slices force count blocks) active listed u = LeavesReplicas calls host old.begun (lines_asked host slices) count blocks active listed u
+LeavesMade calls host old (AddPlaces slices force count blocks) active listed u =
+    MatchOption old.opened (LeavesReplicas calls host old.begun (lines_asked host slices) count blocks active listed u) (λ o. LeavesBoth calls host o (Adds (lines_asked host slices) count blocks) active listed u)
+LeavesMade calls host old (DropPlaces slices force) active listed u = (o : Opened) × (old.opened ≡ Some o) × LeavesBoth calls host o (drop_of o slices) active listed u
 LeavesMade calls host old other active listed u = Unit {0}
 
--- a command that was carried out for a line that asks this: what it came to and led to, what it left where it was done, and where the run is over, for too few places are left
+-- a command that was carried out for a line that asks this: what it came to and led to, what it left where it was done, where the run is over, for too few places are left, and where a failed call ended it
 pub record CarriedOut (calls : Outcomes) (host : Host) (asked : Ask) (command : Command) (old : Memory) (answer : Answer) (new : Memory) (t u : Tale) : Type 0 where
   pub carry : CarryEnd (λ kept a next. CameTo calls host kept command a next) host asked old answer new t u
-  pub done : IsAccepted answer → LeavesDone host old command u
-  pub lost : (active listed : ℕ) → answer ≡ Over (ended.Lost active listed) → LeavesMade calls host old command active listed u
+  pub done : Knows host old t → IsAccepted answer → LeavesDone calls host old command u
+  pub lost : Knows host old t → (active listed : ℕ) → answer ≡ Over (ended.Lost active listed) → LeavesMade calls host old command active listed u
+  pub torn : Knows host old t → answer ≡ refusing IoFault → LeavesTorn calls host old command u
 
 -- the end of a command
 abbrev pub CommandEnd : Outcomes → Engine → Command → Answer → Engine → Tale → Tale → Type 0
@@ -89,22 +102,18 @@ StripeEnds shelf from to old volume slice answer new = AtEnd shelf (CommandEnd (
 abbrev pub CreationEnds : {S : Type 0} → Ghosts S → S → S → Engine → List SliceName → Bool → ℕ → ℕ → Answer → Engine → Type 0
 CreationEnds shelf from to old slices force count blocks answer new = AtEnd shelf (CommandEnd (DriveFailures shelf from to) old (AddPlaces slices force count blocks) answer new) from to
 
--- of one that nothing refuses, with whichever force
-abbrev pub FreeEnds : {S : Type 0} → Ghosts S → S → S → Engine → List SliceName → ℕ → ℕ → Answer → Engine → Type 0
-FreeEnds shelf from to old slices count blocks answer new = (force : Bool) → IsAllowed (case_at old) (AddPlaces slices force count blocks) → CreationEnds shelf from to old slices force count blocks answer new
-
 -- it asks no more places than a database lists
 abbrev pub IsFew : Command → Type 0
 IsFew (AddPlaces slices force count blocks) = length slices * count ≤ 50
 IsFew other = Unit {0}
 
 -- What an answer says, whatever the shelf tells: its text is a reply's, it has its cause, and where places are lost that lies on the slices where the host's replicas may; a creation is
--- accepted only where no database is open and no call failed in the last boot; the places asked are few, or it is refused before any call of theirs; and what the engine keeps, by which it may go on where the run does.
+-- accepted only where memory was clean; the places asked are few, or it is refused before any call of theirs; and what the engine keeps, by which it may go on where the run does.
 pub record HasAnswered (calls : Outcomes) (command : Command) (old : Engine) (answer : Answer) (new : Engine) : Type 0 where
   pub plain : IsPlainAnswer answer
-  pub cause : HasAnswerCause (blame_of calls old.host old.state command) (MaySpend command) answer
+  pub cause : HasAnswerCause (blame_of calls old.host old.state command) (MaySpend old.state command) answer
   pub lost : (active listed : ℕ) → answer ≡ Over (ended.Lost active listed) → IsLostOnSite calls old.host active listed
-  pub free : IsAccepted answer → Contains (deeds (asked_by old.host command)) (Created (key_of old.host)) → IsBare old.state
+  pub free : IsAccepted answer → Contains (deeds (asked_by old.host command)) (Created (key_of old.host)) → old.state.opened ≡ None → IsBare old.state
   pub few : IsMereRefusal answer ⊎ IsFew command
   pub host : new.host ≡ old.host
   pub well : IsSaid answer → IsWell old.host new.state
@@ -121,7 +130,7 @@ IsStripeCounted shelf from to old volume slice answer new = counts.IsCommandCoun
 -- Each moment of a line: how the drive stands, what was told of its reply by then, and that from the first byte of that on the drives are at rest.
 pub record LineMoments {S : Type 0} (shelf : Ghosts S) (host : Host) (ask : Ask) (old : Memory) (Comes : Outcomes → Kept → Answer → Kept → Type 0) (from to : S) : Type 0 where
   pub each : AtEachTale shelf (TurnMoment host ask old) from to
-  pub fronts : AtEachMoment shelf (λ t m. Knows host old t.tale → TellsFront Comes old t m) from to
+  pub fronts : AtEachMoment shelf (λ t m. Knows host old t.tale → TellsFront Comes (Turned host ask old) old t m) from to
   pub rests : RestsOnceTold shelf from to
 
 -- this answer, with no call on a drive that failed, and all else as it was
@@ -138,22 +147,23 @@ abbrev pub CarriesOut : Host → Command → Outcomes → Kept → Answer → Ke
 CarriesOut host command calls kept answer next = CameTo calls host kept (meant kept.memory.entries command) answer next
 
 -- The end of a command and its reply: what it came to and with how many calls, what it led to, what is known where the run isn't lost; a refusal behind which
--- nothing was written, nor by a change whose number is spent; and what a command left that was told `ok`, and one with which the run is over, for too few places are left.
+-- nothing was written, nor by a change whose number is spent; and what a command left that was told `ok`, one with which the run is over, for too few places are left, and one that a failed call ended.
 pub record TurnEnd (calls : Outcomes) (replies : Type 0) (made : Made) (old : Engine) (command : Command) (given : Reply) (new : Engine) (t u : Tale) : Type 0 where
   pub answered : Knows old.host old.state t → Executed calls replies made old.host (words.Exec command) old.state new.state given t u
   pub turned : IsReplied given → Turned old.host (asked_by old.host command) old.state new.state t u
   pub knows : (IsLost given → ⊥) → Knows old.host old.state t → Knows old.host new.state u
   pub quiet : IsQuietRefusal given → KeptOutside nowhere t u
   pub spent : given ≡ reply.Spent → KeptOutside nowhere t u
-  pub done : given ≡ reply.Ok → LeavesDone old.host old.state (meant old.state.entries command) u
-  pub lost : (active listed : ℕ) → given ≡ reply.Panic active listed → LeavesMade calls old.host old.state (meant old.state.entries command) active listed u
+  pub done : Knows old.host old.state t → given ≡ reply.Ok → LeavesDone calls old.host old.state (meant old.state.entries command) u
+  pub lost : Knows old.host old.state t → (active listed : ℕ) → given ≡ reply.Panic active listed → LeavesMade calls old.host old.state (meant old.state.entries command) active listed u
+  pub torn : Knows old.host old.state t → given ≡ reply.Refused IoFault → LeavesTorn calls old.host old.state (meant old.state.entries command) u
 
 abbrev pub TurnEnds : {S : Type 0} → Ghosts S → S → S → Engine → Command → Reply → Engine → Type 0
 TurnEnds shelf from to old command given new = AtEnd shelf (TurnEnd (DriveFailures shelf from to) (GivingFailed shelf from to) (made_of shelf from to) old command given new) from to
 
 -- a reply to a command has its cause, and what the engine keeps, by which it may go on where the run isn't over
 pub record HasReplied (calls : Outcomes) (replies : Type 0) (old : Engine) (command : Command) (given : Reply) (new : Engine) : Type 0 where
-  pub cause : HasCommandCause (blame_of calls old.host old.state command) (MaySpend command) replies given
+  pub cause : HasCommandCause (blame_of calls old.host old.state command) (MaySpend old.state command) replies given
   pub lost : (active listed : ℕ) → given ≡ reply.Panic active listed → IsLostOnSite calls old.host active listed
   pub host : new.host ≡ old.host
   pub well : (IsLost given → ⊥) → IsWell old.host new.state
@@ -171,12 +181,13 @@ pub record HasOnlyReplied (calls : Outcomes) (replies : Type 0) (said : Outcome)
 pub record IsTurnCounted {S : Type 0} (shelf : Ghosts S) (old new : S) (host : Host) (command : Command) (r : Reply) (before now : Option Opened) : Type 0 where
   pub most : (made_of shelf old new).within 0 (1 + calls_of host before command) (counts.blocks_of host before command)
   pub few : (made_of shelf old new).within 0 2 0 ⊎ IsFew command
-  pub done : r ≡ reply.Ok → MadeCallsOf (and_more 1 (made_of shelf old new)) command host before now
+  pub done : r ≡ reply.Ok → MadeCallsOf (DriveFailures shelf old new) (and_more 1 (made_of shelf old new)) command host before now
   pub wrote : r ≡ reply.Ok → (through : S) × counts.HasWrittenAll shelf old through host command before now × MadeCalls shelf through new 1 0
   pub unlooked : IsUnlooked r → (made_of shelf old new).within 0 1 0
   pub unwritten : IsQuietRefusal r → (made_of shelf old new).within 0 (1 + calls_of host before command) 0
   pub wanting : r ≡ reply.Refused OutOfMemory → (made_of shelf old new).within 0 (1 + wanting_calls command) 0
-  pub faulted : r ≡ reply.Refused IoFault → FaultCalls (and_more 1 (made_of shelf old new)) command host
+  pub faulted : r ≡ reply.Refused IoFault → FaultCalls (and_more 1 (made_of shelf old new)) command host before
+  pub halted : r ≡ reply.Refused IoFault → (through : S) × counts.HasHalted shelf old through host command before now × MadeCalls shelf through new 1 0
   pub lost : (active listed : ℕ) → r ≡ reply.Panic active listed → LossCalls (made_of shelf old new) command host before × counts.HasTriedAll shelf old new host command before active listed
   pub spent : r ≡ reply.Spent → (made_of shelf old new).within 0 0 0
   pub told : IsReplied r → EndsTold shelf old new
@@ -262,6 +273,12 @@ AreWritten shelf old new engine volume at blocks (Ok done) = ArePut shelf old ne
 AreWritten shelf old new engine volume at blocks (Err IoFault) = AreTorn shelf old new engine volume at blocks
 AreWritten shelf old new engine volume at blocks (Err other) = Unit {0}
 
+-- what the engine keeps behind a write of blocks: where a call failed memory isn't clean any more
+abbrev pub after_write : Engine → Result (Unit {0}) Refusal → Engine
+after_write engine (Ok done) = engine
+after_write engine (Err IoFault) = record engine { state = record engine.state { clean = false } }
+after_write engine (Err other) = engine
+
 -- the calls of a read or a write of blocks: just so many where it was done, one at least and no more where a call failed, and none where it was refused for
 -- another cause
 pub record AreBlocksCounted {S : Type 0} (shelf : Ghosts S) (old new : S) (calls written : ℕ) (engine : Engine) (volume : VolId) (at count : ℕ) (result : Result (Unit {0}) Refusal) : Type 0 where
@@ -273,12 +290,46 @@ pub record AreBlocksCounted {S : Type 0} (shelf : Ghosts S) (old new : S) (calls
 abbrev pub KeptOnOne : {S : Type 0} → Ghosts S → S → S → Type 0
 KeptOnOne shelf old new = (drive : ℕ) × KeptOn shelf old new (OnDrive drive)
 
--- so they are of a command: on the drives of the slices that a creation names, on those of the open database's active places, and of a transfer on one
+-- on those of the slices that a creation names, or of the places of a change
+abbrev pub drives_more : Host → Option Opened → List SliceLine → ℕ → ℕ → List DriveNo
+drives_more host None lines count blocks = drives_asked lines
+drives_more host (Some o) lines count blocks = drives_moved host.drives o (Adds lines count blocks)
+
+abbrev pub drives_less : Host → Option Opened → List SliceName → List DriveNo
+drives_less host None slices = []
+drives_less host (Some o) slices = drives_moved host.drives o (drop_of o slices)
+
+-- so they are of a command, on those of the open database's active places, and of a transfer on one
 abbrev pub KeptAsAsked : {S : Type 0} → Ghosts S → S → S → Host → Memory → Command → Type 0
-KeptAsAsked shelf old new host memory (AddPlaces slices force count blocks) = KeptAmong shelf old new (drives_asked (lines_asked host slices))
+KeptAsAsked shelf old new host memory (AddPlaces slices force count blocks) = KeptAmong shelf old new (drives_more host memory.opened (lines_asked host slices) count blocks)
 KeptAsAsked shelf old new host memory (AddListed number force) = KeptOnOne shelf old new
-KeptAsAsked shelf old new host memory (DropPlaces slices force) = KeptOnOne shelf old new
+KeptAsAsked shelf old new host memory (DropPlaces slices force) = KeptAmong shelf old new (drives_less host memory.opened slices)
 KeptAsAsked shelf old new host memory (command.MakeStripe volume slice) = KeptAmong shelf old new (drives_open memory.opened)
 KeptAsAsked shelf old new host memory (Read volume at count) = KeptOnOne shelf old new
 KeptAsAsked shelf old new host memory (Write volume at block) = KeptOnOne shelf old new
 KeptAsAsked shelf old new host memory (command.Print names) = KeptOnOne shelf old new
+
+-- What is said of a command that was carried out for a line that asks this: of each moment and the end, of its answer, of its calls, and of the drives on which they were made.
+pub record WasCarriedOut {S : Type 0} (shelf : Ghosts S) (from to : S) (ask : Ask) (command : Command) (old : Engine) (said : Answer) (new : Engine) : Type 0 where
+  pub moments : AtEachTale shelf (CarryMoment old.host ask old.state) from to
+  pub end : AtEnd shelf (CarriedOut (DriveFailures shelf from to) old.host ask command old.state said new.state) from to
+  pub answer : HasAnswered (DriveFailures shelf from to) command old said new
+  pub counted : counts.IsCommandCounted shelf from to old.host command said old.state.opened new.state.opened
+  pub kept : KeptAsAsked shelf from to old.host old.state command
+
+-- A line asks so many replicas of so many blocks on each of these slices: it says so itself, or it names an entry that is kept and says so.
+pub data AsksPlaces (engine : Engine) (slices : List SliceName) (count blocks : ℕ) (ask : Ask) : Type 0 where
+  by_slices : ask ≡ ToMake (key_of engine.host) (lines_asked engine.host slices) count blocks → AsksPlaces engine slices count blocks ask
+  by_entry : (number : ℕ) → listed_by engine.state.entries number ≡ Some (record { slices = slices; count = count; blocks = blocks }) → ask ≡ ToMakeListed (key_of engine.host) number → AsksPlaces engine slices count blocks ask
+
+-- so it is of such a line, where nothing refuses it, with whichever force
+abbrev pub AddsPlaces : {S : Type 0} → Ghosts S → S → S → Engine → List SliceName → ℕ → ℕ → Answer → Engine → Type 0
+AddsPlaces shelf from to old slices count blocks answer new =
+    (force : Bool) (ask : Ask) → IsAllowed (case_at old) (AddPlaces slices force count blocks) → AsksPlaces old slices count blocks ask → WasCarriedOut shelf from to ask (AddPlaces slices force count blocks) old answer new
+
+-- and of one by which the places on these slices go
+abbrev pub LosesPlaces : {S : Type 0} → Ghosts S → S → S → Engine → List SliceName → Bool → Answer → Engine → Type 0
+LosesPlaces shelf from to old slices force answer new = WasCarriedOut shelf from to (ToDrop (key_of old.host) slices force) (DropPlaces slices force) old answer new
+
+abbrev pub FreelyLoses : {S : Type 0} → Ghosts S → S → S → Engine → List SliceName → Answer → Engine → Type 0
+FreelyLoses shelf from to old slices answer new = (force : Bool) → IsAllowed (case_at old) (DropPlaces slices force) → LosesPlaces shelf from to old slices force answer new

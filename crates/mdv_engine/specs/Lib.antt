@@ -7,3 +7,4 @@ pub mod Ends
 pub mod Printing
 pub mod Tab
 pub mod Listed
+pub mod Moving

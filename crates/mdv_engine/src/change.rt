@@ -86,7 +86,6 @@ impl Engine {
     }
 }
 
-// What is answered where the table isn't committed.
 fn uncommitted(fault: CommitFault) -> Answer
     ensures { result ≡ commit_answer fault }
 {

@@ -1,20 +1,16 @@
-ghost use Rattle.std.specs.Prelude.{◌≡◌, ◌<◌, ◌≤◌, ◌+◌, ◌*◌, ◌^◌, ◌&&◌, ◌||◌, not, Bool, nat_lt, is_some, length, IfOk};
+ghost use Rattle.std.specs.Prelude.{◌≡◌, ◌<◌, ◌≤◌, ◌+◌, ◌*◌, ◌^◌, ◌&&◌, ◌||◌, not, Bool, nat_lt, is_some, length, IfOk, None};
 ghost use Rattle.std.specs.List.{list_any};
 ghost use Rattle.mdv_name.specs.SliceIndex.{same_slice as spec_same_slice, slice_at as spec_slice_at};
-ghost use Rattle.mdv_plan.specs.Slices.{meets_db as spec_meets_db};
 ghost use Rattle.mdv_words.specs.declared.command.Command.TheVariants.{AddPlaces};
 ghost use Rattle.mdv_words.specs.Line.{IsCount, IsInForm, IsLength};
 ghost use Rattle.mdv_words.specs.Listed.{AreInForm};
-ghost use Rattle.mdv_shelf.specs.Drives.{KeptAmong};
 ghost use Rattle.mdv_shelf.specs.Shelves.{DriveFailures};
-ghost use Rattle.mdv_acts.specs.Asked.{drives_asked};
 ghost use Rattle.mdv_table.specs.Slices.{IsSound};
 ghost use Rattle.mdv_engine_law.specs.Commands.{IsAllowed};
 ghost use Rattle.mdv_engine_law.specs.Hosts.{IsReady, lines_asked as spec_lines_asked};
-ghost use Rattle.mdv_engine_law.specs.Refusals.{is_doubled as spec_is_doubled, is_missing as spec_is_missing, is_plain as spec_is_plain};
-ghost use Rattle.mdv_engine_law.specs.Refusals.{is_short as spec_is_short, is_taken as spec_is_taken, places_open as spec_places_open, refusal_of, told_of_others};
+ghost use Rattle.mdv_engine_law.specs.Refusals.{is_doubled as spec_is_doubled, is_missing as spec_is_missing, is_plain as spec_is_plain, is_short as spec_is_short, is_taken as spec_is_taken, places_open as spec_places_open, refusal_of, told_of_others};
 ghost use Rattle.mdv_engine.specs.Counts.{IsCommandCounted};
-ghost use Rattle.mdv_engine.specs.Ends.{CreationEnds, CreationMoments, FreeEnds, HasAnswered};
+ghost use Rattle.mdv_engine.specs.Ends.{AddsPlaces, CreationEnds, CreationMoments, HasAnswered, KeptAsAsked};
 ghost use Rattle.mdv_engine.specs.Engine.{IsWell, answer_of, case_at};
 
 use crate::engine::Engine;
@@ -35,7 +31,7 @@ const MOST_PLACES: usize = 50;
 const FIRST_BLOCK: u64 = 16;
 
 impl Engine {
-    // `metadb -a SLICE ..`, or with `-f`, for so many replicas of so many blocks on each slice.
+    // `metadb -a SLICE ..`, or with `-f`, for so many replicas of so many blocks on each slice: of a first database, or more of the open one.
     #[tactic(auto, using(mdv_shelf::proofs::Among::among_none))]
     pub(crate) fn make<S: Shelf>(
         &mut self,
@@ -54,11 +50,11 @@ impl Engine {
         ensures end { CreationEnds S.Shelf shelf.old shelf.new self.old slices.now force count blocks result self.new }
         ensures answer { HasAnswered (DriveFailures S.Shelf shelf.old shelf.new) (AddPlaces slices.now force count blocks) self.old result self.new }
         ensures counted { IsCommandCounted S.Shelf shelf.old shelf.new self.old.host (AddPlaces slices.now force count blocks) result self.old.state.opened self.new.state.opened }
-        ensures kept { KeptAmong S.Shelf shelf.old shelf.new (drives_asked (spec_lines_asked self.old.host slices.now)) }
+        ensures kept { KeptAsAsked S.Shelf shelf.old shelf.new self.old.host self.old.state (AddPlaces slices.now force count blocks) }
     {
         match self.creation_refusal(slices, force, count, blocks) {
             Some(refusal) => Answer::Said(Outcome::Refused(refusal)),
-            None => self.make_database(shelf, alloc, slices, count, blocks),
+            None => self.make_or_add(shelf, alloc, slices, count, blocks),
         }
     }
 
@@ -100,8 +96,7 @@ impl Engine {
         self.refusal_beside(slices, count, blocks)
     }
 
-    // What is told where nothing else speaks against so many places beside those of a database that is open: none are
-    // added yet.
+    // What speaks against so many places beside those of a database that is open, where nothing else does.
     fn refusal_beside(&self, slices: &[SliceName], count: u8, blocks: u32) -> Option<Refusal>
         requires well { IsWell self.now.host self.now.state }
         requires few { length (spec_places_open self.now.state.opened) + length slices.now * count ≤ 50 }
@@ -111,10 +106,9 @@ impl Engine {
     {
         let store = self.state.database.as_ref()?;
         let list = list_more(list_of(store), slices, count, blocks);
-        Some(told_of(store, list))
+        told_of(store, list)
     }
 
-    // Whether one of the slices isn't there.
     pub(crate) fn lack_one(&self, slices: &[SliceName]) -> bool
         requires sound { IsSound self.now.host.drives }
         ensures { result ≡ list_any (spec_is_missing self.now.host) slices.now }
@@ -122,7 +116,6 @@ impl Engine {
         slices.iter().any(|slice| self.is_missing(*slice))
     }
 
-    // Whether one isn't set aside for replicas.
     pub(crate) fn have_plain(&self, slices: &[SliceName]) -> bool
         requires sound { IsSound self.now.host.drives }
         ensures { result ≡ list_any (λ slice. spec_is_plain (spec_slice_at self.now.host.drives.slices slice)) slices.now }
@@ -130,7 +123,7 @@ impl Engine {
         slices.iter().any(|slice| self.is_plain(*slice))
     }
 
-    // Whether a first database would be made though a call failed in the last boot.
+    // Whether a first database would be made though memory isn't clean.
     fn is_down(&self) -> bool
         ensures { result ≡ (not (is_some self.now.state.opened) && not self.now.state.clean) }
     {
@@ -143,7 +136,6 @@ impl Engine {
         self.state.database.is_none() && !force
     }
 
-    // Whether one of the slices is taken, or stands twice among them.
     fn are_taken(&self, slices: &[SliceName]) -> bool
         requires sound { IsSound self.now.host.drives }
         ensures { result ≡ (list_any (spec_is_taken (case_at self.now)) slices.now || spec_is_doubled slices.now) }
@@ -151,25 +143,15 @@ impl Engine {
         self.have_taken(slices) || is_doubled(slices)
     }
 
+    // Whether another slice that is set aside for replicas has a block of one of these, or a place lies on one.
     fn have_taken(&self, slices: &[SliceName]) -> bool
         requires sound { IsSound self.now.host.drives }
         ensures { result ≡ list_any (spec_is_taken (case_at self.now)) slices.now }
     {
-        match &self.state.database {
-            Some(store) => self.meet_one(list_of(store), slices),
-            None => self.meet_one(&[], slices),
-        }
-    }
-
-    // Whether another slice that is set aside for replicas has a block of one of these, or a place lies on one.
-    fn meet_one(&self, places: &[Place], slices: &[SliceName]) -> bool
-        requires sound { IsSound self.now.host.drives }
-        ensures { result ≡ list_any (λ slice. spec_meets_db self.now.host.drives slice || list_any (λ p. spec_same_slice p.slice slice) places.now) slices.now }
-    {
+        let places = self.places();
         slices.iter().any(|slice| meets_db(&self.host.drives, *slice) || are_on(places, *slice))
     }
 
-    // Whether one has too few blocks.
     fn are_short(&self, slices: &[SliceName], count: u8, blocks: u32) -> bool
         requires sound { IsSound self.now.host.drives }
         ensures { result ≡ list_any (spec_is_short self.now.host count blocks) slices.now }
@@ -196,22 +178,21 @@ impl Engine {
         }
     }
 
-    // More places than a database lists, with those that the open one has.
     fn are_too_many(&self, slices: usize, count: u8) -> bool
         requires { IsCount count }
         ensures { result ≡ nat_lt 50 (length (spec_places_open self.now.state.opened) + slices * count) }
     {
-        slices > MOST_PLACES || self.listed() + slices * usize::from(count) > MOST_PLACES
+        slices > MOST_PLACES || self.places().len() + slices * usize::from(count) > MOST_PLACES
     }
 
-    // How many places the open database lists.
-    fn listed(&self) -> usize
-        ensures value { result ≡ length (spec_places_open self.now.state.opened) }
-        ensures few { result ≤ 50 }
+    // The places that the open database lists.
+    fn places(&self) -> &[Place]
+        ensures value { result.now ≡ spec_places_open self.now.state.opened }
+        ensures few { length result.now ≤ 50 }
     {
         match &self.state.database {
-            Some(store) => list_of(store).len(),
-            None => 0,
+            Some(store) => list_of(store),
+            None => &[],
         }
     }
 
@@ -224,6 +205,29 @@ impl Engine {
             None => 0,
         };
         room < FIRST_BLOCK + u64::from(count) * u64::from(blocks)
+    }
+
+    // A database is made, or where one is open its places become more.
+    pub(crate) fn make_or_add<S: Shelf>(
+        &mut self,
+        shelf: &mut S,
+        alloc: Global,
+        slices: &[SliceName],
+        count: u8,
+        blocks: u32,
+    ) -> Answer
+        requires ready { IsReady self.old.host (S.sizes shelf.old) }
+        requires form { (1 ≤ length slices.now) × IsCount count × IsLength blocks }
+        requires well { IsWell self.old.host self.old.state }
+        requires begun { self.old.state.begun + 1 < 2 ^ 32 }
+        requires allowed { (force : Bool) × IsAllowed (case_at self.old) (AddPlaces slices.now force count blocks) }
+        ensures { AddsPlaces S.Shelf shelf.old shelf.new self.old slices.now count blocks result self.new }
+    {
+        if self.state.database.is_some() {
+            self.add_places(shelf, alloc, slices, count, blocks)
+        } else {
+            self.make_database(shelf, alloc, slices, count, blocks)
+        }
     }
 
     // Makes the database. A failed format leaves none; where too few places took its table, some may have it though
@@ -240,12 +244,9 @@ impl Engine {
         requires form { (1 ≤ length slices.now) × IsCount count × IsLength blocks }
         requires begun { self.old.state.begun + 1 < 2 ^ 32 }
         requires entries { AreInForm self.old.state.entries }
+        requires none { self.old.state.opened ≡ None }
         requires allowed { (force : Bool) × IsAllowed (case_at self.old) (AddPlaces slices.now force count blocks) }
-        ensures moments { CreationMoments S.Shelf shelf.old shelf.new self.old slices.now count blocks }
-        ensures end { FreeEnds S.Shelf shelf.old shelf.new self.old slices.now count blocks result self.new }
-        ensures answer { (force : Bool) → HasAnswered (DriveFailures S.Shelf shelf.old shelf.new) (AddPlaces slices.now force count blocks) self.old result self.new }
-        ensures counted { (force : Bool) → IsCommandCounted S.Shelf shelf.old shelf.new self.old.host (AddPlaces slices.now force count blocks) result self.old.state.opened self.new.state.opened }
-        ensures kept { KeptAmong S.Shelf shelf.old shelf.new (drives_asked (spec_lines_asked self.old.host slices.now)) }
+        ensures { AddsPlaces S.Shelf shelf.old shelf.new self.old slices.now count blocks result self.new }
     {
         let identity = Identity {
             fresh: self.host.fresh,
@@ -265,8 +266,11 @@ impl Engine {
         }
     }
 
-    // The lines of the slices, as the table of drives has them.
-    fn lines_asked(&self, alloc: Global, slices: &[SliceName]) -> Result<Vec<SliceLine>, AllocError>
+    pub(crate) fn lines_asked(
+        &self,
+        alloc: Global,
+        slices: &[SliceName],
+    ) -> Result<Vec<SliceLine>, AllocError>
         requires sound { IsSound self.now.host.drives }
         ensures { IfOk result (λ lines. lines.items ≡ spec_lines_asked self.now.host slices.now) }
     {
@@ -280,7 +284,6 @@ impl Engine {
     }
 }
 
-// What is answered where the database isn't made.
 fn unmade(fault: CreateFault) -> Answer
     ensures { result ≡ answer_of fault }
 {
@@ -291,7 +294,6 @@ fn unmade(fault: CreateFault) -> Answer
     }
 }
 
-// Whether a slice stands in the list twice.
 fn is_doubled(slices: &[SliceName]) -> bool
     ensures { result ≡ spec_is_doubled slices.now }
 {
@@ -305,7 +307,6 @@ fn is_doubled(slices: &[SliceName]) -> bool
     false
 }
 
-// Whether one of the places is on the slice.
 pub(crate) fn are_on(places: &[Place], slice: SliceName) -> bool
     ensures { result ≡ list_any (λ p. spec_same_slice p.slice slice) places.now }
 {

@@ -1,4 +1,4 @@
-ghost use Rattle.std.specs.Prelude.{◌<◌, ◌+◌, ◌^◌, [], List};
+ghost use Rattle.std.specs.Prelude.{◌<◌, ◌+◌, ◌^◌};
 ghost use Rattle.mdv_shelf.specs.Calls.{OnReplies};
 ghost use Rattle.mdv_shelf.specs.Drives.{KeptAmong};
 ghost use Rattle.mdv_shelf.specs.Shelves.{AtEachTale, AtEnd, DriveFailures, GivingFailed, KeptOn, KeptInTime};
@@ -108,7 +108,6 @@ impl Engine {
         tell(bench, &Answer::Said(Outcome::Ok))
     }
 
-    // Carries a command out, with nothing told.
     fn carry_out<S: Shelf>(&mut self, shelf: &mut S, alloc: Global, command: &Command) -> Answer
         requires ready { IsReady self.old.host (S.sizes shelf.old) }
         requires well { IsWell self.old.host self.old.state }
@@ -131,8 +130,7 @@ impl Engine {
                 self.make_listed(shelf, alloc, *number, *force)
             }
             Command::DropPlaces { slices, force } => {
-                let refusal = self.drop_refusal(slices.as_slice(), *force);
-                Answer::Said(Outcome::Refused(refusal))
+                self.drop_places(shelf, alloc, slices.as_slice(), *force)
             }
             Command::MakeStripe { volume, slice } => self.make_stripe(
                 shelf, alloc, *volume, *slice,

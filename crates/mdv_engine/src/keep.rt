@@ -1,4 +1,3 @@
-ghost use Rattle.std.specs.Prelude.{◌≡◌};
 ghost use Rattle.mdv_shelf.specs.Shelves.{DriveFailures, GivingFailed, KeptOn};
 ghost use Rattle.mdv_shelf.specs.Calls.{OnReplies};
 ghost use Rattle.mdv_engine_law.specs.Line.{Nothing};
@@ -29,7 +28,6 @@ impl Engine {
         tell(bench, &Answer::Said(outcome))
     }
 
-    // What the block comes to, and what is kept then.
     fn keep(&mut self, alloc: Global, lines: &[u8]) -> Outcome
         ensures { HasKept self.old lines.now result self.new }
     {

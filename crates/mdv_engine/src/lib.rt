@@ -7,6 +7,7 @@ mod create;
 mod engine;
 mod keep;
 mod lists;
+mod places;
 mod print;
 mod replicas;
 mod state;

@@ -1,9 +1,9 @@
 // The list of an open database's places, and the lists that may come of it.
-ghost use Rattle.std.specs.Prelude.{◌≡◌, ◌<◌, ◌≤◌, ◌+◌, ◌*◌, ◌^◌, ◌++◌, flat_map, length, take};
-ghost use Rattle.mdv_engine_law.specs.Places.{is_on as spec_is_on, list_left as spec_list_left, list_less as spec_list_less, list_more as spec_list_more, list_of as spec_list_of, places_on};
+ghost use Rattle.std.specs.Prelude.{◌≡◌, ◌≤◌, ◌+◌, ◌*◌, length};
+ghost use Rattle.mdv_engine_law.specs.Places.{list_left as spec_list_left, list_more as spec_list_more, list_of as spec_list_of};
 
 use mdv_base::{Place, Places, SliceName};
-use mdv_plan::same_slice;
+use mdv_places::{add_places, copy_of, list_first, list_less};
 use mdv_store::Store;
 
 pub(crate) fn list_of(store: &Store) -> &[Place]
@@ -11,18 +11,6 @@ pub(crate) fn list_of(store: &Store) -> &[Place]
     ensures few { length result.now ≤ 50 }
 {
     store.table().plan.lists.last()
-}
-
-// The same places once more.
-pub(crate) fn copy_of(places: &[Place]) -> Places
-    requires { length places.now ≤ 50 }
-    ensures { result ≡ places.now }
-{
-    let mut copy = Places::new();
-    for place in places {
-        copy.push(*place);
-    }
-    copy
 }
 
 // So many places more on each of these slices, behind the others.
@@ -39,28 +27,6 @@ pub(crate) fn list_more(places: &[Place], slices: &[SliceName], count: u8, block
     list
 }
 
-fn add_places(list: &mut Places, slice: SliceName, count: u8, blocks: u32)
-    requires few { length list.old + count ≤ 50 }
-    requires count { count ≤ 50 }
-    requires blocks { blocks ≤ 8192 }
-    ensures { list.new ≡ list.old ++ places_on count blocks slice }
-{
-    for number in 0..count {
-        list.push(place_on(slice, blocks, number));
-    }
-}
-
-fn place_on(slice: SliceName, blocks: u32, number: u8) -> Place
-    requires { 16 + number * blocks < 2 ^ 32 }
-    ensures { result ≡ record { slice = slice; start = 16 + number * blocks; blocks = blocks } }
-{
-    Place {
-        slice,
-        start: 16 + u32::from(number) * blocks,
-        blocks,
-    }
-}
-
 // Those that don't lie on these slices; the first one alone, where all do.
 pub(crate) fn list_left(places: &[Place], slices: &[SliceName]) -> Places
     requires { length places.now ≤ 50 }
@@ -72,33 +38,4 @@ pub(crate) fn list_left(places: &[Place], slices: &[SliceName]) -> Places
     } else {
         list
     }
-}
-
-pub(crate) fn list_less(places: &[Place], slices: &[SliceName]) -> Places
-    requires { length places.now ≤ 50 }
-    ensures { result ≡ spec_list_less slices.now places.now }
-{
-    let mut list = Places::new();
-    for place in places {
-        if !is_on(slices, place) {
-            list.push(*place);
-        }
-    }
-    list
-}
-
-fn is_on(slices: &[SliceName], place: &Place) -> bool
-    ensures { result ≡ spec_is_on slices.now place.now }
-{
-    slices.iter().any(|slice| same_slice(place.slice, *slice))
-}
-
-fn list_first(places: &[Place]) -> Places
-    ensures { result ≡ take 1 places.now }
-{
-    let mut list = Places::new();
-    if let Some(place) = places.first() {
-        list.push(*place);
-    }
-    list
 }

@@ -41,14 +41,12 @@ fn missing(volumes: &Volumes, names: &[Named]) -> Option<Refusal>
     None
 }
 
-// Whether one of the names is of a volume that isn't there.
 fn lacks_one(volumes: &Volumes, names: &[Named]) -> bool
     ensures { result ≡ list_any (spec_names_no_volume volumes.now) names.now }
 {
     names.iter().any(|name| names_no_volume(volumes, *name))
 }
 
-// Whether one of them is a pool's.
 fn have_pool(names: &[Named]) -> bool
     ensures { result ≡ list_any spec_names_pool names.now }
 {

@@ -1,4 +1,4 @@
-ghost use Rattle.std.specs.Prelude.{◌≡◌, ◌<◌, ◌≤◌, ◌+◌, ◌^◌, length, take, Some, None, IfOk, IfErr, is_some};
+ghost use Rattle.std.specs.Prelude.{◌≡◌, ◌<◌, ◌≤◌, ◌+◌, ◌^◌, length, take, Some, None, IfOk, IfErr, IfSome, is_some};
 ghost use Rattle.std.specs.List.{list_any};
 ghost use Rattle.mdv_base.specs.Order.{first_refusal};
 ghost use Rattle.mdv_store.specs.Opened.{shortage};
@@ -10,7 +10,8 @@ ghost use Rattle.mdv_words.specs.declared.command.Command.TheVariants.{AddListed
 ghost use Rattle.mdv_words.specs.Listed.{meant};
 ghost use Rattle.mdv_engine_law.specs.Hosts.{IsReady, key_of};
 ghost use Rattle.mdv_engine_law.specs.Line.{ToMakeListed};
-ghost use Rattle.mdv_engine_law.specs.Refusals.{are_all as spec_are_all, held_of_drop, is_down as spec_is_down, is_without as spec_is_without, refusal_of, state_of_less as spec_state_of_less, told_of_lists};
+ghost use Rattle.mdv_engine_law.specs.Places.{are_all as spec_are_all};
+ghost use Rattle.mdv_engine_law.specs.Refusals.{held_of_drop, is_behind as spec_is_behind, is_down as spec_is_down, is_without as spec_is_without, refusal_of, state_of_less as spec_state_of_less, told_of_lists};
 ghost use Rattle.mdv_engine_law.specs.Standing.{CarryMoment};
 ghost use Rattle.mdv_engine.specs.Counts.{IsCommandCounted};
 ghost use Rattle.mdv_engine.specs.Ends.{HasAnswered, KeptAsAsked, NamedEnd};
@@ -19,14 +20,15 @@ ghost use Rattle.mdv_engine.specs.Listed.{IsToMake};
 
 use crate::create::are_on;
 use crate::engine::Engine;
-use crate::lists::{copy_of, list_left, list_less, list_of};
+use crate::lists::{list_left, list_of};
 use mdv_base::{DriveName, Place, Places, Refusal, SliceName, StateWord};
 use mdv_engine_law::{Answer, Outcome};
+use mdv_places::{copy_of, list_less};
 use mdv_plan::slice_at;
 use mdv_shelf::Shelf;
 use mdv_store::{CommitFault, Need, Store, short};
 use mdv_table::Lists;
-use mdv_words::{Listed, replicas_listed};
+use mdv_words::replicas_listed;
 use std::alloc::Global;
 
 // What stands behind the slices of a list.
@@ -67,7 +69,7 @@ impl Engine {
         ensures kept { KeptAsAsked S.Shelf shelf.old shelf.new self.old.host self.old.state (meant self.old.state.entries (AddListed number force)) }
     {
         match self.creation_listed(number, force) {
-            Ok(creation) => self.make_database(
+            Ok(creation) => self.make_or_add(
                 shelf,
                 alloc,
                 &creation.slices[..creation.len],
@@ -88,50 +90,45 @@ impl Engine {
         let Some(said) = replicas_listed(self.state.entries.as_slice(), number) else {
             return Err(Refusal::BadLine);
         };
-        let Listed {
-            slices,
-            count,
-            blocks,
-        } = said;
-        match self.creation_refusal(slices, force, count, blocks) {
+        match self.creation_refusal(said.slices, force, said.count, said.blocks) {
             Some(refusal) => Err(refusal),
             None => Ok(Creation {
-                slices: few_slices(slices),
-                len: slices.len(),
-                count,
-                blocks,
+                slices: few_slices(said.slices),
+                len: said.slices.len(),
+                count: said.count,
+                blocks: said.blocks,
             }),
         }
     }
 
-    // `metadb -d SLICE ..`, or with `-f`, by the first cause that it is refused for: none is dropped yet.
-    pub(crate) fn drop_refusal(&self, slices: &[SliceName], force: bool) -> Refusal
+    // The first cause that places to be dropped are refused for before anything is done.
+    pub(crate) fn drop_refusal(&self, slices: &[SliceName], force: bool) -> Option<Refusal>
         requires sound { IsSound self.now.host.drives }
         requires well { IsWell self.now.host self.now.state }
-        ensures { refusal_of (case_at self.now) (DropPlaces slices.now force) ≡ Some result }
+        ensures { refusal_of (case_at self.now) (DropPlaces slices.now force) ≡ result }
     {
         match &self.state.database {
             Some(store) => self.less_refusal(store, slices, force),
-            None => Refusal::NoDatabase,
+            None => Some(Refusal::NoDatabase),
         }
     }
 
-    fn less_refusal(&self, store: &Store, slices: &[SliceName], force: bool) -> Refusal
+    fn less_refusal(&self, store: &Store, slices: &[SliceName], force: bool) -> Option<Refusal>
         requires sound { IsSound self.now.host.drives }
         requires half { shortage store.now ≡ None }
-        ensures { first_refusal (held_of_drop (case_at self.now) (Some store.now) slices.now force) ≡ Some result }
+        ensures { first_refusal (held_of_drop (case_at self.now) (Some store.now) slices.now force) ≡ result }
     {
         if self.lack_one(slices) {
-            return Refusal::NoSuchSlice;
+            return Some(Refusal::NoSuchSlice);
         }
         if self.have_plain(slices) {
-            return Refusal::WrongKind;
+            return Some(Refusal::WrongKind);
         }
         if let Some(word) = self.state_of_less(store, slices) {
-            return Refusal::WrongState(word);
+            return Some(Refusal::WrongState(word));
         }
         if are_all(store, slices) && !force {
-            return Refusal::NeedForce;
+            return Some(Refusal::NeedForce);
         }
         told_of(store, list_left(list_of(store), slices))
     }
@@ -150,10 +147,22 @@ impl Engine {
         if is_inactive(store, list_left(list_of(store), slices)) {
             return Some(StateWord::Inactive);
         }
+        if are_all(store, slices) && is_behind(list_of(store)) {
+            return Some(StateWord::Inactive);
+        }
         None
     }
 
-    // Whether the last boot didn't bring up the drive of one of the places.
+    // Whether no place of the open database is left without those on these slices.
+    pub(crate) fn are_to_go(&self, slices: &[SliceName]) -> bool
+        ensures { IfSome self.now.state.opened (λ o. result ≡ spec_are_all o slices.now) }
+    {
+        match &self.state.database {
+            Some(store) => are_all(store, slices),
+            None => false,
+        }
+    }
+
     fn have_down(&self, places: &[Place]) -> bool
         requires sound { IsSound self.now.host.drives }
         ensures { result ≡ list_any (spec_is_down self.now.host self.now.state.up) places.now }
@@ -182,23 +191,21 @@ fn few_slices(slices: &[SliceName]) -> [SliceName; 50]
     few
 }
 
-// What is told where nothing else speaks against it that this list comes beside that of the open database: that the record of both is too
-// long, or that no list comes yet.
-pub(crate) fn told_of(store: &Store, list: Places) -> Refusal
+// E17, where the record of this list beside that of the open database is too long.
+pub(crate) fn told_of(store: &Store, list: Places) -> Option<Refusal>
     requires { shortage store.now ≡ None }
     ensures { result ≡ told_of_lists store.now list }
 {
     let lists = Lists::Two(copy_of(list_of(store)), list);
     match store.check_lists(&lists) {
-        Err(CommitFault::TooLong(fault)) => Refusal::ReplicaFull {
+        Err(CommitFault::TooLong(fault)) => Some(Refusal::ReplicaFull {
             bytes: fault.bytes,
             room: fault.room,
-        },
-        _ => Refusal::BadLine,
+        }),
+        _ => None,
     }
 }
 
-// Whether no place of the database lies on one of the slices.
 fn is_without_one(store: &Store, slices: &[SliceName]) -> bool
     ensures { result ≡ list_any (spec_is_without store.now) slices.now }
 {
@@ -213,7 +220,16 @@ fn are_all(store: &Store, slices: &[SliceName]) -> bool
     list_less(list_of(store), slices).as_slice().is_empty()
 }
 
-// Whether fewer than half of these places are active.
+// Whether the first of these places isn't the first one of its slice: the wipes of those before it would hide it.
+fn is_behind(places: &[Place]) -> bool
+    ensures { result ≡ spec_is_behind places.now }
+{
+    match places.first() {
+        Some(place) => place.start != 16,
+        None => false,
+    }
+}
+
 fn is_inactive(store: &Store, places: Places) -> bool
     ensures { result ≡ is_some (short_in Half store.now.seats places) }
 {

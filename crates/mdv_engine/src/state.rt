@@ -14,7 +14,7 @@ pub struct State {
     pub database: Option<Store>,
     /// The drives that the last boot brought up.
     pub up: DriveSet,
-    /// No call failed in the last boot.
+    /// No call failed in the last boot, nor in a write of blocks, or the blanking of a last replica, since.
     pub clean: bool,
     /// How many creations the run has begun.
     pub begun: u32,
@@ -54,12 +54,6 @@ impl State {
     pub(crate) fn unbooted(alloc: Global, begun: u32) -> State
         ensures { result ≡ unbooted begun }
     {
-        State {
-            database: None,
-            up: DriveSet::new(),
-            clean: false,
-            begun,
-            entries: Vec::new(alloc),
-        }
+        State::booted(alloc, None, DriveSet::new(), false, begun)
     }
 }

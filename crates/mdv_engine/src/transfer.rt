@@ -1,4 +1,4 @@
-ghost use Rattle.std.specs.Prelude.{◌≡◌, ◌≤◌, ◌+◌, ◌^◌, ℕ, [], ◌∷◌, length, None, Some, Err, IfOk, IfErr, OnOk};
+ghost use Rattle.std.specs.Prelude.{◌≡◌, ◌≤◌, ◌+◌, ◌^◌, [], ◌∷◌, length, None, Some, Err, IfOk, IfErr, OnOk};
 ghost use Rattle.mdv_status.specs.Values.{values_reply};
 ghost use Rattle.mdv_table.specs.declared.volume.Base.TheVariants.{Slice};
 ghost use Rattle.mdv_table.specs.declared.volume.VolumeKind.TheVariants.{Stripe as AnyStripe};
@@ -16,7 +16,7 @@ ghost use Rattle.mdv_engine_law.specs.Hosts.{IsReady, key_of};
 ghost use Rattle.mdv_engine_law.specs.Line.{AreBlocksAt, ToDo, ToSee};
 ghost use Rattle.mdv_engine_law.specs.Refusals.{blocks_refusal, read_refusal, size_of};
 ghost use Rattle.mdv_engine_law.specs.Standing.{CarryMoment};
-ghost use Rattle.mdv_engine.specs.Ends.{AreBlocksCounted, AreRead, AreWritten, CommandEnd, HasAnswered, KeptOnOne};
+ghost use Rattle.mdv_engine.specs.Ends.{AreBlocksCounted, AreRead, AreWritten, CommandEnd, HasAnswered, KeptOnOne, after_write};
 
 use crate::engine::Engine;
 use mdv_base::{Block, DriveNo, Failed, Refusal, SliceName, VolId, ZERO_BLOCK};
@@ -58,7 +58,8 @@ impl Engine {
     }
 
     /// Writes blocks of a volume, from block `at` of it on: 1 to 1024 of them, with one write and one sync of the
-    /// drive. No memory is taken. Where a call failed, each of the blocks may be old or new. The buffer stays as it is.
+    /// drive. No memory is taken. Where a call failed, each of the blocks may be old or new, also behind a crash: till the
+    /// next boot no database is made. The buffer stays as it is.
     #[tactic(auto, using(mdv_engine_law::proofs::Kept::kept_on_itself))]
     pub fn write_blocks<S: Shelf>(
         &mut self,
@@ -72,14 +73,17 @@ impl Engine {
         requires count { IsCount (length from.old) }
         ensures put { AreWritten S.Shelf shelf.old shelf.new self.old volume at from.old result }
         ensures err { IfErr result (HasBlocksCause (DriveFailures S.Shelf shelf.old shelf.new) self.old.host self.old.state volume at (length from.old)) }
-        ensures same { (self.new ≡ self.old) × (from.new ≡ from.old) }
+        ensures same { (self.new ≡ after_write self.old result) × (from.new ≡ from.old) }
         ensures counted { AreBlocksCounted S.Shelf shelf.old shelf.new 2 (length from.old) self.old volume at (length from.old) result }
         ensures kept { KeptOnOne S.Shelf shelf.old shelf.new }
     {
         let device = self.place_of(volume, at, from.len() as u64)?;
         match mdv_dev::write_blocks(&device, shelf, at, from) {
             Ok(()) => Ok(()),
-            Err(_) => Err(Refusal::IoFault),
+            Err(_) => {
+                self.state.clean = false;
+                Err(Refusal::IoFault)
+            }
         }
     }
 
@@ -200,7 +204,6 @@ impl Engine {
         Ok(run)
     }
 
-    // Where the volume lies.
     fn run_of(&self, volume: &Volume) -> DriveRun
         requires sound { IsSound self.now.host.drives }
         requires kind { IsKindOf self.now.host.drives volume.now.kind }

@@ -1,7 +1,7 @@
 -- The one table that a change makes, whichever events of the log it came by; or that one with its change of places over.
 use Rattle.std.proofs.Common.{◌≡◌, ◌⊎◌, inl, inr, ⊎_elim, true, false, List, [], ◌∷◌, Option, Some, None, refl, sym, ◌∙◌, ap, subst}
 use Rattle.mdv_base.specs.declared.mark.Mark.{Mark}
-use Rattle.mdv_store_law.specs.Changes.{AddPlaces, Change, DropPlaces, FirstPlace, OfPlan}
+use Rattle.mdv_store_law.specs.Changes.{AddListed, TellsList, AddPlaces, Change, DropPlaces, FirstPlace, OfPlan}
 use Rattle.mdv_store_law.specs.Log as log
 use Rattle.mdv_store_law.specs.Log.{IsBegun, IsLog, IsMade, IsSameOrSettled, Log, Version, answered, log_after}
 use Rattle.mdv_store_law.specs.Part.{IsPart}
@@ -18,29 +18,31 @@ use Rattle.mdv_volumes.specs.HistoryLaws.{IsAsked}
 use Rattle.mdv_volumes.proofs.Found.{newest_found, older_found, only_found}
 use Rattle.mdv_engine_law.proofs.Lifting.{asked_change}
 
--- what a change makes of a table is one table
-made_one : (g : Geometry) (change : Change) (old a b : Table) → IsMade g (Some change) old a → IsMade g (Some change) old b → a ≡ b
-made_one g (OfPlan change) old a b one other =
+-- what a change makes of a table that tells its list is one table
+made_one : (g : Geometry) (change : Change) (old a b : Table) → TellsList change → IsMade g (Some change) old a → IsMade g (Some change) old b → a ≡ b
+made_one g (OfPlan change) old a b tells one other =
     let plan : a.plan ≡ b.plan = one.0.1 ∙ sym other.0.1 in
     let status : a.status ≡ b.status = one.1 ∙ sym other.1 in
     λ i. record { plan = plan i; status = status i }
-made_one g (AddPlaces slices count blocks) old a b one other = one ∙ sym other
-made_one g (DropPlaces slices) old a b one other = one ∙ sym other
-made_one g FirstPlace old a b one other = one ∙ sym other
+made_one g (AddPlaces slices count blocks) old a b tells one other = one ∙ sym other
+made_one g (AddListed number) old a b tells one other = absurd tells
+made_one g (DropPlaces slices) old a b tells one other = one ∙ sym other
+made_one g FirstPlace old a b tells one other = one ∙ sym other
 
 -- once its change of places is over the change makes of it what it made before, or that with that change over
-made_over : (g : Geometry) (change : Change) (old new other : Table) → IsMade g (Some change) old new → IsMade g (Some change) (settled old) other → IsSameOrSettled new other
-made_over g (OfPlan (MakeStripe volume slice)) old new other made over =
+made_over : (g : Geometry) (change : Change) (old new other : Table) → TellsList change → IsMade g (Some change) old new → IsMade g (Some change) (settled old) other → IsSameOrSettled new other
+made_over g (OfPlan (MakeStripe volume slice)) old new other tells made over =
     let plan : other.plan ≡ (settled new).plan = over.0.1 ∙ ap (λ (p : Plan). record p { lists = One (last_of p.lists) }) (sym made.0.1) in
     let status : other.status ≡ new.status = over.1 ∙ sym made.1 in
     inr (λ i. record { plan = plan i; status = status i })
-made_over g (AddPlaces slices count blocks) old new other made over = inl (over ∙ sym made)
-made_over g (DropPlaces slices) old new other made over = inl (over ∙ sym made)
-made_over g FirstPlace old new other made over = inl (over ∙ sym made)
+made_over g (AddPlaces slices count blocks) old new other tells made over = inl (over ∙ sym made)
+made_over g (AddListed number) old new other tells made over = absurd tells
+made_over g (DropPlaces slices) old new other tells made over = inl (over ∙ sym made)
+made_over g FirstPlace old new other tells made over = inl (over ∙ sym made)
 
-made_more : (g : Geometry) (change : Change) (old new from other : Table) → IsMade g (Some change) old new → IsSameOrSettled old from → IsMade g (Some change) from other → IsSameOrSettled new other
-made_more g change old new from other made (inl same) is = inl (made_one g change old other new (subst (λ (t : Table). IsMade g (Some change) t other) same is) made)
-made_more g change old new from other made (inr over) is = made_over g change old new other made (subst (λ (t : Table). IsMade g (Some change) t other) over is)
+made_more : (g : Geometry) (change : Change) (old new from other : Table) → TellsList change → IsMade g (Some change) old new → IsSameOrSettled old from → IsMade g (Some change) from other → IsSameOrSettled new other
+made_more g change old new from other tells made (inl same) is = inl (made_one g change old other new tells (subst (λ (t : Table). IsMade g (Some change) t other) same is) made)
+made_more g change old new from other tells made (inr over) is = made_over g change old new other tells made (subst (λ (t : Table). IsMade g (Some change) t other) over is)
 
 none_left : (es : List log.Event) (table : Table) → IsPart (log.begun_by es) [] → IsAsked es table → ⊥
 none_left es table within is = let asked = asked_change es table is in empty (log.begun_by es) asked.0 within asked.1
@@ -49,7 +51,7 @@ none_left es table within is = let asked = asked_change es table is in empty (lo
     empty [] change within is = is
     empty (x ∷ l) change within is = within
 
-module _ (g : Geometry) (change : Change) (newest table : Table) (made : IsMade g (Some change) newest table) where
+module _ (g : Geometry) (change : Change) (tells : TellsList change) (newest table : Table) (made : IsMade g (Some change) newest table) where
   -- a boot finds this table alone, or it with its change of places over, and there is one
   pub record Alone (lg : Log) : Type 0 where
     pub some : IsBegun lg.family
@@ -89,7 +91,7 @@ module _ (g : Geometry) (change : Change) (newest table : Table) (made : IsMade 
     by : log.IsFirst lg.issued lg.family (Some c) before other ⊎ log.IsNext g lg.family (Some c) before other → IsSameOrSettled table other
     by (inl first) = absurd (cc (first.unasked))
     by (inr next) =
-        made_more g change newest table next.parent.table other made (alone.each next.parent (next.one_of, next.not_older)) (subst (λ (x : Change). IsMade g (Some x) next.parent.table other) same next.made)
+        made_more g change newest table next.parent.table other tells made (alone.each next.parent (next.one_of, next.not_older)) (subst (λ (x : Change). IsMade g (Some x) next.parent.table other) same next.made)
 
   -- each table that a change makes is that one, or it with its change of places over
   pub asked_is : (lg : Log) (es : List log.Event) → IsLog g lg → Alone lg → log.IsCourse g lg es → IsPart (log.begun_by es) (Some change ∷ []) → (other : Table) → IsAsked es other → IsSameOrSettled table other

@@ -1,11 +1,13 @@
 -- What a boot leaves of a host's history, and what is known then.
 use Rattle.std.proofs.Common.{◌≡◌, ◌⊎◌, inl, inr, ◌<◌, ℕ, zero, suc, Bool, true, false, List, [], ◌∷◌, ◌++◌, Option, Some, None, Contains, refl, sym, ◌∙◌, ap, subst, arith}
 use Rattle.std.proofs.lemmas.List.Elements.{Contains-append_left, Contains-append_right, Contains-push}
+use Rattle.mdv_databases.proofs.Freed.{freed_blank}
 use Rattle.mdv_databases.proofs.Lists.{key_itself}
-use Rattle.mdv_databases.specs.Booting.{IsBootedIn}
+use Rattle.mdv_databases.specs.Booting.{IsBootedIn, MeetsStale}
 use Rattle.mdv_databases.specs.Going.{GoOn, with_events}
-use Rattle.mdv_databases.specs.Standing.{AreAnew, Stand}
-use Rattle.mdv_engine_law.specs.Below.{AreWoken, Boots, Database, DriveNo, Drives, Event, HasNoTable, History, Identity, IsMapOf, IsOpenIn, IsOpenedAt, Key, KeptOutside, Map, MayLeave, Opened, Site, Table, Tale, VolId, area_of_map, told, last, log_of, has_drive, history_after, history_after_all, site_area, site_of}
+use Rattle.mdv_databases.specs.Lasting.{AreFreed}
+use Rattle.mdv_databases.specs.Standing.{Stand}
+use Rattle.mdv_engine_law.specs.Below.{AreWoken, Boots, Database, DriveNo, Drives, Event, HasNoTable, History, Identity, IsMapOf, IsOpenIn, IsOpenedAt, Key, KeptOutside, Log, Map, MayLeave, Opened, Site, Table, Tale, VolId, area_of_map, told, last, log_of, has_drive, history_after, history_after_all, site_area, site_of}
 use Rattle.mdv_store.specs.Commit.{AnyLog, IsNewestWritten}
 use Rattle.mdv_store_law.specs.Log as log
 use Rattle.mdv_store_law.specs.Part.{IsPart}
@@ -17,17 +19,18 @@ use Rattle.mdv_volumes.specs.HistoryLaws.{IsBooted, Waking, wakings}
 use Rattle.mdv_volumes.proofs.Tables.{tables_lie}
 use Rattle.mdv_volumes.proofs.Waking.{boots_go}
 use Rattle.mdv_volumes.proofs.Standing.{frames_stand}
+use Rattle.mdv_shelf.proofs.Frame.{kept_outside_same}
 use Rattle.mdv_engine_law.specs.Awake.{BootBegins, is_in}
 use Rattle.mdv_engine_law.specs.declared.host.Host.{Host}
 use Rattle.mdv_engine_law.specs.Hosts.{IsReady, key_of}
-use Rattle.mdv_engine_law.specs.Line.{booted_with}
-use Rattle.mdv_engine_law.specs.Standing.{AreOwn, StandsAt, Goes, IsOfRun, Knows, IsKnown, BootMoment, BootedTo}
-use Rattle.mdv_engine_law.proofs.Going.{AllAwake, goes_more, goes_none, happened}
+use Rattle.mdv_engine_law.specs.Line.{Memory, booted_with}
+use Rattle.mdv_engine_law.specs.Standing.{AreOwn, MeetsStaleAt, StandsAt, Goes, IsOfRun, Knows, IsKnown, BootMoment, BootedTo}
+use Rattle.mdv_engine_law.proofs.Going.{AllAwake, goes_more, goes_none, happened, met_or}
 use Rattle.mdv_engine_law.proofs.Lifting.{lift_log, never_asked}
 use Rattle.mdv_engine_law.proofs.Ready.{own_drives_lie}
 use Rattle.mdv_engine_law.proofs.Refusing.{IsFree}
 use Rattle.mdv_engine_law.proofs.Owning.{own_gone, own_still}
-use Rattle.mdv_engine_law.proofs.Unused.{not_true, plain_outside}
+use Rattle.mdv_engine_law.proofs.Steady.{not_true, plain_outside}
 
 -- the first numbers, so many
 abbrev all_below : ℕ → Drives
@@ -55,7 +58,7 @@ wakings_awake : (host : Host) (key : Key) (ws : List Waking) (h : History) → A
 wakings_awake host key [] h = tt
 wakings_awake host key (w ∷ ws) h = (tt, wakings_awake host key ws _)
 
-wakings_issue : (host : Host) (key : Key) (ws : List Waking) → AreAll (IsIssue (IsOfRun host)) (wakings key ws)
+wakings_issue : (host : Host) (key : Key) (ws : List Waking) → AreAll (IsIssue (IsOfRun host [])) (wakings key ws)
 wakings_issue host key [] = tt
 wakings_issue host key (w ∷ ws) = (tt, wakings_issue host key ws)
 
@@ -63,22 +66,40 @@ wakings_issue host key (w ∷ ws) = (tt, wakings_issue host key ws)
 abbrev pub HasBegun : Host → Drives → History → List Event → History → Type 0
 HasBegun host up before es h = BootBegins (key_of host) up es × (h.up (key_of host) ≡ up) × ((begun : ℕ) → AreOwn host begun before → AreOwn host begun h)
 
--- how all databases go on while one boots: they stand as they did, or the key's current one goes on with nothing asked
+-- a boot of the host that begins there meets a stale vote
+abbrev pub MeetsStaleIn : Host → List Database → Tale → Type 0
+MeetsStaleIn host all t = (up : Drives) × MeetsStale up host.drives all (key_of host) (last t)
+
+-- how all databases go on while one boots: they stand as they did, or the key's current one goes on with nothing asked, if the boot met no stale vote
 abbrev pub BootsOn : Host → Tale → Tale → Type 0
-BootsOn host t m = (all : List Database) → Stand host.drives all t → AreAnew all → Stand host.drives all m ⊎ ((identity : Identity) × GoOn host.drives all (key_of host) identity [] AnyLog m)
+BootsOn host t m = (all : List Database) → Stand host.drives all t → Stand host.drives all m ⊎ (((identity : Identity) × GoOn host.drives all (key_of host) identity [] AnyLog m) ⊎ MeetsStaleIn host all t)
+
+-- and where one is adopted
+abbrev pub AdoptsOn : Host → Opened → Tale → Tale → Type 0
+AdoptsOn host o t u = (all : List Database) → Stand host.drives all t → IsBootedIn host.drives all (key_of host) o u ⊎ MeetsStaleIn host all t
 
 module _ (host : Host) (sizes : List ℕ) (ready : IsReady host sizes) (t : Tale) (up : Drives) where
   -- a boot begins, by which nothing is done
   begins : (h : History) → StandsAt host h t → StandsAt host (history_after h (Boots (key_of host) up)) t
-  begins h stands = record { databases = stands.databases; anew = stands.anew; laid = stands.laid; apart = stands.apart; volumes = stands.volumes }
+  begins h stands = record { databases = stands.databases; laid = stands.laid; apart = stands.apart; volumes = stands.volumes }
 
   has_begun : (h : History) → HasBegun host up h (Boots (key_of host) up ∷ []) (history_after h (Boots (key_of host) up))
   has_begun h = (Contains-push [] (Boots (key_of host) up), own_up, λ number its. own_still host number h its number (history_after h (Boots (key_of host) up)) (omega arith) refl) where
     own_up : (history_after h (Boots (key_of host) up)).up (key_of host) ≡ up
     own_up = let itself = key_itself (key_of host) in rw itself refl
 
-  begun : (h : History) → StandsAt host h t → Goes host [] [] (λ es g. HasBegun host up h es g) t h
-  begun h stands = record { es = Boots (key_of host) up ∷ []; course = ((tt, tt), tt); come = record { tells = refl; issues = (tt, tt); begins = tt }; stands = begins h stands; after = has_begun h }
+  abbrev behind : History → History
+  behind h = history_after h (Boots (key_of host) up)
+
+  -- what goes on from there goes on from before
+  boot_then : (Then : List Event → History → Type 0) (m : Tale) (h : History) → Goes host [] [] (λ fs. Then (Boots (key_of host) up ∷ fs)) m (behind h) → Goes host [] [] Then m h
+  boot_then Then m h goes = record {
+    es = Boots (key_of host) up ∷ goes.es;
+    course = ((tt, tt), goes.course);
+    come = record { tells = goes.come.tells; issues = (tt, goes.come.issues); begins = goes.come.begins };
+    stands = goes.stands;
+    after = goes.after;
+  }
 
   its_site : (m : Tale) → KeptOutside (site_area host.site) t m → KeptOutside (site_area (site_of host.drives (key_of host))) t m
   its_site m kept = subst (λ (s : Site). KeptOutside (site_area s) t m) ready.site kept
@@ -87,7 +108,6 @@ module _ (host : Host) (sizes : List ℕ) (ready : IsReady host sizes) (t : Tale
   stands_beside : (h : History) (m : Tale) → KeptOutside (site_area host.site) t m → StandsAt host h t → Stand host.drives h.databases m → StandsAt host h m
   stands_beside h m kept stands databases = record {
     databases = databases;
-    anew = stands.anew;
     laid = stands.laid;
     apart = stands.apart;
     volumes = λ key volume v named.
@@ -107,37 +127,39 @@ module _ (host : Host) (sizes : List ℕ) (ready : IsReady host sizes) (t : Tale
   gone before g k es fs changes has databases drives =
       (booted_first (key_of host) up es fs has.0, still g k drives has.1, λ number its. own_gone host number g (has.2 number its) (key_of host) changes number k (omega arith) databases)
 
+  -- what happens to the key's current one behind its beginning, with nothing asked
+  current_then : (After : Log → Type 0) (m : Tale) → KeptOutside (site_area host.site) t m → (h : History) → StandsAt host h t → (Then : List Event → History → Type 0) (identity : Identity) (on : GoOn host.drives h.databases (key_of host) identity [] After m)
+      → ((es : List Event) (g : History) → StandsAt host g m → g.databases ≡ with_events (key_of host) on.es h.databases → HasBegun host up h es g → Then es g) → Goes host [] [] Then m h
+  current_then After m kept h stands Then identity on then = boot_then Then m h
+      (lift_log host [] (λ fs. Then (Boots (key_of host) up ∷ fs)) (key_of host) identity [] After t m (its_site m kept) tt tt (behind h) (begins h stands) on
+      (λ table asked. absurd (never_asked on.es table (nothing on.es on.come.begins) asked))
+      (λ fs k now databases woken drives. then (Boots (key_of host) up ∷ fs) k now databases (gone h (behind h) k (Boots (key_of host) up ∷ []) fs on.es (has_begun h) databases drives)))
+
   -- the databases go on by what a boot does there
   pub booting : (m : Tale) → KeptOutside (site_area host.site) t m → BootsOn host t m → (h : History) → StandsAt host h t → (Then : List Event → History → Type 0)
-      → ((es : List Event) (g : History) → StandsAt host g m → HasBegun host up h es g → Then es g) → Goes host [] [] Then m h
-  booting m kept goes h stands Then then =
-      goes_more host [] [] [] [] [] (λ es g. HasBegun host up h es g) Then t m h tt (begun h stands) (λ es g there has. by es g there has (goes g.databases there.databases there.anew))
-    where
-      by : (es : List Event) (g : History) → StandsAt host g t → HasBegun host up h es g → Stand host.drives g.databases m ⊎ ((identity : Identity) × GoOn host.drives g.databases (key_of host) identity [] AnyLog m) → Goes host [] [] (λ fs. Then (es ++ fs)) m g
-      by es g there has (inl databases) =
-          let now = stands_beside g m kept there databases in
-          goes_none host [] (λ fs. Then (es ++ fs)) m g now (then (es ++ []) g now (booted_first (key_of host) up es [] has.0, has.1, has.2))
-      by es g there has (inr (identity, on)) =
-          lift_log host [] (λ fs. Then (es ++ fs)) (key_of host) identity [] AnyLog t m (its_site m kept) tt tt g there on
-          (λ table asked. absurd (never_asked on.es table (nothing on.es on.come.begins) asked))
-          (λ fs k now databases woken drives. then (es ++ fs) k now (gone h g k es fs on.es has databases drives))
+      → ((es : List Event) (g : History) → StandsAt host g m → HasBegun host up h es g → Then es g) → MeetsStaleAt host h t ⊎ Goes host [] [] Then m h
+  booting m kept goes h stands Then then = by (goes h.databases stands.databases) where
+    by : Stand host.drives h.databases m ⊎ (((identity : Identity) × GoOn host.drives h.databases (key_of host) identity [] AnyLog m) ⊎ MeetsStaleIn host h.databases t) → MeetsStaleAt host h t ⊎ Goes host [] [] Then m h
+    by (inl databases) =
+        let now = stands_beside (behind h) m kept (begins h stands) databases in
+        inr (boot_then Then m h (goes_none host [] (λ fs. Then (Boots (key_of host) up ∷ fs)) m (behind h) now (then (Boots (key_of host) up ∷ []) (behind h) now (has_begun h))))
+    by (inr (inl (identity, on))) = inr (current_then AnyLog m kept h stands Then identity on (λ es g now databases has. then es g now has))
+    by (inr (inr stale)) = inl stale
 
   -- the key's current one is adopted
-  pub adopting : (o : Opened) (u : Tale) → KeptOutside (site_area host.site) t u → ((all : List Database) → Stand host.drives all t → AreAnew all → IsBootedIn host.drives all (key_of host) o u) → (h : History) → StandsAt host h t
-      → (Then : List Event → History → Type 0) → ((es : List Event) (g : History) → StandsAt host g u → HasBegun host up h es g → IsOpenIn host.drives o g.databases u → Then es g) → Goes host [] [] Then u h
-  adopting o u kept goes h stands Then then =
-      goes_more host [] [] [] [] [] (λ es g. HasBegun host up h es g) Then t u h tt (begun h stands) (λ es g there has.
-      (let is = goes g.databases there.databases there.anew in
-      let on = is.goes in
-      lift_log host [] (λ fs. Then (es ++ fs)) (key_of host) o.identity [] (λ lg. IsNewestWritten lg o.mark o.table) t u (its_site u kept) tt tt g there on
-      (λ table asked. absurd (never_asked on.es table (nothing on.es on.come.begins) asked))
-      (λ fs k now databases woken drives. then (es ++ fs) k now (gone h g k es fs on.es has databases drives) (subst (λ (ds : List Database). IsOpenIn host.drives o ds u) (sym databases) is.is_open))))
+  pub adopting : (o : Opened) (u : Tale) → KeptOutside (site_area host.site) t u → AdoptsOn host o t u → (h : History) → StandsAt host h t
+      → (Then : List Event → History → Type 0) → ((es : List Event) (g : History) → StandsAt host g u → HasBegun host up h es g → IsOpenIn host.drives o g.databases u → Then es g) → MeetsStaleAt host h t ⊎ Goes host [] [] Then u h
+  adopting o u kept goes h stands Then then = by (goes h.databases stands.databases) where
+    by : IsBootedIn host.drives h.databases (key_of host) o u ⊎ MeetsStaleIn host h.databases t → MeetsStaleAt host h t ⊎ Goes host [] [] Then u h
+    by (inl is) = inr (current_then (λ lg. IsNewestWritten lg o.mark o.table) u kept h stands Then o.identity is.goes
+        (λ es g now databases has. then es g now has (subst (λ (ds : List Database). IsOpenIn host.drives o ds u) (sym databases) is.is_open)))
+    by (inr stale) = inl stale
 
   -- Behind it a crash leaves what a read gives of each block of the drives that it brought up, but for those where replicas may lie.
   module _ (u : Tale) (kept : KeptOutside (site_area host.site) t u) (quiet : told u ≡ told t) (clean : Bool) (number : ℕ) where
     free : ((drive : DriveNo) (block : ℕ) → has_drive up drive ≡ true → site_area host.site drive.0 block ≡ false → (x : List ℕ) → MayLeave u drive.0 block x → x ≡ last u drive.0 block)
         → (opened : Option Opened) → IsFree host (booted_with opened up clean number) u
-    free rests opened drive block on unused x left = rests (record { 0 = drive }) block on (plain_outside host sizes ready drive block unused.plain) x left
+    free rests opened drive block on is x left = rests (record { 0 = drive }) block on (plain_outside host sizes ready drive block is.plain) x left
 
     -- it adopted a database, whose newest table this is: each volume on those drives is woken
     woken : ((drive : DriveNo) (block : ℕ) → has_drive up drive ≡ true → site_area host.site drive.0 block ≡ false → (x : List ℕ) → MayLeave u drive.0 block x → x ≡ last u drive.0 block) → (o : Opened) → o.key ≡ key_of host → IsOfGeometry host.drives o.table
@@ -146,6 +168,7 @@ module _ (host : Host) (sizes : List ℕ) (ready : IsReady host sizes) (t : Tale
     woken rests o its of_geometry g there is_open drives =
         let is : IsNewestWritten (log_of g.databases (key_of host)) o.mark o.table = subst (λ (k : Key). IsNewestWritten (log_of g.databases k) o.mark o.table) its is_open.newest in
         let booted : IsBooted host.drives g (key_of host) is.newest.version (is_in up) u = record {
+          lives = subst (λ (k : Key). (log_of g.databases k).fate ≡ log.Lives) its is_open.lives;
           older = is.newest.older;
           family = is.newest.family;
           written = is.written;
@@ -166,18 +189,16 @@ module _ (host : Host) (sizes : List ℕ) (ready : IsReady host sizes) (t : Tale
             (tables_lie.laid host.drives table ready.sound listed).clear volume v lies (key_of host) drive block has (subst (λ (s : Site). site_area s drive block ≡ true) ready.site here))
 
     pub booted_adopted : ((drive : DriveNo) (block : ℕ) → has_drive up drive ≡ true → site_area host.site drive.0 block ≡ false → (x : List ℕ) → MayLeave u drive.0 block x → x ≡ last u drive.0 block)
-        → (o : Opened) → o.key ≡ key_of host → IsOpenedAt host.drives o u → ((all : List Database) → Stand host.drives all t → AreAnew all → IsBootedIn host.drives all (key_of host) o u)
-        → BootedTo host (booted_with (Some o) up clean number) t u
+        → (o : Opened) → o.key ≡ key_of host → IsOpenedAt host.drives o u → AdoptsOn host o t u → BootedTo host (booted_with (Some o) up clean number) t u
     booted_adopted rests o its opened goes =
         let memory = booted_with (Some o) up clean number in
-        let knows : Knows host memory u = record { nothing = λ none calm. absurd (cc (none)); opened = (its, opened); unused = free rests (Some o) } in
+        let knows : Knows host memory u = record { opened = (its, opened); steady = free rests (Some o) } in
         record {
           kept = kept;
           quiet = quiet;
           knows = knows;
-          goes = λ h stands own.
-              goes_more host [] [] [] [] [] (λ es g. HasBegun host up h es g × IsOpenIn host.drives o g.databases u) (λ es g. IsKnown host memory g u × BootBegins (key_of host) up es) u u h tt
-              (adopting o u kept goes h stands (λ es g. HasBegun host up h es g × IsOpenIn host.drives o g.databases u) (λ es g there has is. (has, is)))
+          goes = λ h stands own. met_or
+              (λ adopted. goes_more host [] [] [] [] [] (λ es g. HasBegun host up h es g × IsOpenIn host.drives o g.databases u) (λ es g. IsKnown host memory g u × BootBegins (key_of host) up es) u u h tt adopted
               (λ es g there before. (
               let went = woken rests o its opened.of_geometry g there before.1 before.0.1 in
               record {
@@ -190,6 +211,7 @@ module _ (host : Host) (sizes : List ℕ) (ready : IsReady host sizes) (t : Tale
                     stands = went.stands;
                     its = own_still host number g (before.0.2 number own) number (history_after_all g went.es) (omega arith) went.after.0;
                     is_open = subst (λ (ds : List Database). IsOpenIn host.drives o ds u) (sym went.after.0) before.1;
+                    free = λ closed calm. absurd (cc (closed));
                     up = went.after.1;
                     woken = went.after.2;
                     knows = knows;
@@ -197,21 +219,51 @@ module _ (host : Host) (sizes : List ℕ) (ready : IsReady host sizes) (t : Tale
                   booted_first (key_of host) up es went.es before.0.0,
                 );
               }
-              ));
+              )))
+              (adopting o u kept goes h stands (λ es g. HasBegun host up h es g × IsOpenIn host.drives o g.databases u) (λ es g there has is. (has, is)));
         }
 
-    -- it opened none: where no call failed, because there is nothing
+    -- one that was about to be deleted is gone, and another one may be created then
+    abbrev EndsThen : History → Type 0
+    EndsThen g = (identity : Identity) × (goes : GoOn host.drives g.databases (key_of host) identity [] AnyLog u) × AreFreed host.drives (with_events (key_of host) goes.es g.databases) (key_of host) u
+
+    -- so it is where no call failed, because there is nothing
+    free_then : (clean ≡ true → HasNoTable host.drives (key_of host) u) → (g : History) → StandsAt host g u → (clean ≡ true → AreFreed host.drives g.databases (key_of host) u) ⊎ EndsThen g
+    free_then none g there = by clean refl where
+      by : (c : Bool) → clean ≡ c → (clean ≡ true → AreFreed host.drives g.databases (key_of host) u) ⊎ EndsThen g
+      by false is = inl (λ calm. absurd (cc (is, calm)))
+      by true is = elim (freed_blank host.drives g.databases (key_of host) u there.databases (none is)) [ inl are ↦ inl (λ calm. are) | inr ends ↦ inr ends ]
+
+    abbrev closed : Memory
+    closed = booted_with None up clean number
+
+    -- what is known then, and that the boot began
+    abbrev IsClosed : List Event → History → Type 0
+    IsClosed es g = IsKnown host closed g u × BootBegins (key_of host) up es
+
+    module _ (knows : Knows host closed u) (h : History) (own : AreOwn host number h) where
+      known_closed : (es : List Event) (g : History) → StandsAt host g u → HasBegun host up h es g → (clean ≡ true → AreFreed host.drives g.databases (key_of host) u) → IsClosed es g
+      known_closed es g there has are = (record { stands = there; its = has.2 number own; is_open = tt; free = λ none calm. are calm; up = has.1; woken = tt; knows = knows }, has.0)
+
+      closing : (es : List Event) (g : History) → StandsAt host g u → HasBegun host up h es g → (clean ≡ true → AreFreed host.drives g.databases (key_of host) u) ⊎ EndsThen g → Goes host [] [] (λ fs. IsClosed (es ++ fs)) u g
+      closing es g there has (inl are) = goes_none host [] (λ fs. IsClosed (es ++ fs)) u g there (known_closed (es ++ []) g there (booted_first (key_of host) up es [] has.0, has.1, has.2) are)
+      closing es g there has (inr (identity, on, are)) =
+          lift_log host [] (λ fs. IsClosed (es ++ fs)) (key_of host) identity [] AnyLog u u (kept_outside_same (site_area (site_of host.drives (key_of host))) u) tt tt g there on
+          (λ table asked. absurd (never_asked on.es table (nothing on.es on.come.begins) asked))
+          (λ fs k now databases woken drives. known_closed (es ++ fs) k now (gone h g k es fs on.es has databases drives) (λ calm. subst (λ (ds : List Database). AreFreed host.drives ds (key_of host) u) (sym databases) are))
+
+    -- it opened none
     pub booted_none : ((drive : DriveNo) (block : ℕ) → has_drive up drive ≡ true → site_area host.site drive.0 block ≡ false → (x : List ℕ) → MayLeave u drive.0 block x → x ≡ last u drive.0 block)
         → (clean ≡ true → HasNoTable host.drives (key_of host) u) → BootsOn host t u → BootedTo host (booted_with None up clean number) t u
     booted_none rests none goes =
-        let memory = booted_with None up clean number in
-        let knows : Knows host memory u = record { nothing = λ closed calm. none calm; opened = tt; unused = free rests None } in
+        let knows : Knows host closed u = record { opened = tt; steady = free rests None } in
         record {
           kept = kept;
           quiet = quiet;
           knows = knows;
-          goes = λ h stands own. booting u kept goes h stands (λ es g. IsKnown host memory g u × BootBegins (key_of host) up es)
-              (λ es g there has. (record { stands = there; its = has.2 number own; is_open = tt; up = has.1; woken = tt; knows = knows }, has.0));
+          goes = λ h stands own. met_or
+              (λ booted. goes_more host [] [] [] [] [] (λ es g. HasBegun host up h es g) IsClosed u u h tt booted (λ es g there has. closing knows h own es g there has (free_then none g there)))
+              (booting u kept goes h stands (λ es g. HasBegun host up h es g) (λ es g there has. has));
         }
 
 -- a moment of a boot

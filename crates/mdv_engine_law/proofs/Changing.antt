@@ -1,10 +1,11 @@
 -- What a commit of a change leaves of a host's history.
-use Rattle.std.proofs.Common.{◌≡◌, ◌≤◌, ℕ, false, List, [], ◌∷◌, ◌++◌, Some, refl, sym, ◌∙◌, ap, subst}
+use Rattle.std.proofs.Common.{◌≡◌, inr, ◌≤◌, ℕ, false, List, [], ◌∷◌, ◌++◌, Some, refl, sym, ◌∙◌, ap, subst}
 use Rattle.mdv_databases.proofs.Lists.{events_log}
 use Rattle.mdv_databases.specs.Committing.{IsCommit, IsCommittedIn}
 use Rattle.mdv_databases.specs.Going.{GoOn, IsCurrentOf, with_events}
 use Rattle.mdv_databases.specs.Standing.{Stand}
-use Rattle.mdv_engine_law.specs.Below.{AreWoken, Change, Changed, Database, Drives, Event, History, IsMapOf, IsOpenIn, IsOpenedAt, Key, KeptOutside, Log, MakeStripe, Map, OfPlan, Opened, SliceName, Table, Tale, VolId, area_of_map, log_of, seats_area, site_area, site_of, told}
+use Rattle.mdv_shelf.proofs.Moments.{some_is}
+use Rattle.mdv_engine_law.specs.Below.{Created, AreWoken, Change, Changed, Database, Drives, Event, History, IsMapOf, IsOpenIn, IsOpenedAt, Key, KeptOutside, Log, MakeStripe, OfPlan, Opened, SliceName, Table, Tale, VolId, log_of, seats_area, site_area, site_of, told}
 use Rattle.mdv_store.specs.Commit.{AnyLog, IsCommittedTo}
 use Rattle.mdv_store_law.specs.Log as log
 use Rattle.mdv_store_law.specs.Log.{IsMade, IsNewestTellable}
@@ -21,15 +22,16 @@ use Rattle.mdv_engine_law.specs.declared.answer.Outcome.TheVariants as outcome
 use Rattle.mdv_engine_law.specs.declared.host.Host.{Host}
 use Rattle.mdv_engine_law.specs.Hosts.{IsReady, key_of}
 use Rattle.mdv_engine_law.specs.Line.{Memory, ToDo}
-use Rattle.mdv_engine_law.specs.Standing.{StandsAt, Goes, IsUnused, Reached, Knows, IsKnown, IsKnownAfter, CarryMoment, CarriedTo, is_up}
+use Rattle.mdv_engine_law.specs.Standing.{StandsAt, Goes, IsSteadyBlock, Reached, Knows, IsKnown, IsKnownAfter, CarryMoment, CarriedTo, is_up}
 use Rattle.mdv_store_law.proofs.Parts.{part_itself}
-use Rattle.mdv_engine_law.proofs.Going.{goes_more, happened}
+use Rattle.mdv_engine_law.proofs.Going.{not_among, not_other, goes_more, happened}
 use Rattle.mdv_engine_law.proofs.Growing.{IsGrown, are_woken, grown, grown_stands, only_asked, ready_grown}
+use Rattle.mdv_volumes.proofs.Lists.{contains_first}
 use Rattle.mdv_engine_law.proofs.Lifting.{lift_log}
 use Rattle.mdv_engine_law.proofs.Owning.{own_gone}
-use Rattle.mdv_engine_law.proofs.Refusing.{known_open, knows_its, of_opened, opened_has, knows_opened}
+use Rattle.mdv_engine_law.proofs.Refusing.{known_open, knows_its, of_opened, knows_opened}
 use Rattle.mdv_engine_law.proofs.Staying.{stays_on_site}
-use Rattle.mdv_engine_law.proofs.Unused.{free_kept}
+use Rattle.mdv_engine_law.proofs.Steady.{free_kept}
 use Rattle.mdv_engine_law.proofs.Within.{opened_kept}
 
 -- A change of the open database, and the table that it makes; of each of its seats the replica lies on a slice of the host's site.
@@ -79,7 +81,7 @@ module _ (host : Host) (sizes : List ℕ) (ready : IsReady host sizes) (memory :
           }
 
           went : Goes host (Changed (key_of host) change ∷ []) [] (λ fs k. Then (es ++ fs) k) m g
-          went = lift_log host (Changed (key_of host) change ∷ []) (λ fs k. Then (es ++ fs) k) o.key o.identity (Some change ∷ []) After t m (subst (λ (area : ℕ → ℕ → _). KeptOutside area t m) (sym here) kept) asked (tt, tt) g
+          went = lift_log host (Changed (key_of host) change ∷ []) (λ fs k. Then (es ++ fs) k) o.key o.identity (Some change ∷ []) After t m (subst (λ (area : ℕ → ℕ → _). KeptOutside area t m) (sym here) kept) asked (contains_first (Changed (key_of host) change) [], tt) g
               (grown_stands host sizes ready memory o opened volume slice table made placed t h known es g grows) on
               (λ other asks. subst (λ (k : Key). IsTableReady host.drives g k t other) (sym its)
               (ready_grown host sizes ready memory o opened volume slice table made placed t h known es g grows other
@@ -88,19 +90,20 @@ module _ (host : Host) (sizes : List ℕ) (ready : IsReady host sizes) (memory :
               (are_woken host sizes ready memory o opened volume slice table made placed t h known es g grows k woken) (databases ∙ ap (with_events o.key goes.es) grows.databases))
 
   pub changing_moment : told m ≡ told t → ((all : List Database) → IsCommit host.drives all o (Some change) table t → GoOn host.drives all o.key o.identity (Some change ∷ []) AnyLog m) → CarryMoment host (ToDo (Changed (key_of host) change)) memory t m
-  changing_moment quiet goes = record { home = stays_on_site host t m kept; within = opened_kept t m memory.opened o opened within; quiet = quiet; goes = λ h known. changing AnyLog Reached h known (goes h.databases (is_commit h known)) (λ es g there up woken databases. tt) }
+  changing_moment quiet goes = record { home = stays_on_site host t m kept; within = opened_kept t m memory.opened o opened within; quiet = quiet; goes = λ h known. inr (changing AnyLog Reached h known (goes h.databases (is_commit h known)) (λ es g there up woken databases. tt)) }
 
   -- it was committed, and its `ok` may be told
-  pub changed : (new : Opened) (next : Memory) → next.up ≡ memory.up → memory.begun ≤ next.begun → next.opened ≡ Some new → new.key ≡ o.key → new.table ≡ table → (IsOpenedAt host.drives o t → IsOpenedAt host.drives new m)
+  pub changed : (new : Opened) (next : Memory) → next.up ≡ memory.up → next.clean ≡ memory.clean → memory.begun ≤ next.begun → next.opened ≡ Some new → new.key ≡ o.key → new.table ≡ table → (IsOpenedAt host.drives o t → IsOpenedAt host.drives new m)
       → ((all : List Database) → IsCommit host.drives all o (Some change) table t → IsCommittedIn host.drives all o new (Some change) m) → CarriedTo host (ToDo (Changed (key_of host) change)) memory (Said outcome.Ok) next t m
-  changed new next up begun is same table_is opens goes =
+  changed new next up clean begun is same table_is opens goes =
       let knows : Knows host memory t → Knows host next m = λ known.
       (let its = knows_its host memory o opened t known in
-      knows_opened host next new m is (same ∙ its.0) (opens its.1) (free_kept host sizes ready memory next t m kept (λ drive on. same_up drive ∙ on) unused known.unused)) in
+      knows_opened host next new m is (same ∙ its.0) (opens its.1) (free_kept host sizes ready memory next t m kept (λ drive on. same_up drive ∙ on) steady known.steady)) in
       record {
         done = Changed (key_of host) change ∷ [];
         acks = refl;
-        goes = λ h known.
+        free = λ has. absurd (not_other (Changed (key_of host) change) (Created (key_of host)) (λ same. cc (same)) has);
+        goes = λ h known. inr
             (let done = goes h.databases (is_commit h known) in
             let its = (knows_its host memory o opened t known.knows).0 in
             changing (IsCommittedTo host.drives new (Some change)) (λ es g. IsKnownAfter host (Changed (key_of host) change ∷ []) (Said outcome.Ok) next g m) h known done.goes (λ es g there drives woken databases. (
@@ -108,6 +111,7 @@ module _ (host : Host) (sizes : List ℕ) (ready : IsReady host sizes) (memory :
                 stands = there;
                 its = own_gone host memory.begun h known.its o.key done.goes.es next.begun g begun databases;
                 is_open = of_opened next new (λ n. IsOpenIn host.drives n g.databases m) is (subst (λ (ds : List Database). IsOpenIn host.drives new ds m) (sym databases) done.is_open);
+                free = λ none clean. absurd (cc (is, none));
                 up = drives ∙ sym up;
                 woken = of_opened next new (λ n. AreWoken host.drives n.table (is_up next) g (key_of host)) is
                     (subst (λ (x : Table). AreWoken host.drives x (is_up next) g (key_of host)) (sym table_is) (λ number v lies upon. woken number v lies (λ b drive block lt has. same_up drive ∙ upon b drive block lt has)));
@@ -127,16 +131,20 @@ module _ (host : Host) (sizes : List ℕ) (ready : IsReady host sizes) (memory :
           subst (λ (k : Key). IsNewestTellable (log_of g.databases k) (Some change)) its
           (subst (λ (l : Log). IsNewestTellable l (Some change)) (sym (ap (λ (ds : List Database). log_of ds o.key) databases ∙ own)) (done.goes.after.tellable change refl))
 
-      unused : (drive block : ℕ) → IsUnused host next drive block → IsUnused host memory drive block
-      unused drive block free = record {
-        plain = free.plain;
-        free = of_opened memory o (λ n. (number : VolId) (v : Map) → IsMapOf host.drives n.table number v → area_of_map v drive block ≡ false) opened (λ number v lies.
-            opened_has next new (λ n. (other : VolId) (w : Map) → IsMapOf host.drives n.table other w → area_of_map w drive block ≡ false) is free.free number v
-            (subst (λ (x : Table). IsMapOf host.drives x number v) (sym table_is) (tables_lie.stays host.drives o.table table volume slice number v made.0 lies)));
+      steady : (drive block : ℕ) → IsSteadyBlock host next drive block → IsSteadyBlock host memory drive block
+      steady drive block of = record {
+        plain = of.plain;
+        free = λ torn. (
+            let none = of.free (clean ∙ torn) in
+            let same : none.0 ≡ new = some_is next.opened none.0 new none.1 is in (
+              o,
+              opened,
+              λ number v lies. none.2 number v (subst (λ (x : Table). IsMapOf host.drives x number v) (sym (ap (λ (n : Opened). n.table) same ∙ table_is)) (tables_lie.stays host.drives o.table table volume slice number v made.0 lies)),
+            ));
       }
 
   -- whether it was committed isn't known
   pub changed_or_lost : (active listed : ℕ) (next : Memory) → ((all : List Database) → IsCommit host.drives all o (Some change) table t → GoOn host.drives all o.key o.identity (Some change ∷ []) AnyLog m)
       → CarriedTo host (ToDo (Changed (key_of host) change)) memory (Over (ended.Lost active listed)) next t m
   changed_or_lost active listed next goes =
-      record { done = []; acks = refl; goes = λ h known. changing AnyLog (λ es g. IsKnownAfter host [] (Over (ended.Lost active listed)) next g m) h known (goes h.databases (is_commit h known)) (λ es g there up woken databases. tt); knows = λ known. tt }
+      record { done = []; acks = refl; free = λ has. absurd (not_among (Created (key_of host)) has); goes = λ h known. inr (changing AnyLog (λ es g. IsKnownAfter host [] (Over (ended.Lost active listed)) next g m) h known (goes h.databases (is_commit h known)) (λ es g there up woken databases. tt)); knows = λ known. tt }

@@ -1,9 +1,12 @@
 -- Telling a deed is one event, which leaves the open database open: what was known is known.
 use Rattle.std.proofs.Common.{◌≡◌, inl, inr, List, [], ◌∷◌, Option, Some, None, refl, sym, ◌∙◌, ap, subst, arith}
-use Rattle.mdv_databases.proofs.Lists.{events_elsewhere, key_differs, key_is}
-use Rattle.mdv_databases.proofs.Telling.{told_anew, told_open, told_stand}
-use Rattle.mdv_databases.specs.Going.{IsCurrentOf}
-use Rattle.mdv_engine_law.specs.Below.{Acknowledges, CanTell, Change, Changed, Created, Database, Deed, Deleted, Deletes, Drives, Event, Geometry, Happens, History, IsOpenIn, Key, KeptOutside, OfDatabase, Opened, Saw, Shows, Tale, VolId, Wrote, history_after, nowhere, site_area, site_of}
+use Rattle.mdv_databases.proofs.Lists.{current_in, events_cases, events_elsewhere, key_differs, key_is}
+use Rattle.mdv_databases.proofs.Telling.{told_open, told_stand}
+use Rattle.mdv_databases.specs.Going.{IsCurrentOf, with_events}
+use Rattle.mdv_databases.specs.Standing.{IsFree, Stand}
+use Rattle.mdv_shelf.proofs.Everywhere.{last_image}
+use Rattle.mdv_databases.specs.Lasting.{AreFreed}
+use Rattle.mdv_engine_law.specs.Below.{last, Acknowledges, CanTell, Change, Changed, Created, Database, Deed, Deleted, Deletes, Drives, Event, Geometry, Happens, History, IsOpenIn, Key, KeptOutside, OfDatabase, Opened, Saw, Shows, Tale, VolId, Wrote, history_after, nowhere, site_area, site_of}
 use Rattle.mdv_shelf.proofs.Blocks.{both_ways}
 use Rattle.mdv_shelf.proofs.Frame.{kept_outside_same}
 use Rattle.mdv_store_law.specs.Log as log
@@ -42,6 +45,13 @@ open_told g all o key which before m is = elim (both_ways (same_key key o.key)) 
   | inr never ↦ open_beside g all o key (log.Told which before) m (key_differs key o.key never) is
 ]
 
+-- what is told of a database changes nothing about whether another one may be created
+told_freed : (g : Geometry) (all : List Database) (key other : Key) (which before : List Change) (v : Tale) (d : Database) → Stand g all v → current_of all key ≡ Some d → AreFreed g all other v → AreFreed g (with_events key (log.Told which before ∷ []) all) other v
+told_freed g all key other which before v d stand current free x has keyed = elim (events_cases key (log.Told which before ∷ []) all d (stand.worlds (last v) (last_image v)).once current x has) [
+  | inl here ↦ subst (λ (z : Database). IsFree g z v) here (free d (current_in key all d current) (ap (λ (z : Database). z.key) here ∙ keyed))
+  | inr was ↦ free x was.0 keyed
+]
+
 module _ (host : Host) (memory : Memory) (u v : Tale) (kept : KeptOutside nowhere u v) (h : History) (known : IsKnown host memory h u) where
   abbrev pub Known : List Event → History → Type 0
   Known es after = IsKnown host memory after v
@@ -50,11 +60,11 @@ module _ (host : Host) (memory : Memory) (u v : Tale) (kept : KeptOutside nowher
   here = stands_kept host u v kept h known.stands
 
   -- one event that tells a deed
-  tells : (deed : Deed) (e : Event) → Happens host.drives h (e ∷ []) [] (deed ∷ []) v → IsAwakeAt host.drives h e → IsIssue (IsOfRun host) e → AreOwn host memory.begun (history_after h e) → ((o : Opened) → IsOpenIn host.drives o h.databases v → IsOpenIn host.drives o (history_after h e).databases v)
-      → (history_after h e).woken ≡ h.woken → (history_after h e).up ≡ h.up → Goes host [] (deed ∷ []) Known v h
-  tells deed e happens awake issue its still woken up =
+  tells : (deed : Deed) (e : Event) → Happens host.drives h (e ∷ []) [] (deed ∷ []) v → IsAwakeAt host.drives h e → IsIssue (IsOfRun host []) e → AreOwn host memory.begun (history_after h e) → ((o : Opened) → IsOpenIn host.drives o h.databases v → IsOpenIn host.drives o (history_after h e).databases v)
+      → (AreFreed host.drives h.databases (key_of host) v → AreFreed host.drives (history_after h e).databases (key_of host) v) → (history_after h e).woken ≡ h.woken → (history_after h e).up ≡ h.up → Goes host [] (deed ∷ []) Known v h
+  tells deed e happens awake issue its still freed woken up =
       happened host [] [] (deed ∷ []) v h (e ∷ []) happens (issue, tt) Known (awake, tt) tt
-      (known_on host memory h (history_after h e) v (happened_stands host [] [] (deed ∷ []) v h (e ∷ []) happens (issue, tt)) its still (ap (λ (drives : Key → Drives). drives (key_of host)) up) (λ volume. ap (λ (w : Key → VolId → _). w (key_of host) volume) woken) (known_kept host u v kept memory h known))
+      (known_on host memory h (history_after h e) v (happened_stands host [] [] (deed ∷ []) v h (e ∷ []) happens (issue, tt)) its still freed (ap (λ (drives : Key → Drives). drives (key_of host)) up) (λ volume. ap (λ (w : Key → VolId → _). w (key_of host) volume) woken) (known_kept host u v kept memory h known))
 
   -- what came to the newest table of some key
   newest_told : (key : Key) (asked : Option Change) → IsTellable host.drives h key asked → Goes host [] (deed_of key asked ∷ []) Known v h
@@ -64,11 +74,10 @@ module _ (host : Host) (memory : Memory) (u v : Tale) (kept : KeptOutside nowher
       let one = current_some h.databases key can.may.may.newest can.may.may.older can.may.may.family in
       let its : IsCurrentOf h.databases key one.0.identity = record { database = one.0; current = one.1; as_begun = refl } in
       let is = databases_go host.drives h key one.0.identity (log.Told which before ∷ []) v v here its (tt, tt) (can.may.may, tt) (told_stand which before host.drives h.databases key v one.0.identity here.databases its can.may.may)
-      (told_anew which before host.drives h.databases key v one.0.identity here.databases its can.may.may here.anew)
       (kept_outside_same (site_area (site_of host.drives key)) v) (λ table none. absurd (never which before table none)) in
       tells (deed_of key asked) (OfDatabase key (identity_in (current_of h.databases key)) (log.Told which before)) (record { course = is.happens.course; begins = is.happens.begins; tells = is.happens.tells ∙ one_deed key asked before; stands = is.happens.stands }) tt tt
       (own_gone host memory.begun h known.its key (log.Told which before ∷ []) memory.begun (history_after h (OfDatabase key (identity_in (current_of h.databases key)) (log.Told which before))) (omega arith) refl)
-      (λ o is_open. open_told host.drives h.databases o key which before v is_open) is.woken is.up
+      (λ o is_open. open_told host.drives h.databases o key which before v is_open) (told_freed host.drives h.databases key (key_of host) which before v one.0 here.databases one.1) is.woken is.up
     where
       never : (which before : List Change) (table : Table) → IsAsked (log.Told which before ∷ []) table → ⊥
       never which before table (inl none) = none
@@ -81,20 +90,20 @@ module _ (host : Host) (memory : Memory) (u v : Tale) (kept : KeptOutside nowher
     course = (((can.0.1, can.0.2), can.1), tt);
     begins = refl;
     tells = refl;
-    stands = record { databases = here.databases; anew = here.anew; laid = here.laid; apart = here.apart; volumes = here.volumes };
-  }) tt tt (own_still host memory.begun h known.its memory.begun (history_after h (Deletes can.0.0 key)) (omega arith) refl) (λ o is_open. is_open) refl refl
+    stands = record { databases = here.databases; laid = here.laid; apart = here.apart; volumes = here.volumes };
+  }) tt tt (own_still host memory.begun h known.its memory.begun (history_after h (Deletes can.0.0 key)) (omega arith) refl) (λ o is_open. is_open) (λ free. free) refl refl
   told_one (Wrote key volume at blocks) can = tells (Wrote key volume at blocks) (Acknowledges can.untold.0 key volume at blocks) (record {
     course = (((can.untold.1, can.untold.2), can.range, can.only), tt);
     begins = refl;
     tells = refl;
-    stands = record { databases = here.databases; anew = here.anew; laid = here.laid; apart = here.apart; volumes = here.volumes };
-  }) tt tt (own_still host memory.begun h known.its memory.begun (history_after h (Acknowledges can.untold.0 key volume at blocks)) (omega arith) refl) (λ o is_open. is_open) refl refl
+    stands = record { databases = here.databases; laid = here.laid; apart = here.apart; volumes = here.volumes };
+  }) tt tt (own_still host memory.begun h known.its memory.begun (history_after h (Acknowledges can.untold.0 key volume at blocks)) (omega arith) refl) (λ o is_open. is_open) (λ free. free) refl refl
   told_one (Saw key volume at blocks) can = tells (Saw key volume at blocks) (Shows can.0 key volume at blocks) (record {
     course = ((can.1, can.2), tt);
     begins = refl;
     tells = refl;
-    stands = record { databases = here.databases; anew = here.anew; laid = here.laid; apart = here.apart; volumes = here.volumes };
-  }) tt tt (own_still host memory.begun h known.its memory.begun (history_after h (Shows can.0 key volume at blocks)) (omega arith) refl) (λ o is_open. is_open) refl refl
+    stands = record { databases = here.databases; laid = here.laid; apart = here.apart; volumes = here.volumes };
+  }) tt tt (own_still host memory.begun h known.its memory.begun (history_after h (Shows can.0 key volume at blocks)) (omega arith) refl) (λ o is_open. is_open) (λ free. free) refl refl
 
   -- once all that was done was told, what was known is known
   pub told_all : (done : List Deed) → CanTellAll host done h → Goes host [] done Known v h

@@ -3,8 +3,10 @@ use Rattle.std.proofs.Common.{◌≡◌, Bool, ◌⊎◌, inl, inr, ℕ, true, O
 use Rattle.mdv_base.specs.declared.refusal.Refusal.TheVariants as refusal
 use Rattle.mdv_shelf.specs.Made.{Made}
 use Rattle.mdv_shelf.proofs.Made.{IsToo, more_too}
-use Rattle.mdv_engine_law.specs.Below.{BootEnd, Drives, Image, Opened, Refusal, Command, AddListed, AddPlaces, DropPlaces, Print, Read, Write, Line, meant}
+use Rattle.mdv_engine_law.specs.Below.{BootEnd, Drives, Geometry, Image, Opened, Refusal, Command, AddListed, AddPlaces, DropPlaces, Print, Read, Write, Line, meant}
+use Rattle.mdv_places.specs.Asked.{Asks}
 use Rattle.mdv_store.specs.Boot.{is_memory}
+use Rattle.mdv_engine_law.specs.Places.{are_all}
 use Rattle.mdv_store.specs.declared.booting.BootEnd.TheVariants as end
 use Rattle.mdv_words.specs.declared.command.Command.TheVariants.{MakeStripe}
 use Rattle.mdv_words.specs.Line as words
@@ -13,20 +15,28 @@ use Rattle.mdv_engine_law.specs.declared.answer.Answer.TheVariants.{Said, Over}
 use Rattle.mdv_engine_law.specs.declared.answer.Ended.TheVariants as ended
 use Rattle.mdv_engine_law.specs.declared.answer.Outcome.TheVariants as outcome
 use Rattle.mdv_engine_law.specs.declared.host.Host.{Host}
-use Rattle.mdv_engine_law.specs.Efforts.{BootCalls, CommandCalls, EndCalls, EndsByCalls, FaultCalls, HandCalls, LineCalls, LossCalls, MadeCallsOf, NoCalls, looks_of, replied_to}
+use Rattle.mdv_engine_law.specs.Efforts.{BootCalls, CommandCalls, EndCalls, EndsByCalls, FaultCalls, HandCalls, LineCalls, LossCalls, MadeCallsOf, DeletionCalls, MoveCalls, NoCalls, replied_to}
 use Rattle.mdv_shelf.specs.Failing.{Outcomes}
 use Rattle.mdv_engine_law.specs.Line.{Kept, Memory}
-use Rattle.mdv_engine_law.proofs.Widening.{AreWithin, end_more, read_more, up_more}
+use Rattle.mdv_engine_law.proofs.Widening.{AreWithin, match_more, end_more, read_more, up_more}
 
-module _ (one other : Made) (too : IsToo one other) where
+module _ (failed more : Outcomes) (cause : AreWithin failed more) (one other : Made) (too : IsToo one other) where
   pub none_too : NoCalls one → NoCalls other
   none_too none = too.within _ _ _ none
 
-  pub done_too : (command : Command) (host : Host) (old new : Option Opened) → MadeCallsOf one command host old new → MadeCallsOf other command host old new
-  done_too (AddPlaces slices force count blocks) host old (Some o) calls = record { all = λ as_many. too.exactly _ _ (calls.all as_many); some = too.within _ _ _ calls.some }
-  done_too (AddPlaces slices force count blocks) host old None calls = absurd calls
+  moved_too : (g : Geometry) (o : Opened) (asked : Asks) → MoveCalls failed one g o asked → MoveCalls more other g o asked
+  moved_too g o asked calls = record { all = λ none. too.exactly _ _ (calls.all (λ drive has some. none drive has ((cause drive.0).some some))); some = too.within _ _ _ calls.some }
+
+  deleted_too : (g : Geometry) (o : Opened) → DeletionCalls failed one g o → DeletionCalls more other g o
+  deleted_too g o calls = record { all = λ none. too.exactly _ _ (calls.all (λ drive has some. none drive has ((cause drive.0).some some))); some = too.within _ _ _ calls.some }
+
+  pub done_too : (command : Command) (host : Host) (old new : Option Opened) → MadeCallsOf failed one command host old new → MadeCallsOf more other command host old new
+  done_too (AddPlaces slices force count blocks) host (Some before) new calls = moved_too host.drives before _ calls
+  done_too (AddPlaces slices force count blocks) host None (Some o) calls = record { all = λ as_many. too.exactly _ _ (calls.all as_many); some = too.within _ _ _ calls.some }
+  done_too (AddPlaces slices force count blocks) host None None calls = absurd calls
   done_too (AddListed number force) host old new calls = absurd calls
-  done_too (DropPlaces slices force) host old new calls = absurd calls
+  done_too (DropPlaces slices force) host None new calls = absurd calls
+  done_too (DropPlaces slices force) host (Some before) new calls = match_more (are_all before slices) _ _ _ _ (deleted_too host.drives before) (moved_too host.drives before _) calls
   done_too (MakeStripe volume slice) host (Some before) (Some o) calls = record { all = λ as_many. too.exactly _ _ (calls.all as_many); some = too.within _ _ _ calls.some; wrote = too.wrote calls.wrote }
   done_too (MakeStripe volume slice) host (Some before) None calls = absurd calls
   done_too (MakeStripe volume slice) host None new calls = absurd calls
@@ -34,31 +44,35 @@ module _ (one other : Made) (too : IsToo one other) where
   done_too (Write volume at block) host old new calls = too.exactly _ _ calls
   done_too (Print names) host old new calls = none_too calls
 
-  pub fault_too : (command : Command) (host : Host) → FaultCalls one command host → FaultCalls other command host
-  fault_too (AddPlaces slices force count blocks) host calls = too.within _ _ _ calls
-  fault_too (AddListed number force) host calls = absurd calls
-  fault_too (DropPlaces slices force) host calls = absurd calls
-  fault_too (MakeStripe volume slice) host calls = absurd calls
-  fault_too (Read volume at count) host calls = too.within _ _ _ calls
-  fault_too (Write volume at block) host calls = too.within _ _ _ calls
-  fault_too (Print names) host calls = absurd calls
+  pub fault_too : (command : Command) (host : Host) (old : Option Opened) → FaultCalls one command host old → FaultCalls other command host old
+  fault_too (AddPlaces slices force count blocks) host None calls = too.within _ _ _ calls
+  fault_too (AddPlaces slices force count blocks) host (Some o) calls = too.within _ _ _ calls
+  fault_too (AddListed number force) host old calls = absurd calls
+  fault_too (DropPlaces slices force) host None calls = absurd calls
+  fault_too (DropPlaces slices force) host (Some o) calls = match_more (are_all o slices) _ _ _ _ (too.within _ _ _) (λ none. none) calls
+  fault_too (MakeStripe volume slice) host old calls = absurd calls
+  fault_too (Read volume at count) host old calls = too.within _ _ _ calls
+  fault_too (Write volume at block) host old calls = too.within _ _ _ calls
+  fault_too (Print names) host old calls = absurd calls
 
   loss_too : (command : Command) (host : Host) (old : Option Opened) → LossCalls one command host old → LossCalls other command host old
-  loss_too (AddPlaces slices force count blocks) host old calls = too.within _ _ _ calls
+  loss_too (AddPlaces slices force count blocks) host None calls = too.within _ _ _ calls
+  loss_too (AddPlaces slices force count blocks) host (Some o) calls = too.within _ _ _ calls
   loss_too (AddListed number force) host old calls = absurd calls
-  loss_too (DropPlaces slices force) host old calls = absurd calls
+  loss_too (DropPlaces slices force) host None calls = absurd calls
+  loss_too (DropPlaces slices force) host (Some o) calls = too.within _ _ _ calls
   loss_too (MakeStripe volume slice) host (Some o) calls = too.within _ _ _ calls
   loss_too (MakeStripe volume slice) host None calls = absurd calls
   loss_too (Read volume at count) host old calls = absurd calls
   loss_too (Write volume at block) host old calls = absurd calls
   loss_too (Print names) host old calls = absurd calls
 
-  refused_too : (command : Command) (r : Refusal) (host : Host) (old new : Option Opened) → CommandCalls one host command (Said (outcome.Refused r)) old new → CommandCalls other host command (Said (outcome.Refused r)) old new
-  refused_too command refusal.IoFault host old new calls = fault_too command host calls
+  refused_too : (command : Command) (r : Refusal) (host : Host) (old new : Option Opened) → CommandCalls failed one host command (Said (outcome.Refused r)) old new → CommandCalls more other host command (Said (outcome.Refused r)) old new
+  refused_too command refusal.IoFault host old new calls = fault_too command host old calls
   refused_too command refusal.OutOfMemory host old new calls = too.within _ _ _ calls
   refused_too command other_one host old new calls = none_too calls
 
-  pub command_too : (host : Host) (command : Command) (answer : Answer) (old new : Option Opened) → CommandCalls one host command answer old new → CommandCalls other host command answer old new
+  pub command_too : (host : Host) (command : Command) (answer : Answer) (old new : Option Opened) → CommandCalls failed one host command answer old new → CommandCalls more other host command answer old new
   command_too host command (Said outcome.Ok) old new calls = done_too command host old new calls
   command_too host command (Said (outcome.Values text)) old new calls = done_too command host old new calls
   command_too host command (Said (outcome.Refused r)) old new calls = refused_too command r host old new calls
@@ -102,13 +116,13 @@ module _ (calls more : Outcomes) (cause : AreWithin calls more) (one other : Mad
     by_hand = hand_too host content is.up is.clean is.end is.by_hand;
     still = λ unwritten. too.within _ _ _ (is.still unwritten);
     wrote = λ written. too.wrote (is.wrote written);
-    exactly = λ clean. (let by = is.exactly clean in (by.0, by.1, end_too one other too _ is.end by.2));
+    exactly = λ clean. (let by = is.exactly clean in (by.0, by.1, end_too calls more cause one other too _ is.end by.2));
   }
 
   pub line_too : (host : Host) (kept : Kept) (line : Line) (answer : Answer) (next : Kept) → LineCalls calls one host kept line answer next → LineCalls more other host kept line answer next
   line_too host kept words.Boot answer next by = boot_too host answer next.memory kept.content by
-  line_too host kept (words.Tab lines) answer next by = none_too one other too by
-  line_too host kept (words.Exec command) answer next by = command_too one other too host (meant kept.memory.entries command) answer kept.memory.opened next.memory.opened by
+  line_too host kept (words.Tab lines) answer next by = none_too calls more cause one other too by
+  line_too host kept (words.Exec command) answer next by = command_too calls more cause one other too host (meant kept.memory.entries command) answer kept.memory.opened next.memory.opened by
 
 -- a stretch, told of itself
 pub too_itself : (one : Made) → IsToo one one

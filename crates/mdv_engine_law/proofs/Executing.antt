@@ -1,7 +1,7 @@
 -- What a command came to, told of the longer stretch that its reply ends.
-use Rattle.std.proofs.Common.{◌≡◌, ◌⊎◌, inl, inr, ℕ, true, List, ◌++◌, sym, refl, ◌∙◌, ap, subst, rules}
+use Rattle.std.proofs.Common.{◌≡◌, ◌⊎◌, inl, inr, ℕ, Bool, true, false, Option, None, Some, List, [], ◌∷◌, ◌++◌, sym, refl, ◌∙◌, ap, subst, rules}
 use Rattle.mdv_base.specs.declared.refusal.Refusal.TheVariants as refusal
-use Rattle.mdv_engine_law.specs.Below.{BootEnd, Drives, Image, Opened, Refusal, KeptOutside, Table, nowhere, Tale, told, Command, AddListed, AddPlaces, DropPlaces, Print, Read, Write, Line, meant}
+use Rattle.mdv_engine_law.specs.Below.{BootEnd, Drives, Image, Opened, Refusal, SliceLine, KeptOutside, Table, nowhere, Tale, told, Command, AddListed, AddPlaces, DropPlaces, Print, Read, Write, Line, meant}
 use Rattle.mdv_words.specs.declared.command.Command.TheVariants.{MakeStripe}
 use Rattle.mdv_words.specs.Line as words
 use Rattle.mdv_engine_law.specs.declared.answer.Answer.{Answer}
@@ -14,17 +14,21 @@ use Rattle.mdv_engine_law.specs.declared.answer.Reply.{Reply}
 use Rattle.mdv_engine_law.specs.declared.answer.Reply.TheVariants as reply
 use Rattle.mdv_engine_law.specs.declared.host.Host.{Host}
 use Rattle.mdv_engine_law.specs.Commands as came
-use Rattle.mdv_engine_law.specs.Commands.{CameTo, ComesTo, Effect, Fault, GivesUp, KeepsTab, LeavesTable}
+use Rattle.mdv_engine_law.specs.Commands.{CameTo, ComesTo, Effect, Fault, GivesUp, KeepsTab, LeavesPlaces, LeavesTable}
+use Rattle.mdv_engine_law.specs.Moves.{IsDeletedOn, IsMovedOn, IsSpentChange, IsUndeletedOn, IsUnmovedOn, LeavesLists}
+use Rattle.mdv_engine_law.specs.Places.{are_all}
+use Rattle.mdv_places.specs.Asked.{Asks, KeepsFirst}
+use Rattle.std.specs.Prelude.{MatchOption}
 use Rattle.mdv_shelf.specs.Failing.{Outcomes}
 use Rattle.mdv_store.specs.Boot.{IsEndBy, is_memory}
 use Rattle.mdv_survey.specs.declared.replica.Survey.{Survey}
-use Rattle.mdv_engine_law.specs.Line.{Memory, Kept, kept_at, contents, IsReadOf, IsRebooted, WritesBy}
+use Rattle.mdv_engine_law.specs.Line.{Memory, Kept, kept_at, contents, IsCreated, IsReadOf, IsRebooted, IsUncreated, WritesBy}
 use Rattle.mdv_engine_law.specs.Replies.{Blame, IsTold, HasAnswerCause, HasCommandCause, IsReplyTo, reply_at, reply_to}
 use Rattle.mdv_engine_law.specs.Efforts.{LineCalls, replied_to}
 use Rattle.mdv_shelf.specs.Made.{Made}
 use Rattle.mdv_engine_law.specs.Standing.{OnlyReplied, Executed}
 use Rattle.mdv_engine_law.proofs.Efforts.{line_too, too_itself}
-use Rattle.mdv_engine_law.proofs.Widening.{AreWithin, IsBlamed, beside_more, calm_more, committed_more, end_more, left_more, made_more, now_more, on_more, read_more, unmade_more, up_more}
+use Rattle.mdv_engine_law.proofs.Widening.{AreWithin, IsBlamed, beside_more, calm_more, committed_more, end_more, left_more, lost_records_more, made_more, match_more, moved_more, unmoved_more, now_more, on_more, read_more, unmade_more, up_more}
 
 -- a read of the drive gives what it gave
 pub content_kept : (u v : Tale) → KeptOutside nowhere u v → contents u ≡ contents v
@@ -59,20 +63,72 @@ module _ (failed more : Outcomes) (cause : AreWithin failed more) (host : Host) 
     beside = is.beside;
   })
 
-  gives_up_more : (command : Command) (end : Ended) → GivesUp failed host kept command end next → GivesUp more host kept command end next
-  gives_up_more (AddPlaces slices force count blocks) (ended.Lost active listed) is = (let lost = is.lost in record {
+  -- of a change of places
+  lists_more : (o : Opened) (asked : Asks) (active listed : ℕ) → LeavesLists failed host o asked active listed kept next → LeavesLists more host o asked active listed kept next
+  lists_more o asked active listed is = (let lost = is.lost in record {
+    lost = record { new = lost.new; calm = beside_more failed more cause _ lost.calm; lost = lost_records_more failed more cause host.drives o lost.new asked (record { active = active; listed = listed }) lost.lost };
+    left = is.left;
+    formed = is.formed;
+    beside = is.beside;
+  })
+
+  spent_more : (o : Opened) → IsSpentChange failed o kept next → IsSpentChange more o kept next
+  spent_more o is = record { calm = calm_more failed more cause is.calm; spent = is.spent; stays = is.stays }
+
+  moved_on_more : (o : Opened) (asked : Asks) (clean : Bool) → IsMovedOn failed host o asked clean kept next → IsMovedOn more host o asked clean kept next
+  moved_on_more o asked clean is = record {
+    opened = is.opened;
+    moved = moved_more failed more cause host.drives o is.opened asked clean is.moved;
+    calm = beside_more failed more cause _ is.calm;
+    memory = is.memory;
+    content = is.content;
+    formed = is.formed;
+    wiped = record { all = is.wiped.all; each = λ a has none. is.wiped.each a has (λ some. none ((cause a.drive.0).some some)) };
+    beside = is.beside;
+  }
+
+  unmoved_on_more : (o : Opened) (lines : List SliceLine) (count blocks : ℕ) → IsUnmovedOn failed host o lines count blocks kept next → IsUnmovedOn more host o lines count blocks kept next
+  unmoved_on_more o lines count blocks is = record { unmoved = unmoved_more failed more cause host.drives o _ is.unmoved; memory = is.memory; content = is.content; beside = is.beside }
+
+  deleted_more : (o : Opened) → IsDeletedOn failed host o kept next → IsDeletedOn more host o kept next
+  deleted_more o is = record { calm = calm_more failed more cause is.calm; memory = is.memory; left = (is.left.0, moved_more failed more cause host.drives o is.left.0 KeepsFirst true is.left.1); wiped = is.wiped; beside = is.beside }
+
+  undeleted_more : (o : Opened) → IsUndeletedOn failed host o kept next → IsUndeletedOn more host o kept next
+  undeleted_more o (inl moved) = inl (moved_on_more o KeepsFirst false moved)
+  undeleted_more o (inr is) = inr (record { first = is.first; is = is.is; failed = (cause is.first.drive.0).some is.failed; calm = beside_more failed more cause (is.first.drive ∷ []) is.calm; memory = is.memory; wiped = is.wiped; beside = is.beside })
+
+  -- where no database is open, and where one is
+  opened_more : (opened : Option Opened) {P Q : Type 0} {R S : Opened → Type 0} → (P → Q) → ((o : Opened) → R o → S o) → MatchOption opened P R → MatchOption opened Q S
+  opened_more None none some is = none is
+  opened_more (Some o) none some is = some o is
+
+  places_left : (lines : List SliceLine) (count blocks active listed : ℕ) → LeavesPlaces failed host lines count blocks active listed kept next → LeavesPlaces more host lines count blocks active listed kept next
+  places_left lines count blocks active listed is = (let lost = is.lost in record {
     lost = record { now = lost.now; tried = left_more failed more cause _ _ _ lost.tried; few = lost.few };
     calm = beside_more failed more cause _ is.calm;
     formed = is.formed;
     left = is.left;
     beside = is.beside;
   })
-  gives_up_more (AddPlaces slices force count blocks) ended.Spent is = absurd is
+
+  created_more : (lines : List SliceLine) (count blocks : ℕ) → IsCreated failed host lines count blocks kept next → IsCreated more host lines count blocks kept next
+  created_more lines count blocks is = record { opened = is.opened; made = made_more failed more cause _ _ _ _ _ is.opened is.made; calm = beside_more failed more cause _ is.calm; memory = is.memory; formed = is.formed; content = is.content; beside = is.beside }
+
+  uncreated_more : (lines : List SliceLine) (count blocks : ℕ) → IsUncreated failed host lines count blocks kept next → IsUncreated more host lines count blocks kept next
+  uncreated_more lines count blocks is = record { failed = unmade_more failed more cause _ _ _ _ _ is.failed; memory = is.memory; beside = is.beside }
+
+  gives_up_more : (command : Command) (end : Ended) → GivesUp failed host kept command end next → GivesUp more host kept command end next
+  gives_up_more (AddPlaces slices force count blocks) (ended.Lost active listed) is = opened_more kept.memory.opened (places_left _ count blocks active listed) (λ o. lists_more o _ active listed) is
+  gives_up_more (AddPlaces slices force count blocks) ended.Spent is = opened_more kept.memory.opened (λ none. none) spent_more is
   gives_up_more (AddPlaces slices force count blocks) ended.Memory is = absurd is
   gives_up_more (AddPlaces slices force count blocks) (ended.NoQuorum readable needed) is = absurd is
   gives_up_more (AddPlaces slices force count blocks) (ended.TwoDatabases a b) is = absurd is
   gives_up_more (AddListed number force) end is = absurd is
-  gives_up_more (DropPlaces slices force) end is = absurd is
+  gives_up_more (DropPlaces slices force) (ended.Lost active listed) is = (is.0, is.1, lists_more is.0 _ active listed is.2)
+  gives_up_more (DropPlaces slices force) ended.Spent is = (is.0, is.1, spent_more is.0 is.2)
+  gives_up_more (DropPlaces slices force) ended.Memory is = absurd is
+  gives_up_more (DropPlaces slices force) (ended.NoQuorum readable needed) is = absurd is
+  gives_up_more (DropPlaces slices force) (ended.TwoDatabases a b) is = absurd is
   gives_up_more (MakeStripe volume slice) (ended.Lost active listed) is = (is.0, is.1, table_more is.0 _ active listed is.2)
   gives_up_more (MakeStripe volume slice) ended.Spent is = (calm_more failed more cause is.0, is.1, is.2, is.3, is.4)
   gives_up_more (MakeStripe volume slice) ended.Memory is = absurd is
@@ -83,18 +139,18 @@ module _ (failed more : Outcomes) (cause : AreWithin failed more) (host : Host) 
   gives_up_more (Print names) end is = absurd is
 
   fault_more : (command : Command) → Fault failed host kept command next → Fault more host kept command next
-  fault_more (AddPlaces slices force count blocks) is = record { failed = unmade_more failed more cause _ _ _ _ _ is.failed; memory = is.memory; content = is.content; beside = is.beside }
+  fault_more (AddPlaces slices force count blocks) is = opened_more kept.memory.opened (uncreated_more _ count blocks) (λ o. unmoved_on_more o _ count blocks) is
   fault_more (AddListed number force) is = absurd is
-  fault_more (DropPlaces slices force) is = absurd is
+  fault_more (DropPlaces slices force) is = (is.0, is.1, is.2, undeleted_more is.0 is.3)
   fault_more (MakeStripe volume slice) is = absurd is
   fault_more (Read volume at count) is = (is.0, on_more failed more cause is.0.drive is.1, is.2, is.3)
   fault_more (Write volume at block) is = (is.0, on_more failed more cause is.0.drive is.1, is.2, is.3, is.4)
   fault_more (Print names) is = absurd is
 
   effect_more : (command : Command) → Effect failed host kept command answer next → Effect more host kept command answer next
-  effect_more (AddPlaces slices force count blocks) is = (is.0, record { opened = is.1.opened; made = made_more failed more cause _ _ _ _ _ is.1.opened is.1.made; calm = beside_more failed more cause _ is.1.calm; memory = is.1.memory; formed = is.1.formed; content = is.1.content; beside = is.1.beside })
+  effect_more (AddPlaces slices force count blocks) is = (is.0, opened_more kept.memory.opened (created_more _ count blocks) (λ o moved. (moved.0, moved_on_more o _ moved.0 moved.1)) is.1)
   effect_more (AddListed number force) is = absurd is
-  effect_more (DropPlaces slices force) is = absurd is
+  effect_more (DropPlaces slices force) is = (is.0, is.1, is.2, match_more (are_all is.1 slices) _ _ _ _ (deleted_more is.1) (λ moved. (moved.0, moved_on_more is.1 _ moved.0 moved.1)) is.3)
   effect_more (MakeStripe volume slice) is =
       (is.0, is.1, is.2, record { opened = is.3.opened; committed = committed_more failed more cause is.1 is.3.opened _ is.3.committed; calm = beside_more failed more cause _ is.3.calm; memory = is.3.memory; content = is.3.content; beside = is.3.beside })
   effect_more (Read volume at count) is = (calm_more failed more cause is.0, is.1, is.2, is.3, is.4)

@@ -1,5 +1,5 @@
 -- A volume that a change makes begins with one value in each block, and then its table may be written.
-use Rattle.std.proofs.Common.{◌≡◌, ◌⊎◌, inl, inr, ◌+◌, ◌<◌, ℕ, true, false, List, [], ◌∷◌, Option, Some, IfSome, refl, sym, ◌∙◌, ap, subst, arith}
+use Rattle.std.proofs.Common.{◌≡◌, ◌⊎◌, inl, inr, ◌+◌, ◌<◌, ℕ, true, false, List, [], ◌∷◌, Some, refl, sym, ◌∙◌, ap, subst, arith}
 use Rattle.mdv_engine_law.specs.Below.{Among, AreWoken, Begins, Event, Happens, History, IsMapOf, IsNamed, Key, Log, MakeStripe, Map, MayLeave, OfPlan, OfVolume, Opened, SliceName, Table, Tale, Version, VolId, VolumeKind, Base, Woke, area_of_map, history_after, history_after_all, last, log_of, run_map}
 use Rattle.mdv_map.proofs.Covering.{areas_cover}
 use Rattle.mdv_map.specs.Logs.{Follows, VolumeLog, opening}
@@ -30,14 +30,14 @@ use Rattle.mdv_volumes.proofs.Waking.{beginnings_go}
 use Rattle.mdv_engine_law.specs.declared.host.Host.{Host}
 use Rattle.mdv_engine_law.specs.Hosts.{IsReady, key_of}
 use Rattle.mdv_engine_law.specs.Line.{Memory}
-use Rattle.mdv_engine_law.specs.Standing.{IsKnown, IsOfRun, IsUnused, Knows, StandsAt, is_up}
+use Rattle.mdv_engine_law.specs.Standing.{IsKnown, IsOfRun, IsSteadyBlock, Knows, StandsAt, is_up}
 use Rattle.mdv_engine_law.proofs.Asking.{Alone, asked_is}
 use Rattle.mdv_engine_law.proofs.Beside.{lies_plain}
 use Rattle.mdv_engine_law.proofs.Going.{AllAwake}
 use Rattle.mdv_engine_law.proofs.Owning.{own_alone}
 use Rattle.mdv_engine_law.proofs.Refusing.{known_newest, opened_has}
 use Rattle.mdv_engine_law.proofs.Staying.{plain_has}
-use Rattle.mdv_engine_law.proofs.Unused.{not_true}
+use Rattle.mdv_engine_law.proofs.Steady.{not_true}
 use Rattle.mdv_shelf.proofs.Blocks.{both_ways}
 
 -- the table of a change
@@ -78,14 +78,18 @@ module _ (host : Host) (sizes : List ℕ) (ready : IsReady host sizes) (memory :
   never_old : (other : VolId) (w : Map) → IsMapOf host.drives newest.table other w → volume ≡ other → ⊥
   never_old other w lies same = tables_lie.new host.drives newest.table table volume slice w ready.sound made.0 (subst (λ (x : VolId). IsMapOf host.drives newest.table x w) (sym same) lies)
 
-  -- its blocks are unused until then
-  unused_block : (b : ℕ) → b < new_run.count → IsUnused host memory new_run.drive (new_run.first + b)
-  unused_block b lt = record {
+  -- its blocks are no volume's until then
+  steady_block : (b : ℕ) → b < new_run.count → IsSteadyBlock host memory new_run.drive (new_run.first + b)
+  steady_block b lt = record {
     plain = plain_has host new_run.drive new_run.first new_run.count (lies_plain host ready.sound table placed volume new_run.drive new_run.first new_run.count new_run.lies) new_run.first new_run.count new_run.drive (new_run.first + b) (omega arith) (omega arith) (covered new_run.drive new_run.first new_run.count b lt);
-    free = subst (λ (o : Option Opened). IfSome o (λ n. (other : VolId) (w : Map) → IsMapOf host.drives n.table other w → area_of_map w new_run.drive (new_run.first + b) ≡ false)) (sym opened) (λ other w lies.
-        not_true (area_of_map w new_run.drive (new_run.first + b)) (λ has.
-        let inside = areas_cover.inside w new_run.drive (new_run.first + b) has in
-        laid.apart volume other map w (never_old other w lies) new_run.lies (tables_lie.stays host.drives newest.table table volume slice other w made.0 lies) b inside.0 new_run.drive (new_run.first + b) lt inside.1 (inl (refl, refl)) inside.2));
+    free = λ torn. (
+      newest,
+      opened,
+      λ other w lies.
+          not_true (area_of_map w new_run.drive (new_run.first + b)) (λ has.
+          let inside = areas_cover.inside w new_run.drive (new_run.first + b) has in
+          laid.apart volume other map w (never_old other w lies) new_run.lies (tables_lie.stays host.drives newest.table table volume slice other w made.0 lies) b inside.0 new_run.drive (new_run.first + b) lt inside.1 (inl (refl, refl)) inside.2),
+    );
   }
 
   -- and have one value each
@@ -96,11 +100,11 @@ module _ (host : Host) (sizes : List ℕ) (ready : IsReady host sizes) (memory :
   }
     where
       by : (image : ℕ → ℕ → List ℕ) (b : ℕ) (x : List ℕ) → b < new_run.count → MayLeave t new_run.drive (new_run.first + b) (image new_run.drive (new_run.first + b)) → Among (image new_run.drive (new_run.first + b) ∷ []) x → x ≡ last t new_run.drive (new_run.first + b)
-      by image b x lt left (inl same) = same ∙ knows.unused new_run.drive (new_run.first + b) up (unused_block b lt) (image new_run.drive (new_run.first + b)) left
+      by image b x lt left (inl same) = same ∙ knows.steady new_run.drive (new_run.first + b) up (steady_block b lt) (image new_run.drive (new_run.first + b)) left
       by image b x lt left (inr none) = absurd none
 
   -- a boot finds the open table alone
-  alone_of : (lg : Log) → IsLog host.drives lg → IsNewestWritten lg newest.mark newest.table → Alone host.drives (OfPlan (MakeStripe volume slice)) newest.table table made lg
+  alone_of : (lg : Log) → IsLog host.drives lg → IsNewestWritten lg newest.mark newest.table → Alone host.drives (OfPlan (MakeStripe volume slice)) tt newest.table table made lg
   alone_of lg is newest_is = record {
     some = subst log.IsBegun (sym newest_is.newest.family) tt;
     each = λ v found. inl (ap (λ (w : Version). w.table) (only_found newest_is.newest.version newest_is.newest.older v (subst log.IsRising newest_is.newest.family is.rising) newest_is.written (subst (λ (f : List Version). MayBeFound f v) newest_is.newest.family found)) ∙ newest_is.newest.same);
@@ -113,7 +117,7 @@ module _ (host : Host) (sizes : List ℕ) (ready : IsReady host sizes) (memory :
     is_log : IsLog host.drives (log_of h.databases key)
     is_log = is_log_of host.drives h.databases t known.stands.databases key
 
-    alone : Alone host.drives (OfPlan (MakeStripe volume slice)) newest.table table made (log_of h.databases key)
+    alone : Alone host.drives (OfPlan (MakeStripe volume slice)) tt newest.table table made (log_of h.databases key)
     alone = alone_of (log_of h.databases key) is_log is_newest
 
     -- no table that a boot may find has the volume
@@ -145,7 +149,7 @@ module _ (host : Host) (sizes : List ℕ) (ready : IsReady host sizes) (memory :
       pub happens : Happens host.drives h es [] [] t
       pub is : g ≡ history_after_all h es
       pub awake : AllAwake host h es
-      pub issues : AreAll (IsIssue (IsOfRun host)) es
+      pub issues : AreAll (IsIssue (IsOfRun host [])) es
       pub databases : g.databases ≡ h.databases
       pub up : g.up ≡ h.up
       pub follows : Follows map (g.volumes key volume) t
@@ -252,4 +256,4 @@ module _ (host : Host) (sizes : List ℕ) (ready : IsReady host sizes) (memory :
             ap (λ (n : VolId). g.woken key n) same_number ∙ grows.own (subst (λ (v : Map). IsUpon (is_up memory) v) maps upon) ∙ ap (λ (v : Map). v.blocks) (sym maps)
 
     pub only_asked : (es : List log.Event) → log.IsCourse host.drives (log_of h.databases key) es → IsPart (log.begun_by es) (Some (OfPlan (MakeStripe volume slice)) ∷ []) → (other : Table) → IsAsked es other → IsSameOrSettled table other
-    only_asked es course within other asked = asked_is host.drives (OfPlan (MakeStripe volume slice)) newest.table table made (log_of h.databases key) es is_log alone course within other asked
+    only_asked es course within other asked = asked_is host.drives (OfPlan (MakeStripe volume slice)) tt newest.table table made (log_of h.databases key) es is_log alone course within other asked

@@ -5,11 +5,11 @@ use Rattle.std.specs.List.{list_any}
 use Rattle.std.proofs.lemmas.List.{append-nil}
 use Rattle.mdv_base.specs.Order.{first_refusal, where_so}
 use Rattle.mdv_name.specs.SliceIndex.{slice_at}
-use Rattle.mdv_engine_law.specs.Below.{SliceName, Refusal, BadLine, NeedForce, NoSuchSlice, Opened, SliceInUse, TooMany, TooSmall, WrongKind, WrongState, Absent, Down, Place, ReplicaFull, StateWord, AddPlaces}
-use Rattle.mdv_engine_law.specs.Refusals.{Case, are_all, held_of_drop, held_of_less, held_of_lists, held_of_more, held_of_others, in_state, rest_of, state_of_less, told_of_lists, told_of_others, is_doubled, is_missing, is_plain, is_short, is_taken, places_open, refusal_of}
+use Rattle.mdv_engine_law.specs.Below.{SliceName, Refusal, NeedForce, NoSuchSlice, Opened, SliceInUse, TooMany, TooSmall, WrongKind, WrongState, Absent, Down, Place, ReplicaFull, StateWord, AddPlaces}
+use Rattle.mdv_engine_law.specs.Refusals.{Case, held_of_drop, held_of_less, held_of_lists, held_of_others, in_state, rest_of, state_of_less, told_of_lists, told_of_others, is_doubled, is_missing, is_plain, is_short, is_taken, places_open, refusal_of}
 use Rattle.mdv_base.proofs.Order.{full_is_last}
 use Rattle.std.specs.Option.{option_or, unwrap_or}
-use Rattle.mdv_engine_law.specs.Places.{bytes_with, list_more, list_of, room_with}
+use Rattle.mdv_engine_law.specs.Places.{are_all, bytes_with, list_more, list_of, room_with}
 use Rattle.mdv_engine_law.proofs.Ordered.{Held, first_is_told, first_told, holding}
 
 -- the causes of replicas, each by whether it holds
@@ -31,44 +31,27 @@ told_of_replicas missing plain down many unforced taken small = first_told (caus
 last_holds : (small : Bool) → where_so small TooSmall ≡ where_so small TooSmall ++ []
 last_holds small = sym (append-nil (where_so small TooSmall))
 
-none_told : (cs : List Held) → first_told cs ≡ None → holding cs ≡ []
-none_told [] is = refl
-none_told (c ∷ cs) is = by c.holds is (none_told cs) where
-  by : (holds : Bool) → (if holds then Some c.refusal else first_told cs) ≡ None → (first_told cs ≡ None → holding cs ≡ []) → where_so holds c.refusal ++ holding cs ≡ []
-  by true is rest = absurd (cc (is))
-  by false is rest = rest is
-
--- what is told of a database that is open
-more_told : (o : Opened) (held : List Refusal) (told : Option Refusal) → first_refusal held ≡ told → (told ≡ None → held ≡ []) → first_refusal (held_of_more (Some o) held) ≡ option_or told (Some BadLine)
-more_told o [] told is none = ap (λ (t : Option Refusal). option_or t (Some BadLine)) is
-more_told o (r ∷ held) None is none = absurd (cc (none refl))
-more_told o (r ∷ held) (Some q) is none = is
+or_none : (told : Option Refusal) → told ≡ option_or told None
+or_none None = refl
+or_none (Some r) = refl
 
 -- where something speaks against it that stands last
-more_is : (o : Opened) (held : List Refusal) (r : Refusal) → held_of_more (Some o) (held ++ r ∷ []) ≡ held ++ r ∷ []
-more_is o [] r = refl
-more_is o (q ∷ held) r = refl
-
-pub lists_told : (o : Opened) (list : List Place) (held : List Refusal) (told : Option Refusal) → first_refusal held ≡ told → (told ≡ None → held ≡ []) → first_refusal (held_of_more (Some o) (held ++ held_of_lists o list)) ≡ option_or told (Some (told_of_lists o list))
-lists_told o list held told is none = by (nat_lt room bytes) where
+pub lists_told : (o : Opened) (list : List Place) (held : List Refusal) (told : Option Refusal) → first_refusal held ≡ told → first_refusal (held ++ held_of_lists o list) ≡ option_or told (told_of_lists o list)
+lists_told o list held told is = by (nat_lt room bytes) where
   bytes : ℕ
   bytes = bytes_with o list
 
   room : ℕ
   room = room_with o list
 
-  by : (long : Bool) → first_refusal (held_of_more (Some o) (held ++ where_so long (ReplicaFull bytes room))) ≡ option_or told (Some (if long then ReplicaFull bytes room else BadLine))
-  by true = ap first_refusal (more_is o held (ReplicaFull bytes room)) ∙ full_is_last held bytes room ∙ ap (λ (t : Option Refusal). option_or t (Some (ReplicaFull bytes room))) is
-  by false = ap (λ (l : List Refusal). first_refusal (held_of_more (Some o) l)) (append-nil held) ∙ more_told o held told is none
+  by : (long : Bool) → first_refusal (held ++ where_so long (ReplicaFull bytes room)) ≡ option_or told (if long then Some (ReplicaFull bytes room) else None)
+  by true = full_is_last held bytes room ∙ ap (λ (t : Option Refusal). option_or t (Some (ReplicaFull bytes room))) is
+  by false = ap first_refusal (append-nil held) ∙ is ∙ or_none told
 
-or_none : (told : Option Refusal) → told ≡ option_or told None
-or_none None = refl
-or_none (Some r) = refl
-
-either_told : (opened : Option Opened) (slices : List SliceName) (count blocks : ℕ) (held : List Refusal) (told : Option Refusal) → first_refusal held ≡ told → (told ≡ None → held ≡ [])
-    → first_refusal (held_of_more opened (held ++ held_of_others opened slices count blocks)) ≡ option_or told (told_of_others opened slices count blocks)
-either_told None slices count blocks held told is none = ap first_refusal (append-nil held) ∙ is ∙ or_none told
-either_told (Some o) slices count blocks held told is none = lists_told o (list_more slices count blocks (list_of o)) held told is none
+either_told : (opened : Option Opened) (slices : List SliceName) (count blocks : ℕ) (held : List Refusal) (told : Option Refusal) → first_refusal held ≡ told
+    → first_refusal (held ++ held_of_others opened slices count blocks) ≡ option_or told (told_of_others opened slices count blocks)
+either_told None slices count blocks held told is = ap first_refusal (append-nil held) ∙ is ∙ or_none told
+either_told (Some o) slices count blocks held told is = lists_told o (list_more slices count blocks (list_of o)) held told is
 
 module _ (missing plain down many unforced taken small : Bool) where
   abbrev causes : List Held
@@ -82,8 +65,8 @@ module _ (missing plain down many unforced taken small : Bool) where
   all_hold =
       ap (λ (l : List Refusal). where_so missing NoSuchSlice ++ (where_so plain WrongKind ++ (where_so down (WrongState Down) ++ (where_so many TooMany ++ (where_so unforced NeedForce ++ (where_so taken SliceInUse ++ l)))))) (last_holds small)
 
-  replicas_told : (opened : Option Opened) (slices : List SliceName) (count blocks : ℕ) → first_refusal (held_of_more opened (all_held ++ held_of_others opened slices count blocks)) ≡ option_or (first_told causes) (told_of_others opened slices count blocks)
-  replicas_told opened slices count blocks = either_told opened slices count blocks all_held (first_told causes) (ap first_refusal all_hold ∙ first_is_told causes refl) (λ none. all_hold ∙ none_told causes none)
+  replicas_told : (opened : Option Opened) (slices : List SliceName) (count blocks : ℕ) → first_refusal (all_held ++ held_of_others opened slices count blocks) ≡ option_or (first_told causes) (told_of_others opened slices count blocks)
+  replicas_told opened slices count blocks = either_told opened slices count blocks all_held (first_told causes) (ap first_refusal all_hold ∙ first_is_told causes refl)
 
 -- A body that looks at these causes one behind another tells the refusal of a creation.
 pub creation_is_told : (case : Case) (slices : List SliceName) (force : Bool) (count blocks : ℕ)
@@ -129,11 +112,10 @@ module _ (missing plain unforced : Bool) (state : Option StateWord) where
 -- A body that looks at these causes one behind another tells the refusal where places are to go.
 pub drop_is_told : (case : Case) (o : Opened) (slices : List SliceName) (force : Bool)
     → first_refusal (held_of_drop case (Some o) slices force)
-    ≡ option_or (told_of_less (list_any (is_missing case.host) slices) (list_any (λ slice. is_plain (slice_at case.host.drives.slices slice)) slices) (state_of_less case o slices) (are_all o slices && not force)) (Some (told_of_lists o (rest_of o slices)))
+    ≡ option_or (told_of_less (list_any (is_missing case.host) slices) (list_any (λ slice. is_plain (slice_at case.host.drives.slices slice)) slices) (state_of_less case o slices) (are_all o slices && not force)) (told_of_lists o (rest_of o slices))
 drop_is_told case o slices force =
     let missing = list_any (is_missing case.host) slices in
     let plain = list_any (λ slice. is_plain (slice_at case.host.drives.slices slice)) slices in
     let unforced = are_all o slices && not force in
     let state = state_of_less case o slices in
     lists_told o (rest_of o slices) (held_of_less case o slices force) (told_of_less missing plain state unforced) (less_told missing plain unforced state)
-    (λ none. less_hold missing plain unforced state ∙ none_told (less_causes missing plain state unforced) none)

@@ -1,6 +1,6 @@
 -- What a line leaves in memory and on the drive, where it did what was asked.
 use Rattle.std.proofs.Common.{◌≡◌, ⊎_elim, inl, inr, ◌+◌, ◌-◌, ℕ, suc, List, [], ◌∷◌, length, slice_index_or, Some, refl, sym, ◌∙◌, ap, arith}
-use Rattle.mdv_engine_law.specs.Below.{Area, DriveBlock, Geometry, HasNoTable, Identity, IsOpenedAt, IsSettled, Key, KeptOutside, Opened, Settling, SliceLine, Table, Tale, last, nowhere, seats_area, values_reply}
+use Rattle.mdv_engine_law.specs.Below.{Area, DriveBlock, Geometry, Identity, IsOpenedAt, IsSettled, Key, KeptOutside, Opened, Settling, SliceLine, Table, Tale, last, nowhere, seats_area, values_reply}
 use Rattle.mdv_shelf.specs.Failing.{Outcomes}
 use Rattle.mdv_standing.specs.Creating.{first_mark}
 use Rattle.mdv_store.specs.Commit as commit
@@ -107,8 +107,8 @@ module _ (host : Host) (memory next : Memory) (t u : Tale) where
   }
 
   pub uncreated : (calls : Outcomes) (lines : List SliceLine) (count blocks : ℕ) → create.HasFailed calls (key_of host) (identity_of host memory.begun) lines count blocks → KeptOutside (places_area lines count blocks) t u
-      → next ≡ record memory { begun = memory.begun + 1 } → HasNoTable host.drives (key_of host) u → IsUncreated calls host lines count blocks (kept_at memory t) (kept_at next u)
-  uncreated calls lines count blocks failed kept is nothing = record { failed = failed; memory = is; content = λ identity. nothing identity (last u) (last_image u); beside = same_beside (places_area lines count blocks) t u kept }
+      → next ≡ record memory { begun = memory.begun + 1 } → IsUncreated calls host lines count blocks (kept_at memory t) (kept_at next u)
+  uncreated calls lines count blocks failed kept is = record { failed = failed; memory = is; beside = same_beside (places_area lines count blocks) t u kept }
 
   pub committed : (calls : Outcomes) (o new : Opened) (table : Table) → commit.IsCommitted calls o new table → AreCalmBeside (drives_of o.seats) calls → KeptOutside (seats_area o.seats) t u → next ≡ record memory { opened = Some new } → IsOpenedAt host.drives new u
       → IsCommitted calls host o table (kept_at memory t) (kept_at next u)

@@ -1,7 +1,8 @@
 -- What is known between lines stays where no block changes.
 use Rattle.std.proofs.Common.{◌≡◌, List, Option, Some, None, IfSome, refl, sym, ◌∙◌}
-use Rattle.mdv_databases.proofs.Lasting.{open_elsewhere, opened_elsewhere, tables_elsewhere}
+use Rattle.mdv_databases.proofs.Lasting.{open_elsewhere, opened_elsewhere, freed_elsewhere}
 use Rattle.mdv_engine_law.specs.Below.{AreWoken, Database, Geometry, History, IsOpenIn, IsOpenedAt, KeptOutside, Opened, Tale, VolId, nowhere}
+use Rattle.mdv_databases.specs.Lasting.{AreFreed}
 use Rattle.mdv_volumes.specs.HistoryLaws.{IsElsewhere}
 use Rattle.mdv_volumes.proofs.Restarts.{restarts_go}
 use Rattle.mdv_engine_law.specs.declared.host.Host.{Host}
@@ -32,9 +33,8 @@ module _ (host : Host) (u v : Tale) (kept : KeptOutside nowhere u v) where
   module _ (memory : Memory) where
     pub knows_kept : Knows host memory u → Knows host memory v
     knows_kept knows = record {
-      nothing = λ none up. tables_elsewhere host.drives nowhere (λ key drive block here there. cc here) u v kept (key_of host) (knows.nothing none up);
       opened = some_more memory.opened (λ o. (o.key ≡ key_of host) × IsOpenedAt host.drives o u) (λ o. (o.key ≡ key_of host) × IsOpenedAt host.drives o v) (λ o is. (is.0, opened_kept host.drives o u v kept is.1)) knows.opened;
-      unused = λ drive block up free x left. (let is = kept drive block refl in knows.unused drive block up free x (is.left x left) ∙ sym is.last);
+      steady = λ drive block up free x left. (let is = kept drive block refl in knows.steady drive block up free x (is.left x left) ∙ sym is.last);
     }
 
     pub known_kept : (h : History) → IsKnown host memory h u → IsKnown host memory h v
@@ -42,6 +42,7 @@ module _ (host : Host) (u v : Tale) (kept : KeptOutside nowhere u v) where
       stands = stands_kept h known.stands;
       its = known.its;
       is_open = some_more memory.opened (λ o. IsOpenIn host.drives o h.databases u) (λ o. IsOpenIn host.drives o h.databases v) (λ o is. open_kept o h.databases is) known.is_open;
+      free = λ none clean. freed_elsewhere host.drives nowhere (λ key drive block here there. cc here) u v kept h.databases (key_of host) (known.free none clean);
       up = known.up;
       woken = known.woken;
       knows = knows_kept known.knows;
@@ -49,11 +50,12 @@ module _ (host : Host) (u v : Tale) (kept : KeptOutside nowhere u v) where
 
 -- a history that goes on with the same database open, the same drives up, and as many blocks woken, is known as the first was
 pub known_on : (host : Host) (memory : Memory) (h after : History) (t : Tale) → StandsAt host after t → AreOwn host memory.begun after → ((o : Opened) → IsOpenIn host.drives o h.databases t → IsOpenIn host.drives o after.databases t)
-    → after.up (key_of host) ≡ h.up (key_of host) → ((volume : VolId) → after.woken (key_of host) volume ≡ h.woken (key_of host) volume) → IsKnown host memory h t → IsKnown host memory after t
-known_on host memory h after t stands its still up counts known = record {
+    → (AreFreed host.drives h.databases (key_of host) t → AreFreed host.drives after.databases (key_of host) t) → after.up (key_of host) ≡ h.up (key_of host) → ((volume : VolId) → after.woken (key_of host) volume ≡ h.woken (key_of host) volume) → IsKnown host memory h t → IsKnown host memory after t
+known_on host memory h after t stands its still freed up counts known = record {
   stands = stands;
   its = its;
   is_open = some_more memory.opened (λ o. IsOpenIn host.drives o h.databases t) (λ o. IsOpenIn host.drives o after.databases t) still known.is_open;
+  free = λ none clean. freed (known.free none clean);
   up = up ∙ known.up;
   woken = some_more memory.opened (λ o. AreWoken host.drives o.table (is_up memory) h (key_of host)) (λ o. AreWoken host.drives o.table (is_up memory) after (key_of host))
       (λ o are volume v map upon. counts volume ∙ are volume v map upon) known.woken;

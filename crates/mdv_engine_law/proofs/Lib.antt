@@ -15,7 +15,7 @@ pub mod Lifting
 pub mod Ready
 pub mod Refusing
 pub mod Beside
-pub mod Unused
+pub mod Steady
 pub mod Within
 mod Ordered
 pub mod Judging
@@ -24,9 +24,15 @@ pub mod Places
 pub mod Placing
 pub mod Asking
 pub mod Booting
+pub mod Freed
 pub mod Making
 pub mod Growing
 pub mod Changing
+pub mod Alike
+pub mod Raising
+pub mod Moving
+pub mod Reaching
+pub mod Removing
 pub mod Transfer
 pub mod Keeping
 mod Taking

@@ -1,10 +1,9 @@
 -- What goes on in a database goes on in the history.
 use Rattle.std.proofs.Common.{◌≡◌, inl, inr, List, [], ◌∷◌, Option, Some, None, map, refl, sym, ◌∙◌, ap, subst}
-use Rattle.mdv_databases.specs.Going.{GoOn, with_events}
-use Rattle.mdv_databases.proofs.Going.{anew_behind}
+use Rattle.mdv_databases.specs.Going.{GoOn, GoOnBy, with_events}
 use Rattle.mdv_engine_law.specs.Below.{Identity, KeptOutside, Key, Tale, Change, Log, History, Deed, Event, Table, Happens, history_after_all, site_area, site_of}
 use Rattle.mdv_store_law.specs.Log as log
-use Rattle.mdv_store_law.specs.Log.{ChangesAlone, IsAskable, Issue, PlacesStay}
+use Rattle.mdv_store_law.specs.Log.{ChangesAlone, IsAskable, Issue}
 use Rattle.mdv_store_law.specs.Machine.{AreAll, all_of}
 use Rattle.mdv_store_law.specs.Part.{IsPart}
 use Rattle.mdv_store_law.proofs.Issues.{asked_issued}
@@ -12,7 +11,7 @@ use Rattle.mdv_store_law.proofs.Parts.{part_mapped, part_of_part}
 use Rattle.mdv_volumes.specs.Databases.{current_of}
 use Rattle.mdv_volumes.specs.Happening.{IsIssue, begun_at, deed_of}
 use Rattle.mdv_volumes.specs.HistoryLaws.{AreLater, IsAsked, IsLifted, IsReady as IsTableReady, identity_in, lifted}
-use Rattle.mdv_volumes.proofs.Lifting.{databases_go, lifted_after}
+use Rattle.mdv_volumes.proofs.Lifting.{databases_go, lifted_after, untold_by}
 use Rattle.mdv_engine_law.specs.declared.host.Host.{Host}
 use Rattle.mdv_engine_law.specs.Standing.{StandsAt, IsOfRun, Goes}
 use Rattle.mdv_engine_law.proofs.Going.{AllAwake, happened, happened_stands}
@@ -26,7 +25,7 @@ are_later (log.Written ∷ es) is = (tt, are_later es is.1)
 are_later (log.Told which before ∷ es) is = (tt, are_later es is.1)
 are_later (log.Placing places ∷ es) is = absurd is.0
 are_later (log.Clearing ∷ es) is = absurd is.0
-are_later (log.Gone ∷ es) is = absurd is.0
+are_later (log.Gone ∷ es) is = (tt, are_later es is.1)
 
 -- a log's events read and write no volume
 pub lifted_awake : (host : Host) (key : Key) (identity : Identity) (es : List log.Event) (h : History) → AllAwake host h (lifted key identity es)
@@ -60,7 +59,7 @@ changes_begun key (log.Written ∷ es) are = changes_begun key es are.1
 changes_begun key (log.Told which before ∷ es) are = changes_begun key es are.1
 changes_begun key (log.Placing places ∷ es) are = absurd are.0
 changes_begun key (log.Clearing ∷ es) are = absurd are.0
-changes_begun key (log.Gone ∷ es) are = absurd are.0
+changes_begun key (log.Gone ∷ es) are = changes_begun key es are.1
 
 -- a table that a change makes was asked by one
 pub asked_change : (es : List log.Event) (table : Table) → IsAsked es table → (change : Change) × IsPart (Some change ∷ []) (log.begun_by es)
@@ -92,27 +91,32 @@ never_asked es table within is = let asked = asked_change es table is in never (
 
 -- What goes on in a key's database, where nothing is done outside the slices on which its boots look, and each table that a change makes is ready.
 module _ (host : Host) (asks : List Deed) (Then : List Event → History → Type 0) where
-  -- what a run may ask moves no place
-  stay_asked : (asked : List (Option Change)) → AreAll (IsAskable (IsOfRun host)) asked → AreAll (IsAskable PlacesStay) asked
-  stay_asked [] may = tt
-  stay_asked (None ∷ asked) may = (tt, stay_asked asked may.1)
-  stay_asked (Some change ∷ asked) may = (may.0, stay_asked asked may.1)
+  -- whatever its events issue, as long as it is what this run may, and they begin what is asked
+  pub lift_events : (Which : Issue → Type 0) (key : Key) (identity : Identity) (asked : List (Option Change)) (After : Log → Type 0) (t m : Tale) → KeptOutside (site_area (site_of host.drives key)) t m
+      → (h : History) → StandsAt host h t → (goes : GoOnBy Which host.drives h.databases key identity asked After m) → AreLater goes.es → AreAll (log.IsIssue (IsOfRun host asks)) goes.es → IsPart (all_of (begun_at key) goes.es) asks
+      → ((table : Table) → IsAsked goes.es table → IsTableReady host.drives h key t table)
+      → ((es : List Event) (g : History) → StandsAt host g m → g.databases ≡ with_events key goes.es h.databases → g.untold ≡ untold_by key goes.es h.untold → g.woken ≡ h.woken → g.up ≡ h.up → Then es g)
+      → Goes host asks [] Then m h
+  lift_events Which key identity asked After t m kept h stands goes later issued within ready then =
+      let is : IsLifted host.drives h key goes.es m = databases_go host.drives h key identity goes.es t m stands goes.its later goes.course goes.stand kept ready in
+      let name = identity_in (current_of h.databases key) in
+      let events = lifted key name goes.es in
+      let issues : AreAll (IsIssue (IsOfRun host asks)) events = lifted_issues (IsOfRun host asks) key name goes.es issued in
+      let begun = all_of (begun_at key) goes.es in
+      let tells = is.happens.tells ∙ ap (map (deed_of key)) goes.come.tells in
+      let happens : Happens host.drives h events begun [] m = record { course = is.happens.course; begins = is.happens.begins; tells = tells; stands = is.happens.stands } in
+      let after = lifted_after key h name goes.es later in
+      happened host asks begun [] m h events happens issues Then (lifted_awake host key name goes.es h) within
+      (then events (history_after_all h events) (happened_stands host asks begun [] m h events happens issues) (ap (λ (x : History). x.databases) after) (ap (λ (x : History). x.untold) after) is.woken is.up)
 
-  pub lift_log : (key : Key) (identity : Identity) (asked : List (Option Change)) (After : Log → Type 0) (t m : Tale) → KeptOutside (site_area (site_of host.drives key)) t m → IsPart (map (deed_of key) asked) asks → AreAll (IsAskable (IsOfRun host)) asked
+  -- where changes alone are issued
+  pub lift_log : (key : Key) (identity : Identity) (asked : List (Option Change)) (After : Log → Type 0) (t m : Tale) → KeptOutside (site_area (site_of host.drives key)) t m → IsPart (map (deed_of key) asked) asks → AreAll (IsAskable (IsOfRun host asks)) asked
       → (h : History) → StandsAt host h t → (goes : GoOn host.drives h.databases key identity asked After m)
       → ((table : Table) → IsAsked goes.es table → IsTableReady host.drives h key t table)
       → ((es : List Event) (g : History) → StandsAt host g m → g.databases ≡ with_events key goes.es h.databases → g.woken ≡ h.woken → g.up ≡ h.up → Then es g)
       → Goes host asks [] Then m h
   lift_log key identity asked After t m kept within may h stands goes ready then =
-      let later = are_later goes.es goes.come.issues in
-      let is : IsLifted host.drives h key goes.es m = databases_go host.drives h key identity goes.es t m stands goes.its later goes.course goes.stand (anew_behind host.drives h.databases key identity t stands.databases goes.its goes.es stands.anew goes.course (asked_issued PlacesStay asked [] goes.es goes.come (stay_asked asked may))) kept ready in
-      let name = identity_in (current_of h.databases key) in
-      let events = lifted key name goes.es in
-      let issues : AreAll (IsIssue (IsOfRun host)) events = lifted_issues (IsOfRun host) key name goes.es (asked_issued (IsOfRun host) asked [] goes.es goes.come may) in
       let begun = all_of (begun_at key) goes.es in
       let changes : begun ≡ map (deed_of key) (log.begun_by goes.es) = changes_begun key goes.es goes.come.issues in
-      let tells = is.happens.tells ∙ ap (map (deed_of key)) goes.come.tells in
-      let happens : Happens host.drives h events begun [] m = record { course = is.happens.course; begins = is.happens.begins; tells = tells; stands = is.happens.stands } in
-      happened host asks begun [] m h events happens issues Then (lifted_awake host key name goes.es h)
-      (part_of_part begun (map (deed_of key) asked) asks (subst (λ (l : List Deed). IsPart l (map (deed_of key) asked)) (sym changes) (part_mapped (deed_of key) (log.begun_by goes.es) asked goes.come.begins)) within)
-      (then events (history_after_all h events) (happened_stands host asks begun [] m h events happens issues) (ap (λ (x : History). x.databases) (lifted_after key h name goes.es later)) is.woken is.up)
+      lift_events ChangesAlone key identity asked After t m kept h stands goes (are_later goes.es goes.come.issues) (asked_issued (IsOfRun host asks) asked [] goes.es goes.come may)
+      (part_of_part begun (map (deed_of key) asked) asks (subst (λ (l : List Deed). IsPart l (map (deed_of key) asked)) (sym changes) (part_mapped (deed_of key) (log.begun_by goes.es) asked goes.come.begins)) within) ready (λ es g there databases untold. then es g there databases)

@@ -21,9 +21,9 @@ use Rattle.mdv_engine_law.specs.declared.answer.Answer.TheVariants.{Said, Over}
 use Rattle.mdv_engine_law.specs.declared.answer.Ended.TheVariants as ended
 use Rattle.mdv_engine_law.specs.declared.answer.Outcome.TheVariants as outcome
 use Rattle.mdv_engine_law.specs.declared.host.Host.{Host}
-use Rattle.mdv_engine_law.specs.Line.{Ask, Nothing, ToBoot, ToDo, ToMake, ToMakeListed, ToSee, deeds, record_room}
-use Rattle.mdv_engine_law.specs.Refusals.{Case, bytes_after, held, held_of_blocks, are_all, held_of_change, held_of_drop, held_of_less, held_of_lists, held_of_more, held_of_others, in_state, rest_of, state_of_less, held_of_print, held_of_read, held_of_replicas, held_past, names_no_volume, names_pool, has_number, is_doubled, is_missing, is_plain, is_short, is_taken, places_open, refusal_of, size_of}
-use Rattle.mdv_engine_law.specs.Places.{bytes_with, list_more, list_of, room_with}
+use Rattle.mdv_engine_law.specs.Line.{Ask, Nothing, ToBoot, ToDo, ToDrop, ToMake, ToMakeListed, ToSee, deeds, record_room}
+use Rattle.mdv_engine_law.specs.Refusals.{Case, bytes_after, held, held_of_blocks, held_of_change, held_of_drop, held_of_less, held_of_lists, held_of_others, in_state, rest_of, state_of_less, held_of_print, held_of_read, held_of_replicas, held_past, names_no_volume, names_pool, has_number, is_doubled, is_missing, is_plain, is_short, is_taken, places_open, refusal_of, size_of}
+use Rattle.mdv_engine_law.specs.Places.{are_all, bytes_with, list_more, list_of, room_with}
 use Rattle.mdv_base.specs.declared.state_word.StateWord.TheVariants.{Okay, Resyncing, Maintenance, LastErred, Initializing, Offline, Online, Absent, Inactive, Pending, Mediated, Owner, Available, InUse, Broken, TwoDatabases}
 use Rattle.mdv_name.specs.SliceIndex.{slice_at}
 use Rattle.mdv_table.specs.Below.{meets_db}
@@ -105,11 +105,6 @@ module _ (gone taken db used : Bool) where
 one_plain : (r : Refusal) → IsPlain r → All IsPlain (r ∷ [])
 one_plain r plain = All-cons IsPlain r [] plain (All-nil IsPlain)
 
-more_plain : (opened : Option Opened) (held : List Refusal) → All IsPlain held → All IsPlain (held_of_more opened held)
-more_plain None held plain = plain
-more_plain (Some o) [] plain = one_plain BadLine bad_line_plain
-more_plain (Some o) (r ∷ held) plain = plain
-
 no_database_plain : All IsPlain (NoDatabase ∷ [])
 unfolding digits
 no_database_plain = one_plain NoDatabase (plainly NoDatabase refl refl)
@@ -184,16 +179,16 @@ less_plain gone plain unforced state =
 
 drop_plain : (case : Case) (opened : Option Opened) (slices : List SliceName) (force : Bool) → All IsPlain (held_of_drop case opened slices force)
 drop_plain case None slices force = no_database_plain
-drop_plain case (Some o) slices force = more_plain (Some o) (held_of_less case o slices force ++ held_of_lists o (rest_of o slices)) (All-append IsPlain (held_of_less case o slices force) (held_of_lists o (rest_of o slices))
+drop_plain case (Some o) slices force = All-append IsPlain (held_of_less case o slices force) (held_of_lists o (rest_of o slices))
     (less_plain (list_any (is_missing case.host) slices) (list_any (λ slice. is_plain (slice_at case.host.drives.slices slice)) slices) (are_all o slices && not force) (state_of_less case o slices))
-    (lists_plain o (rest_of o slices)))
+    (lists_plain o (rest_of o slices))
 
 held_plain : (case : Case) (command : Command) → All IsPlain (held case command)
 held_plain case (AddPlaces slices force count blocks) =
     let opened = is_some case.memory.opened in
-    more_plain case.memory.opened (held_of_replicas case slices force count blocks ++ held_of_others case.memory.opened slices count blocks) (All-append IsPlain (held_of_replicas case slices force count blocks) (held_of_others case.memory.opened slices count blocks)
+    All-append IsPlain (held_of_replicas case slices force count blocks) (held_of_others case.memory.opened slices count blocks)
     (replicas_plain (list_any (is_missing case.host) slices) (list_any (λ slice. is_plain (slice_at case.host.drives.slices slice)) slices) (not opened && not case.memory.clean) (nat_lt 50 (length (places_open case.memory.opened) + length slices * count))
-    (not opened && not force) (list_any (is_taken case) slices || is_doubled slices) (list_any (is_short case.host count blocks) slices)) (others_plain case.memory.opened slices count blocks))
+    (not opened && not force) (list_any (is_taken case) slices || is_doubled slices) (list_any (is_short case.host count blocks) slices)) (others_plain case.memory.opened slices count blocks)
 held_plain case (AddListed number force) = one_plain BadLine bad_line_plain
 held_plain case (DropPlaces slices force) = drop_plain case case.memory.opened slices force
 held_plain case (command.MakeStripe volume slice) = change_plain case.host case.memory.opened volume slice
@@ -299,6 +294,7 @@ module _ (ask : Ask) where
     by ToBoot = refl
     by (ToMake key lines count blocks) = refl
     by (ToMakeListed key number) = refl
+    by (ToDrop key slices force) = refl
     by (ToDo deed) = refl
     by (ToSee key volume at count) = inl (is, refl)
 
@@ -329,6 +325,7 @@ module _ (ask : Ask) where
     by ToBoot = refl
     by (ToMake key lines count blocks) = refl
     by (ToMakeListed key number) = refl
+    by (ToDrop key slices force) = refl
     by (ToDo deed) = refl
     by (ToSee key volume at count) = inl ((r, refl), refl)
 
@@ -416,6 +413,7 @@ module _ (ask : Ask) where
     by ToBoot acks = ([], refl, inl refl)
     by (ToMake key lines count blocks) acks = ([], refl, inl refl)
     by (ToMakeListed key number) acks = ([], refl, inl refl)
+    by (ToDrop key slices force) acks = ([], refl, inl refl)
     by (ToDo deed) acks = ([], refl, inl refl)
     by (ToSee key volume at count) (inl (refusal, none)) = ([], inl ((refusal.0, size, is ∙ ap (take size) refusal.1), refl), inl refl)
     by (ToSee key volume at count) (inr tells) = (done, inr (record { some = λ empty. absurd (cc (empty)); reply = reply; size = size; front = is; tells = tells }), inr (on, refl))

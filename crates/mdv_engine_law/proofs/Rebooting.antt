@@ -1,5 +1,5 @@
 -- What a boot of the store answered, as a line tells it: which drives came up, what was read of them, and what came of that.
-use Rattle.std.proofs.Common.{◌≡◌, ◌⊎◌, inl, inr, ◌≤◌, ℕ, Bool, true, false, Contains, Some, refl, sym, ◌∙◌, ap, subst, arith, List}
+use Rattle.std.proofs.Common.{◌≡◌, ◌⊎◌, inl, inr, ◌≤◌, ℕ, Bool, true, false, Contains, Some, refl, sym, ◌∙◌, ap, subst, arith}
 use Rattle.std.specs.Bool.{MatchBool}
 use Rattle.mdv_base.specs.Causes.{RoseOnce}
 use Rattle.mdv_shelf.proofs.Moments.{moments_end, some_is}

@@ -1,7 +1,8 @@
 -- A line that ends before anything is done, and what is known by what is in memory.
-use Rattle.std.proofs.Common.{◌≡◌, ◌≤◌, ℕ, true, false, List, [], Option, Some, IfSome, refl, sym, ◌∙◌, ap, subst}
-use Rattle.mdv_engine_law.specs.Below.{AreWoken, Drives, Map, IsMapOf, area_of_map, VolId, History, Key, MayLeave, last, log_of, Refusal, Tale, Opened, IsOpenedAt, IsOpenIn}
+use Rattle.std.proofs.Common.{◌≡◌, inr, ◌≤◌, ℕ, true, List, [], Option, Some, IfSome, refl, sym, ◌∙◌, ap, subst}
+use Rattle.mdv_engine_law.specs.Below.{Created, AreWoken, Drives, History, Key, MayLeave, last, log_of, Refusal, Tale, Opened, IsOpenedAt, IsOpenIn}
 use Rattle.mdv_store.specs.Commit.{IsNewestWritten}
+use Rattle.mdv_store_law.specs.Log.{Lives}
 use Rattle.mdv_engine_law.specs.Awake.{is_in}
 use Rattle.mdv_engine_law.specs.declared.answer.Answer.TheVariants.{Said, Over}
 use Rattle.mdv_engine_law.specs.declared.answer.Ended.TheVariants as ended
@@ -10,8 +11,8 @@ use Rattle.mdv_engine_law.specs.declared.host.Host.{Host}
 use Rattle.mdv_engine_law.specs.Hosts.{key_of}
 use Rattle.mdv_engine_law.specs.Line.{Ask, Memory}
 use Rattle.mdv_engine_law.specs.Replies.{issued_by}
-use Rattle.mdv_engine_law.specs.Standing.{IsKnown, IsUnused, Knows, IsKnownAfter, CarriedTo, is_up}
-use Rattle.mdv_engine_law.proofs.Going.{goes_none}
+use Rattle.mdv_engine_law.specs.Standing.{IsKnown, IsSteadyBlock, Knows, IsKnownAfter, CarriedTo, is_up}
+use Rattle.mdv_engine_law.proofs.Going.{not_among, goes_none}
 use Rattle.mdv_engine_law.proofs.Knowing.{some_more}
 use Rattle.mdv_engine_law.proofs.Owning.{own_still}
 
@@ -22,16 +23,15 @@ of_opened memory o P opened is = subst (λ (x : Option Opened). IfSome x P) (sym
 pub opened_has : (memory : Memory) (o : Opened) (P : Opened → Type 0) → memory.opened ≡ Some o → IfSome memory.opened P → P o
 opened_has memory o P opened is = subst (λ (x : Option Opened). IfSome x P) opened is
 
--- of each unused block on a drive that the last boot brought up a crash leaves what a read gives
+-- of each steady block on a drive that the last boot brought up a crash leaves what a read gives
 abbrev pub IsFree : Host → Memory → Tale → Type 0
-IsFree host memory t = (drive block : ℕ) → is_up memory drive ≡ true → IsUnused host memory drive block → (x : List ℕ) → MayLeave t drive block x → x ≡ last t drive block
+IsFree host memory t = (drive block : ℕ) → is_up memory drive ≡ true → IsSteadyBlock host memory drive block → (x : List ℕ) → MayLeave t drive block x → x ≡ last t drive block
 
 -- a database that is open is known by its newest table, and by that
 pub knows_opened : (host : Host) (memory : Memory) (o : Opened) (u : Tale) → memory.opened ≡ Some o → o.key ≡ key_of host → IsOpenedAt host.drives o u → IsFree host memory u → Knows host memory u
 knows_opened host memory o u opened its is free = record {
-  nothing = λ none clean. absurd (cc (opened, none));
   opened = of_opened memory o (λ n. (n.key ≡ key_of host) × IsOpenedAt host.drives n u) opened (its, is);
-  unused = free;
+  steady = free;
 }
 
 -- what is known of the one that is open
@@ -42,6 +42,10 @@ module _ (host : Host) (memory : Memory) (o : Opened) (is : memory.opened ≡ So
   pub known_open : (h : History) → IsKnown host memory h t → IsOpenIn host.drives o h.databases t
   known_open h known = opened_has memory o (λ n. IsOpenIn host.drives n h.databases t) is known.is_open
 
+  -- it isn't about to be deleted
+  pub known_lives : (h : History) → IsKnown host memory h t → (log_of h.databases (key_of host)).fate ≡ Lives
+  known_lives h known = subst (λ (k : Key). (log_of h.databases k).fate ≡ Lives) (knows_its known.knows).0 (known_open h known).lives
+
   -- its table is the newest of the log of the host's key
   pub known_newest : (h : History) → IsKnown host memory h t → IsNewestWritten (log_of h.databases (key_of host)) o.mark o.table
   known_newest h known = subst (λ (k : Key). IsNewestWritten (log_of h.databases k) o.mark o.table) (knows_its known.knows).0 (known_open h known).newest
@@ -49,17 +53,13 @@ module _ (host : Host) (memory : Memory) (o : Opened) (is : memory.opened ≡ So
 module _ (host : Host) (ask : Ask) (old next : Memory) (t : Tale) where
   -- what is in memory is the same but for how many creations were begun
   module _ (opened : next.opened ≡ old.opened) (up : next.up ≡ old.up) (clean : next.clean ≡ old.clean) (begun : old.begun ≤ next.begun) where
-    abbrev Frees : Opened → ℕ → ℕ → Type 0
-    Frees n drive block = (volume : VolId) (v : Map) → IsMapOf host.drives n.table volume v → area_of_map v drive block ≡ false
-
     same_up : (drive : ℕ) → is_up old drive ≡ is_up next drive
     same_up drive = ap (λ (drives : Drives). is_in drives drive) (sym up)
 
     still_knows : Knows host old t → Knows host next t
     still_knows knows = record {
-      nothing = λ none calm. knows.nothing (sym opened ∙ none) (sym clean ∙ calm);
       opened = subst (λ (o : Option Opened). IfSome o (λ n. (n.key ≡ key_of host) × IsOpenedAt host.drives n t)) (sym opened) knows.opened;
-      unused = λ drive block on free. knows.unused drive block (same_up drive ∙ on) (record { plain = free.plain; free = subst (λ (o : Option Opened). IfSome o (λ n. Frees n drive block)) opened free.free });
+      steady = λ drive block on is. knows.steady drive block (same_up drive ∙ on) (record { plain = is.plain; free = λ torn. (let none = is.free (clean ∙ torn) in (none.0, sym opened ∙ none.1, none.2)) });
     }
 
     -- a refusal before anything was done
@@ -67,19 +67,21 @@ module _ (host : Host) (ask : Ask) (old next : Memory) (t : Tale) where
     refused_still refusal = record {
       done = [];
       acks = refl;
-      goes = λ h known. goes_none host (issued_by ask (Said (outcome.Refused refusal))) (λ es g. IsKnownAfter host [] (Said (outcome.Refused refusal)) next g t) t h known.stands (record {
+      free = λ has. absurd (not_among (Created (key_of host)) has);
+      goes = λ h known. inr (goes_none host (issued_by ask (Said (outcome.Refused refusal))) (λ es g. IsKnownAfter host [] (Said (outcome.Refused refusal)) next g t) t h known.stands (record {
         stands = known.stands;
         its = own_still host old.begun h known.its next.begun h begun refl;
         is_open = subst (λ (o : Option Opened). IfSome o (λ n. IsOpenIn host.drives n h.databases t)) (sym opened) known.is_open;
+        free = λ none calm. known.free (sym opened ∙ none) (sym clean ∙ calm);
         up = known.up ∙ sym up;
         woken = subst (λ (o : Option Opened). IfSome o (λ n. AreWoken host.drives n.table (is_up next) h (key_of host))) (sym opened)
             (some_more old.opened (λ n. AreWoken host.drives n.table (is_up old) h (key_of host)) (λ n. AreWoken host.drives n.table (is_up next) h (key_of host))
             (λ n are volume v map upon. are volume v map (λ b drive block lt has. same_up drive ∙ upon b drive block lt has)) known.woken);
         knows = still_knows known.knows;
-      });
+      }));
       knows = still_knows;
     }
 
   -- a number would reach its limit
   pub spent_still : CarriedTo host ask old (Over ended.Spent) next t t
-  spent_still = record { done = []; acks = refl; goes = λ h known. goes_none host [] (λ es g. IsKnownAfter host [] (Over ended.Spent) next g t) t h known.stands tt; knows = λ knows. tt }
+  spent_still = record { done = []; acks = refl; free = λ has. absurd (not_among (Created (key_of host)) has); goes = λ h known. inr (goes_none host [] (λ es g. IsKnownAfter host [] (Over ended.Spent) next g t) t h known.stands tt); knows = λ knows. tt }

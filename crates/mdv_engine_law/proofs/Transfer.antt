@@ -1,9 +1,11 @@
 -- What a read and a write of blocks of a volume leave of a host's history.
-use Rattle.std.proofs.Common.{◌≡◌, inl, inr, ◌+◌, ◌<◌, ◌≤◌, ℕ, false, List, [], ◌∷◌, length, refl, sym, ◌∙◌, ap, subst, arith}
+use Rattle.std.proofs.Common.{◌≡◌, inl, inr, ◌⊎◌, ◌+◌, ◌<◌, ◌≤◌, ◌==◌, ℕ, Bool, true, false, List, [], ◌∷◌, length, refl, sym, ◌∙◌, ap, subst, arith}
 use Rattle.std.proofs.lemmas.Bool.Decides.{nat_tests}
 use Rattle.std.proofs.lemmas.List.FromFn.{length-map-range_with_len, get_or-map-range_with_len}
-use Rattle.mdv_engine_law.specs.Below.{Answers, AreWoken, Deed, DriveBlock, Drives, Event, Flushes, HasRange, IsThere, Version, History, IoFault, Issues, IsMapOf, IsOpenIn, IsOpenedAt, IsSettled, Key, Map, OfVolume, Opened, Reads, Saw, Settling, Table, Tale, VolId, Wrote, area_of_map, history_after, history_after_all, log_of, range, run_map, values_reply}
-use Rattle.mdv_databases.proofs.Lasting.{open_elsewhere, opened_elsewhere}
+use Rattle.mdv_engine_law.specs.Below.{Created, Answers, AreWoken, Deed, DriveBlock, Drives, Event, Flushes, HasRange, IsThere, Version, History, IoFault, Issues, IsMapOf, IsOpenIn, IsOpenedAt, IsSettled, Key, Map, OfVolume, Opened, Reads, Saw, Settling, Table, Tale, VolId, Wrote, area_of_map, history_after, history_after_all, log_of, range, run_map, values_reply, MayLeave, last}
+use Rattle.mdv_shelf.proofs.Moments.{some_is}
+use Rattle.mdv_databases.proofs.Lasting.{freed_elsewhere, open_elsewhere, opened_elsewhere}
+use Rattle.mdv_databases.specs.Lasting.{AreFreed}
 use Rattle.mdv_databases.specs.Lasting.{IsElsewhere}
 use Rattle.mdv_store.specs.Commit.{IsNewestWritten}
 use Rattle.mdv_table.specs.Table.{IsOfGeometry}
@@ -25,12 +27,12 @@ use Rattle.mdv_engine_law.specs.declared.answer.Outcome.TheVariants as outcome
 use Rattle.mdv_engine_law.specs.declared.host.Host.{Host}
 use Rattle.mdv_engine_law.specs.Hosts.{IsReady, StaysHome, key_of}
 use Rattle.mdv_engine_law.specs.Line.{Memory, ToDo, ToSee, AreBlocksAt, blocks_of, contents}
-use Rattle.mdv_engine_law.specs.Standing.{Goes, IsUnused, StandsAt, Reached, Knows, IsKnown, IsKnownAfter, CarryMoment, CarriedTo, is_up}
+use Rattle.mdv_engine_law.specs.Standing.{Goes, IsOfNoVolume, StandsAt, Reached, Knows, IsKnown, IsKnownAfter, CarryMoment, CarriedTo, is_up}
 use Rattle.mdv_engine_law.proofs.Beside.{IsPlain, lies_plain, run_beside}
-use Rattle.mdv_engine_law.proofs.Going.{happened, happened_stands}
+use Rattle.mdv_engine_law.proofs.Going.{not_among, not_other, happened, happened_stands}
 use Rattle.mdv_engine_law.proofs.Knowing.{known_on, some_more}
 use Rattle.mdv_engine_law.proofs.Owning.{own_still}
-use Rattle.mdv_engine_law.proofs.Refusing.{IsFree, known_newest, knows_its, opened_has, knows_opened}
+use Rattle.mdv_engine_law.proofs.Refusing.{IsFree, known_lives, known_newest, knows_its, opened_has, knows_opened}
 use Rattle.mdv_engine_law.proofs.Writing.{put_by}
 use Rattle.mdv_shelf.proofs.Blocks.{both_ways}
 
@@ -74,6 +76,7 @@ module _ (host : Host) (sizes : List ℕ) (ready : IsReady host sizes) (memory :
       record {
         map = map;
         there = record {
+          lives = known_lives host memory newest there.lies.1 t h known;
           newest = is.newest.version;
           older = is.newest.older;
           family = is.newest.family;
@@ -108,13 +111,14 @@ module _ (host : Host) (sizes : List ℕ) (ready : IsReady host sizes) (memory :
   saw t text is = record {
     done = Saw (key_of host) volume at blocks ∷ [];
     acks = inr (record { blocks = blocks; counted = counted; told = is; seen = refl });
-    goes = λ h known.
+    free = λ has. absurd (not_other (Saw (key_of host) volume at blocks) (Created (key_of host)) (λ same. cc (same)) has);
+    goes = λ h known. inr
         (let read = reads_go host.drives h (key_of host) volume at blocks t (range_of h known) known.stands (runs_stand.copies place.drive there.first there.blocks at (length blocks)) (runs_stand.read place.drive there.first there.blocks at blocks t shown) in
         let event : Event = Reads (key_of host) volume at blocks in
         let stands = happened_stands host [] [] [] t h (event ∷ []) read.happens (tt, tt) in
         happened host [] [] [] t h (event ∷ []) read.happens (tt, tt) (λ es g. IsKnownAfter host (Saw (key_of host) volume at blocks ∷ []) (Said (outcome.Values text)) memory g t)
         (subst (λ (n : ℕ). AreFound host.drives h (key_of host) volume at n) (sym counted) (are_found h t known), tt) tt (
-          known_on host memory h (history_after h event) t stands (own_still host memory.begun h known.its memory.begun (history_after h event) (omega arith) refl) (λ o is_open. is_open) refl (λ other. refl) known,
+          known_on host memory h (history_after h event) t stands (own_still host memory.begun h known.its memory.begun (history_after h event) (omega arith) refl) (λ o is_open. is_open) (λ free. free) refl (λ other. refl) known,
           read.untold,
         ));
     knows = λ knows. knows;
@@ -147,29 +151,50 @@ module _ (host : Host) (sizes : List ℕ) (ready : IsReady host sizes) (memory :
   rewriting : Rewriting (run_map place.drive there.first there.blocks) at blocks t m
   rewriting = runs_stand.written place.drive there.first there.blocks at blocks t m (subst (λ (b : ℕ). Settling place.drive b blocks t m) same_block settling)
 
-  -- the unused blocks stay
-  free_written : IsFree host memory t → IsFree host memory m
-  free_written free drive b on unused x left =
-      let kept = settling.outside drive b (outside drive b unused) in free drive b on unused x (kept.left x left) ∙ sym kept.last
+  -- memory behind a write a call of which failed
+  abbrev torn : Memory
+  torn = record memory { clean = false }
+
+  -- a block that no volume has isn't one of them
+  outside : (drive b : ℕ) → IsOfNoVolume host torn drive b → range place.drive place.block (length blocks) drive b ≡ false
+  outside drive b none =
+      let same : none.0 ≡ there.lies.0 = some_is memory.opened none.0 there.lies.0 none.1 there.lies.1 in
+      let away : area_of_map (run_map place.drive there.first there.blocks) drive b ≡ false = none.2 volume (run_map place.drive there.first there.blocks) (subst (λ (o : Opened). IsMapOf host.drives o.table volume (run_map place.drive there.first there.blocks)) (sym same) there.lies.2) in
+      within place.drive place.block there.first there.blocks drive b (sym (runs_lie.area place.drive there.first there.blocks drive b) ∙ away) there.block_is there.within
     where
-      outside : (drive b : ℕ) → IsUnused host memory drive b → range place.drive place.block (length blocks) drive b ≡ false
-      outside drive b unused =
-          let away : area_of_map (run_map place.drive there.first there.blocks) drive b ≡ false = opened_has memory there.lies.0 (λ n. (other : VolId) (v : Map) → IsMapOf host.drives n.table other v → area_of_map v drive b ≡ false) there.lies.1 unused.free volume
-          (run_map place.drive there.first there.blocks) there.lies.2 in
-          within place.drive place.block there.first there.blocks drive b (sym (runs_lie.area place.drive there.first there.blocks drive b) ∙ away) there.block_is there.within
-        where
-          within : (number block first count drive b : ℕ) → range number first count drive b ≡ false → block ≡ first + at → at + length blocks ≤ count → range number block (length blocks) drive b ≡ false
-          within number block first count drive b away is fits = grind (arith, nat_tests)
+      within : (number block first count drive b : ℕ) → range number first count drive b ≡ false → block ≡ first + at → at + length blocks ≤ count → range number block (length blocks) drive b ≡ false
+      within number block first count drive b away is fits = grind (arith, nat_tests)
+
+  -- the steady blocks stay so, but for those of volumes
+  free_torn : IsFree host memory t → IsFree host torn m
+  free_torn free drive b on is x left =
+      let kept = settling.outside drive b (outside drive b (is.free refl)) in free drive b on (record { plain = is.plain; free = λ dirty. is.free refl }) x (kept.left x left) ∙ sym kept.last
+
+  -- and all do, where the blocks are on the disk with all that their drive was given
+  free_settled : IsSettled place.drive place.block blocks m → IsFree host memory t → IsFree host memory m
+  free_settled settled free drive b on is x left = by (both_ways (drive == place.drive)) where
+    apart : (number block count drive : ℕ) → (drive == number) ≡ false → range number block count drive b ≡ false
+    apart number block count drive other = grind (arith, nat_tests)
+
+    by : ((drive == place.drive) ≡ true) ⊎ ((drive == place.drive) ≡ false) → x ≡ last m drive b
+    by (inl its) = (let same : drive ≡ place.drive = grind (arith, nat_tests, its) in (subst (λ (d : ℕ). MayLeave m d b x → x ≡ last m d b) (sym same) (settled.synced b x)) left)
+    by (inr other) = (let kept = settling.outside drive b (apart place.drive place.block (length blocks) drive other) in free drive b on is x (kept.left x left) ∙ sym kept.last)
 
   elsewhere : Knows host memory t → IsElsewhere host.drives (range place.drive place.block (length blocks))
   elsewhere knows = blocks_beside host sizes ready memory volume at (length blocks) place some there t knows
 
   -- what is known of the open database stays
-  knows_written : Knows host memory t → Knows host memory m
-  knows_written knows =
+  knows_written : (next : Memory) → next.opened ≡ memory.opened → (IsFree host memory t → IsFree host next m) → Knows host memory t → Knows host next m
+  knows_written next opened free knows =
       let n = there.lies.0 in
       let its = knows_its host memory n there.lies.1 t knows in
-      knows_opened host memory n m there.lies.1 its.0 (opened_elsewhere host.drives (range place.drive place.block (length blocks)) (elsewhere knows) t m settling.outside n its.1) (free_written knows.unused)
+      knows_opened host next n m (opened ∙ there.lies.1) its.0 (opened_elsewhere host.drives (range place.drive place.block (length blocks)) (elsewhere knows) t m settling.outside n its.1) (free knows.steady)
+
+  knows_torn : Knows host memory t → Knows host torn m
+  knows_torn = knows_written torn refl free_torn
+
+  knows_settled : IsSettled place.drive place.block blocks m → Knows host memory t → Knows host memory m
+  knows_settled settled = knows_written memory refl (free_settled settled)
 
   module _ (h : History) (known : IsKnown host memory h t) where
     abbrev own : HasRange host.drives h.databases (key_of host) volume at (length blocks)
@@ -178,60 +203,64 @@ module _ (host : Host) (sizes : List ℕ) (ready : IsReady host sizes) (memory :
     found : AreFound host.drives h (key_of host) volume at (length blocks)
     found = are_found host sizes ready memory volume at (length blocks) place some there h t known
 
-    -- what was known is known
-    still : (g : History) → StandsAt host g m → g.databases ≡ h.databases → g.up ≡ h.up → ((other : VolId) → g.woken (key_of host) other ≡ h.woken (key_of host) other) → IsKnown host memory g m
-    still g stands same drives counts = record {
+    -- what was known is known, but for what memory tells of failed calls
+    still : (clean : Bool) → (clean ≡ true → memory.clean ≡ true) → Knows host (record memory { clean = clean }) m → (g : History) → StandsAt host g m → g.databases ≡ h.databases → g.up ≡ h.up → ((other : VolId) → g.woken (key_of host) other ≡ h.woken (key_of host) other)
+        → IsKnown host (record memory { clean = clean }) g m
+    still clean calm knows g stands same drives counts = record {
       stands = stands;
       its = own_still host memory.begun h known.its memory.begun g (omega arith) same;
+      free = λ none is. subst (λ (ds : List Database). AreFreed host.drives ds (key_of host) m) (sym same) (freed_elsewhere host.drives (range place.drive place.block (length blocks)) (elsewhere known.knows) t m settling.outside h.databases (key_of host) (known.free none (calm is)));
       up = ap (λ (up : Key → Drives). up (key_of host)) drives ∙ known.up;
       is_open = some_more memory.opened (λ o. IsOpenIn host.drives o h.databases t) (λ o. IsOpenIn host.drives o g.databases m)
           (λ o is. subst (λ (ds : List Database). IsOpenIn host.drives o ds m) (sym same) (open_elsewhere host.drives (range place.drive place.block (length blocks)) (elsewhere known.knows) t m settling.outside o h.databases is)) known.is_open;
       woken = some_more memory.opened (λ n. AreWoken host.drives n.table (is_up memory) h (key_of host)) (λ n. AreWoken host.drives n.table (is_up memory) g (key_of host))
           (λ n are other v lies upon. counts other ∙ are other v lies upon) known.woken;
-      knows = knows_written known.knows;
+      knows = knows;
     }
 
-    -- its values were issued
-    issued_known : IsKnown host memory (history_after h (OfVolume (key_of host) volume (Issues at blocks))) m
-    unfolding has_range
-    issued_known =
-        let issued = writes_go.issued host.drives h (key_of host) volume at blocks t m own known.stands rewriting in
-        let stands = happened_stands host [] (wrote ∷ []) [] m h (OfVolume (key_of host) volume (Issues at blocks) ∷ []) issued (tt, tt) in
-        still (history_after h (OfVolume (key_of host) volume (Issues at blocks))) stands refl refl (λ other. count_kept h (key_of host) volume (Issues at blocks) (λ n. refl) (key_of host) other)
+    abbrev issued_then : History
+    issued_then = history_after h (OfVolume (key_of host) volume (Issues at blocks))
 
-    pub issued_by : (After : List Event → History → Type 0) → (IsKnown host memory (history_after h (OfVolume (key_of host) volume (Issues at blocks))) m → After (OfVolume (key_of host) volume (Issues at blocks) ∷ []) (history_after h (OfVolume (key_of host) volume (Issues at blocks))))
-        → Goes host (wrote ∷ []) [] After m h
+    issued_stands : StandsAt host issued_then m
+    unfolding has_range
+    issued_stands = happened_stands host [] (wrote ∷ []) [] m h (OfVolume (key_of host) volume (Issues at blocks) ∷ []) (writes_go.issued host.drives h (key_of host) volume at blocks t m own known.stands rewriting) (tt, tt)
+
+    -- its values were issued
+    issued_by : (After : List Event → History → Type 0) → After (OfVolume (key_of host) volume (Issues at blocks) ∷ []) issued_then → Goes host (wrote ∷ []) [] After m h
     unfolding has_range
     issued_by After then =
         let issued = writes_go.issued host.drives h (key_of host) volume at blocks t m own known.stands rewriting in
-        happened host (wrote ∷ []) (wrote ∷ []) [] m h (OfVolume (key_of host) volume (Issues at blocks) ∷ []) issued (tt, tt) After (found, tt) (part_itself (wrote ∷ [])) (then issued_known)
+        happened host (wrote ∷ []) (wrote ∷ []) [] m h (OfVolume (key_of host) volume (Issues at blocks) ∷ []) issued (tt, tt) After (found, tt) (part_itself (wrote ∷ [])) then
+
+    issued_known : IsKnown host torn issued_then m
+    issued_known = still false (λ never. absurd (cc (never))) (knows_torn known.knows) issued_then issued_stands refl refl (λ other. count_kept h (key_of host) volume (Issues at blocks) (λ n. refl) (key_of host) other)
 
     -- they are on the disk
-    pub written_by : AllRead (run_map place.drive there.first there.blocks) at blocks m → AllOnDisk (run_map place.drive there.first there.blocks) at (length blocks) m
+    written_by : IsSettled place.drive place.block blocks m → AllRead (run_map place.drive there.first there.blocks) at blocks m → AllOnDisk (run_map place.drive there.first there.blocks) at (length blocks) m
         → Goes host (wrote ∷ []) [] (λ es g. IsKnownAfter host (wrote ∷ []) (Said outcome.Ok) memory g m) m h
     unfolding has_range
-    written_by read on =
+    written_by settled read on =
         let done = writes_go.done host.drives h (key_of host) volume at blocks t m own known.stands rewriting read on in
         let es = write_of (key_of host) volume at blocks in
         let first = history_after h (OfVolume (key_of host) volume (Issues at blocks)) in
         let second = history_after first (OfVolume (key_of host) volume (Answers at blocks)) in
         let stands = happened_stands host [] (wrote ∷ []) [] m h es done.happens (tt, (tt, (tt, tt))) in
         happened host (wrote ∷ []) (wrote ∷ []) [] m h es done.happens (tt, (tt, (tt, tt))) (λ es g. IsKnownAfter host (wrote ∷ []) (Said outcome.Ok) memory g m) (found, (tt, (tt, tt))) (part_itself (wrote ∷ [])) (
-          still (history_after_all h es) stands refl refl (λ other.
+          still memory.clean (λ is. is) (knows_settled settled known.knows) (history_after_all h es) stands refl refl (λ other.
               count_kept second (key_of host) volume (Flushes at (length blocks)) (λ n. refl) (key_of host) other ∙ count_kept first (key_of host) volume (Answers at blocks) (λ n. refl) (key_of host) other
               ∙ count_kept h (key_of host) volume (Issues at blocks) (λ n. refl) (key_of host) other),
           done.can_tell,
         )
 
   pub writing_moment : StaysHome host t m → CarryMoment host (ToDo wrote) memory t m
-  writing_moment home = record { home = home; within = inr (place, there, put_by place blocks t m settling); quiet = settling.quiet; goes = λ h known. issued_by h known Reached (λ is. tt) }
+  writing_moment home = record { home = home; within = inr (place, there, put_by place blocks t m settling); quiet = settling.quiet; goes = λ h known. inr (issued_by h known Reached tt) }
 
   -- they are on the disk, and the `ok` may be told
   pub wrote_blocks : IsSettled place.drive place.block blocks m → CarriedTo host (ToDo wrote) memory (Said outcome.Ok) memory t m
   wrote_blocks settled =
       let both = runs_stand.settled place.drive there.first there.blocks at blocks m (subst (λ (b : ℕ). IsSettled place.drive b blocks m) same_block settled) in
-      record { done = wrote ∷ []; acks = refl; goes = λ h known. written_by h known both.0 both.1; knows = knows_written }
+      record { done = wrote ∷ []; acks = refl; free = λ has. absurd (not_other wrote (Created (key_of host)) (λ same. cc (same)) has); goes = λ h known. inr (written_by h known settled both.0 both.1); knows = knows_settled settled }
 
   -- a call on the drive failed
-  pub wrote_some : CarriedTo host (ToDo wrote) memory (Said (outcome.Refused IoFault)) memory t m
-  wrote_some = record { done = []; acks = refl; goes = λ h known. issued_by h known (λ es g. IsKnownAfter host [] (Said (outcome.Refused IoFault)) memory g m) (λ is. is); knows = knows_written }
+  pub wrote_some : CarriedTo host (ToDo wrote) memory (Said (outcome.Refused IoFault)) torn t m
+  wrote_some = record { done = []; acks = refl; free = λ has. absurd (not_among (Created (key_of host)) has); goes = λ h known. inr (issued_by h known (λ es g. IsKnownAfter host [] (Said (outcome.Refused IoFault)) torn g m) (issued_known h known)); knows = knows_torn }

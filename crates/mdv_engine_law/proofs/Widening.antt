@@ -1,8 +1,8 @@
 -- What came of the calls of a stretch, told of a longer one by which no further call failed.
-use Rattle.std.proofs.Common.{◌≡◌, ◌⊎◌, inl, inr, ℕ, Bool, true, false, List, Contains}
+use Rattle.std.proofs.Common.{◌≡◌, ◌⊎◌, inl, inr, ℕ, Bool, true, false, List, Option, None, Some, Contains}
 use Rattle.std.specs.Bool.{MatchBool}
 use Rattle.mdv_base.proofs.Causes.{IsWithin}
-use Rattle.mdv_engine_law.specs.Below.{BootEnd, DriveNo, Drives, Identity, Key, Opened, Site, SliceLine, Table, Command, AddListed, AddPlaces, DropPlaces, Print, Read, Write}
+use Rattle.mdv_engine_law.specs.Below.{BootEnd, DriveNo, Drives, Geometry, Identity, Key, Opened, Site, SliceLine, Table, Command, AddListed, AddPlaces, DropPlaces, Print, Read, Write}
 use Rattle.mdv_store.proofs.Passes.{left_as}
 use Rattle.mdv_store.specs.Boot.{IsEndBy, IsOnce, IsShortAt, IsShortBy, IsWrittenTo, is_memory}
 use Rattle.mdv_store.specs.Commit as commit
@@ -19,7 +19,13 @@ use Rattle.mdv_table.specs.declared.plan.Lists.{Lists}
 use Rattle.mdv_words.specs.declared.command.Command.TheVariants as command
 use Rattle.mdv_shelf.specs.Everywhere.{Image}
 use Rattle.mdv_shelf.specs.Failing.{AreCalm, FailedOn, Outcomes}
-use Rattle.mdv_engine_law.specs.Commands.{FailedBlocks, IsLostCommit, blame_of}
+use Rattle.mdv_engine_law.specs.Commands.{FailedBlocks, IsLostCommit, blame_of, blame_of_places}
+use Rattle.mdv_engine_law.specs.Hosts.{lines_asked}
+use Rattle.mdv_engine_law.specs.Moves.{IsLostChange}
+use Rattle.mdv_engine_law.specs.Places.{are_all}
+use Rattle.mdv_places.specs.Asked.{Asks}
+use Rattle.mdv_places.specs.Changing.{HasFailedOn}
+use Rattle.mdv_places.specs.Outcomes.{IsLostBoth, IsLostLast, IsMoved, IsUnmoved, till_wiped}
 use Rattle.mdv_engine_law.specs.Line.{AreCalmBeside, IsReadOf, IsUpBy, Memory}
 use Rattle.mdv_engine_law.specs.Replies.{Blame}
 use Rattle.mdv_engine_law.specs.declared.host.Host.{Host}
@@ -111,10 +117,49 @@ module _ (failed more : Outcomes) (cause : AreWithin failed more) where
   blocks_more : (host : Host) (memory : Memory) (volume : _) (at count : ℕ) → FailedBlocks failed host memory volume at count → FailedBlocks more host memory volume at count
   blocks_more host memory volume at count of = record { place = of.place; there = of.there; failed = on_more of.place.drive of.failed }
 
+  -- so of a change of places
+  moved_left : (g : Geometry) (o : Opened) (asked : Asks) (Takes : Replica → Replica → Type 0) (seats now : List Seat) → AreLeft (till_wiped failed g o asked) Takes seats now → AreLeft (till_wiped more g o asked) Takes seats now
+  moved_left g o asked Takes seats now left = left_as (till_wiped failed g o asked) (till_wiped more g o asked) Takes Takes seats now (λ r has is. (cause (drive_of r)).some is) (λ r has is. none_more (drive_of r) is) (λ r m took. took) left
+    where
+      none_more : (drive : ℕ) → (till_wiped failed g o asked drive).none → (till_wiped more g o asked drive).none
+      none_more drive (inl none) = inl ((cause drive).none none)
+      none_more drive (inr (is, some)) = inr (is, (cause drive).some some)
+
+  failed_on_more : (drives : List DriveNo) → HasFailedOn drives failed → HasFailedOn drives more
+  failed_on_more drives (drive, has, some) = (drive, has, (cause drive.0).some some)
+
+  pub moved_more : (g : Geometry) (o new : Opened) (asked : Asks) (clean : Bool) → IsMoved failed g o asked new clean → IsMoved more g o asked new clean
+  moved_more g o new asked clean is = record {
+    may = is.may;
+    left = moved_left g o asked _ _ _ is.left;
+    enough = is.enough;
+    is = is.is;
+    told = match_more clean _ _ _ _ (λ calm drive has. (cause drive.0).none (calm drive has)) (failed_on_more _) is.told;
+  }
+
+  pub unmoved_more : (g : Geometry) (o : Opened) (asked : Asks) → IsUnmoved failed g o asked → IsUnmoved more g o asked
+  unmoved_more g o asked is = record { may = is.may; drive = is.drive; one_of = is.one_of; here = (cause is.drive.0).some is.here; elsewhere = λ other differs. (cause other.0).none (is.elsewhere other differs) }
+
+  pub lost_records_more : (g : Geometry) (o new : Opened) (asked : Asks) (share : Share) → IsLostBoth failed g o asked new share ⊎ IsLostLast failed g o asked new share → IsLostBoth more g o asked new share ⊎ IsLostLast more g o asked new share
+  lost_records_more g o new asked share (inl both) = inl (record { may = both.may; left = left_more _ _ _ both.left; few = both.few; is = both.is; failed = failed_on_more _ both.failed })
+  lost_records_more g o new asked share (inr last) = inr (record { may = last.may; left = left_more _ _ _ last.left; few = last.few; is = last.is; failed = failed_on_more _ last.failed })
+
+  pub lost_change_more : (g : Geometry) (o : Opened) (asked : Asks) (active listed : ℕ) → IsLostChange failed g o asked active listed → IsLostChange more g o asked active listed
+  lost_change_more g o asked active listed is = record { new = is.new; calm = beside_more _ is.calm; lost = lost_records_more g o is.new asked _ is.lost }
+
+  places_more : (host : Host) (memory : Memory) (opened : Option Opened) (lines : List SliceLine) (count blocks : ℕ) → IsBlamed (blame_of_places failed host memory opened lines count blocks) (blame_of_places more host memory opened lines count blocks)
+  places_more host memory None lines count blocks = record { done = beside_more _; none = calm_more; some = unmade_more _ _ _ _ _; lost = λ active listed is. (lost_more _ _ _ _ _ active listed is.0, beside_more _ is.1) }
+  places_more host memory (Some o) lines count blocks = record { done = beside_more _; none = calm_more; some = unmoved_more _ _ _; lost = lost_change_more _ _ _ }
+
   pub blamed_more : (host : Host) (memory : Memory) (command : Command) → IsBlamed (blame_of failed host memory command) (blame_of more host memory command)
-  blamed_more host memory (AddPlaces slices force count blocks) = record { done = beside_more _; none = calm_more; some = unmade_more _ _ _ _ _; lost = λ active listed is. (lost_more _ _ _ _ _ active listed is.0, beside_more _ is.1) }
+  blamed_more host memory (AddPlaces slices force count blocks) = places_more host memory memory.opened (lines_asked host slices) count blocks
   blamed_more host memory (AddListed number force) = record { done = λ is. is; none = calm_more; some = λ is. is; lost = λ active listed is. is }
-  blamed_more host memory (DropPlaces slices force) = record { done = λ is. is; none = calm_more; some = λ is. is; lost = λ active listed is. is }
+  blamed_more host memory (DropPlaces slices force) = record {
+    done = λ is. (is.0, is.1, match_more (are_all is.0 slices) _ _ _ _ calm_more (beside_more _) is.2);
+    none = calm_more;
+    some = λ is. (is.0, is.1, is.2, failed_on_more _ is.3, beside_more _ is.4);
+    lost = λ active listed is. (is.0, is.1, lost_change_more _ _ _ active listed is.2);
+  }
   blamed_more host memory (command.MakeStripe volume slice) = record { done = λ is. (is.0, is.1, beside_more _ is.2); none = calm_more; some = λ is. is; lost = λ active listed is. (is.0, is.1, lost_commit_more is.0 _ active listed is.2) }
   blamed_more host memory (Read volume at count) = record { done = calm_more; none = calm_more; some = blocks_more host memory volume at count; lost = λ active listed is. is }
   blamed_more host memory (Write volume at block) = record { done = calm_more; none = calm_more; some = blocks_more host memory volume at 1; lost = λ active listed is. is }

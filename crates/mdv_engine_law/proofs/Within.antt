@@ -17,7 +17,7 @@ none_in [] drive block out = refl
 none_in (r ∷ rs) drive block out = or_yes (replica_area r drive block) (list_any (λ (x : Replica). replica_area x drive block) rs) (out r (contains_first r rs)) (none_in rs drive block (λ x has. out x (contains_behind r x rs has)))
 
 -- a block outside the slices is outside each of them
-out_of_line : (site : Site) (drive block : ℕ) (line : SliceLine) → Contains site.lines line → site_area site drive block ≡ false → range line.at.drive.0 (line.at.start + 16) (line.at.blocks - 16) drive block ≡ false
+pub out_of_line : (site : Site) (drive block : ℕ) (line : SliceLine) → Contains site.lines line → site_area site drive block ≡ false → range line.at.drive.0 (line.at.start + 16) (line.at.blocks - 16) drive block ≡ false
 out_of_line site drive block line has out = by (in_line line) refl where
   in_line : SliceLine → Bool
   in_line l = range l.at.drive.0 (l.at.start + 16) (l.at.blocks - 16) drive block

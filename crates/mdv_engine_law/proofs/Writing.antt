@@ -1,14 +1,24 @@
 -- The blocks that a line may write, and those that it leaves, where more calls write none.
-use Rattle.std.proofs.Common.{inl, inr, ℕ, ◌-◌, List, [], ◌∷◌, length, slice_index_or, refl}
+use Rattle.std.specs.Bool.{MatchBool}
+use Rattle.std.proofs.Common.{◌≡◌, inl, inr, ℕ, ◌-◌, Bool, true, false, List, [], ◌∷◌, length, slice_index_or, Option, None, Some, refl}
 use Rattle.mdv_map.proofs.Joining.{kept_is_old, old_or_new_more}
 use Rattle.mdv_shelf.proofs.Everywhere.{everywhere_kept}
 use Rattle.mdv_shelf.proofs.Frame.{kept_outside_more, settled_still}
-use Rattle.mdv_engine_law.specs.Below.{Command, AddListed, AddPlaces, DropPlaces, DriveBlock, Head, IsOwn, KeptOutside, Print, Read, Settling, Spells, Write, nowhere, site_area, site_of, range, Changed, Created, Saw, Tale, Wrote, listed_by, Deleted}
+use Rattle.mdv_engine_law.specs.Below.{Command, AddListed, AddPlaces, DropPlaces, DriveBlock, Head, IsOwn, KeptOutside, Print, Read, Settling, Spells, Write, nowhere, site_area, site_of, range, Changed, Created, Saw, Tale, Wrote, listed_by, Deleted, Identity, Key, Opened, PlaceAt, Seat, SliceLine, SliceName, joined}
 use Rattle.mdv_words.specs.declared.command.Command.TheVariants.{MakeStripe}
 use Rattle.mdv_engine_law.specs.declared.host.Host.{Host}
-use Rattle.mdv_engine_law.specs.Hosts.{identity_of, key_of, listed_area, opened_area, places_area}
-use Rattle.mdv_engine_law.specs.Line.{Ask, Memory, Nothing, ToBoot, ToDo, ToMake, ToMakeListed, ToSee}
-use Rattle.mdv_engine_law.specs.Standing.{ArePutBy, LeavesDone, WritesOnly}
+use Rattle.mdv_engine_law.specs.Hosts.{dropped_area, identity_of, key_of, lines_asked, listed_area, opened_area, places_area}
+use Rattle.mdv_engine_law.specs.Line.{Ask, Memory, Nothing, ToBoot, ToDo, ToDrop, ToMake, ToMakeListed, ToSee}
+use Rattle.mdv_engine_law.specs.Moves.{places_under}
+use Rattle.mdv_engine_law.specs.Places.{are_all, list_of}
+use Rattle.mdv_engine_law.specs.Standing.{AreBlankAt, AreBlankWhereCalm, ArePutBy, LeavesBlank, LeavesDone, LeavesFormed, LeavesTorn, WritesOnly}
+use Rattle.mdv_engine_law.proofs.Widening.{AreWithin}
+use Rattle.mdv_shelf.specs.Failing.{Outcomes}
+use Rattle.mdv_replica.specs.Forms.{block_of}
+use Rattle.mdv_places.specs.Asked.{Adds, Drops, seats_added}
+use Rattle.mdv_places.specs.Moments.{IsBlankAt, places_dropped}
+use Rattle.mdv_store.specs.Create.{seats_asked}
+use Rattle.mdv_store.specs.Seats.{AreTheirs}
 
 module _ (place : DriveBlock) (blocks : List (List ℕ)) (t m : Tale) where
   pub put_by : Settling place.drive place.block blocks t m → ArePutBy place blocks t m
@@ -28,6 +38,7 @@ module _ (host : Host) (memory : Memory) where
   writes_none ToBoot t m kept = λ drive block out. kept drive block refl
   writes_none (ToMake key lines count blocks) t m kept = ((λ drive block out. kept drive block refl), λ drive block out. kept drive block refl)
   writes_none (ToMakeListed key number) t m kept = ((λ drive block out. kept drive block refl), λ drive block out. kept drive block refl)
+  writes_none (ToDrop key slices force) t m kept = ((λ drive block out. kept drive block refl), λ drive block out. kept drive block refl)
   writes_none (ToDo (Created key)) t m kept = kept
   writes_none (ToDo (Changed key change)) t m kept = λ drive block out. kept drive block refl
   writes_none (ToDo (Deleted key)) t m kept = kept
@@ -40,11 +51,15 @@ module _ (host : Host) (memory : Memory) where
   writes_still ToBoot t u m writes kept = kept_outside_more (site_area host.site) t u m writes (λ drive block out. kept drive block refl)
   writes_still (ToMake key lines count blocks) t u m writes kept = (
     kept_outside_more (site_area host.site) t u m writes.0 (λ drive block out. kept drive block refl),
-    kept_outside_more (places_area lines count blocks) t u m writes.1 (λ drive block out. kept drive block refl),
+    kept_outside_more (joined (places_area lines count blocks) (opened_area memory.opened)) t u m writes.1 (λ drive block out. kept drive block refl),
   )
   writes_still (ToMakeListed key number) t u m writes kept = (
     kept_outside_more (site_area host.site) t u m writes.0 (λ drive block out. kept drive block refl),
-    kept_outside_more (listed_area host (listed_by memory.entries number)) t u m writes.1 (λ drive block out. kept drive block refl),
+    kept_outside_more (joined (listed_area host (listed_by memory.entries number)) (opened_area memory.opened)) t u m writes.1 (λ drive block out. kept drive block refl),
+  )
+  writes_still (ToDrop key slices force) t u m writes kept = (
+    kept_outside_more (site_area host.site) t u m writes.0 (λ drive block out. kept drive block refl),
+    kept_outside_more (joined (opened_area memory.opened) (dropped_area host.drives memory.opened slices)) t u m writes.1 (λ drive block out. kept drive block refl),
   )
   writes_still (ToDo (Created key)) t u m none kept = kept_outside_more nowhere t u m none kept
   writes_still (ToDo (Changed key change)) t u m writes kept = kept_outside_more (opened_area memory.opened) t u m writes (λ drive block out. kept drive block refl)
@@ -55,11 +70,64 @@ module _ (host : Host) (memory : Memory) where
   writes_still (ToSee key volume at count) t u m none kept = kept_outside_more nowhere t u m none kept
 
   -- what a command left that was done
-  pub done_still : (command : Command) (t m : Tale) → KeptOutside nowhere t m → LeavesDone host memory command t → LeavesDone host memory command m
-  done_still (AddPlaces slices force count blocks) t m kept left = λ r has. everywhere_kept (λ image. (head : Head) × IsOwn (Spells host.drives) (site_of host.drives (key_of host)) (identity_of host memory.begun) r.line r.number image r.first head) t m kept (left r has)
-  done_still (AddListed number force) t m kept left = tt
-  done_still (DropPlaces slices force) t m kept left = tt
-  done_still (MakeStripe volume slice) t m kept left = tt
-  done_still (Read volume at count) t m kept left = tt
-  done_still (Write volume at block) t m kept left = (left.0, left.1, settled_still left.0.drive left.0.block (block ∷ []) t m kept left.2)
-  done_still (Print names) t m kept left = tt
+  theirs_still : (key : Key) (identity : Identity) (seats : List Seat) (t m : Tale) → KeptOutside nowhere t m → AreTheirs host.drives key identity seats t → AreTheirs host.drives key identity seats m
+  theirs_still key identity seats t m kept left = λ r has. everywhere_kept (λ image. (head : Head) × IsOwn (Spells host.drives) (site_of host.drives key) identity r.line r.number image r.first head) t m kept (left r has)
+
+  formed_still : (opened : Option Opened) (lines : List SliceLine) (count blocks : ℕ) (t m : Tale) → KeptOutside nowhere t m → LeavesFormed host memory opened lines count blocks t → LeavesFormed host memory opened lines count blocks m
+  formed_still None lines count blocks t m kept left = theirs_still (key_of host) (identity_of host memory.begun) (seats_asked (key_of host) (identity_of host memory.begun) lines count blocks) t m kept left
+  formed_still (Some o) lines count blocks t m kept left = theirs_still o.key o.identity (seats_added o (Adds lines count blocks)) t m kept left
+
+  blank_still : (calls : Outcomes) (slices : List SliceName) (t m : Tale) → KeptOutside nowhere t m → LeavesBlank calls host memory slices t → LeavesBlank calls host memory slices m
+  blank_still calls slices t m kept left o is = by (are_all o slices) (left o is) where
+    still : (a : PlaceAt) → IsBlankAt a t → IsBlankAt a m
+    still a blank = everywhere_kept (λ image. image a.drive.0 a.first ≡ block_of []) t m kept blank
+
+    by : (all : Bool) → MatchBool all (AreBlankAt (places_under host.drives (list_of o)) t) (AreBlankWhereCalm calls (places_dropped host.drives o (Drops slices)) t)
+        → MatchBool all (AreBlankAt (places_under host.drives (list_of o)) m) (AreBlankWhereCalm calls (places_dropped host.drives o (Drops slices)) m)
+    by true blank = λ a has. still a (blank a has)
+    by false blank = λ a has calm. still a (blank a has calm)
+
+  pub done_still : (calls : Outcomes) (command : Command) (t m : Tale) → KeptOutside nowhere t m → LeavesDone calls host memory command t → LeavesDone calls host memory command m
+  done_still calls (AddPlaces slices force count blocks) t m kept left = formed_still memory.opened (lines_asked host slices) count blocks t m kept left
+  done_still calls (AddListed number force) t m kept left = tt
+  done_still calls (DropPlaces slices force) t m kept left = blank_still calls slices t m kept left
+  done_still calls (MakeStripe volume slice) t m kept left = tt
+  done_still calls (Read volume at count) t m kept left = tt
+  done_still calls (Write volume at block) t m kept left = (left.0, left.1, settled_still left.0.drive left.0.block (block ∷ []) t m kept left.2)
+  done_still calls (Print names) t m kept left = tt
+
+  -- so where it was ended
+  pub torn_still : (calls : Outcomes) (command : Command) (t m : Tale) → KeptOutside nowhere t m → LeavesTorn calls host memory command t → LeavesTorn calls host memory command m
+  torn_still calls (AddPlaces slices force count blocks) t m kept left = tt
+  torn_still calls (AddListed number force) t m kept left = tt
+  torn_still calls (DropPlaces slices force) t m kept left = λ o is all a has calm. everywhere_kept (λ image. image a.drive.0 a.first ≡ block_of []) t m kept (left o is all a has calm)
+  torn_still calls (MakeStripe volume slice) t m kept left = tt
+  torn_still calls (Read volume at count) t m kept left = tt
+  torn_still calls (Write volume at block) t m kept left = tt
+  torn_still calls (Print names) t m kept left = tt
+
+  -- and where more calls failed
+  blank_more : (failed more : Outcomes) → AreWithin failed more → (slices : List SliceName) (u : Tale) → LeavesBlank failed host memory slices u → LeavesBlank more host memory slices u
+  blank_more failed more cause slices u left o is = by (are_all o slices) (left o is) where
+    by : (all : Bool) → MatchBool all (AreBlankAt (places_under host.drives (list_of o)) u) (AreBlankWhereCalm failed (places_dropped host.drives o (Drops slices)) u)
+        → MatchBool all (AreBlankAt (places_under host.drives (list_of o)) u) (AreBlankWhereCalm more (places_dropped host.drives o (Drops slices)) u)
+    by true blank = blank
+    by false blank = λ a has calm. blank a has (λ some. calm ((cause a.drive.0).some some))
+
+  pub done_more : (failed more : Outcomes) → AreWithin failed more → (command : Command) (u : Tale) → LeavesDone failed host memory command u → LeavesDone more host memory command u
+  done_more failed more cause (AddPlaces slices force count blocks) u left = left
+  done_more failed more cause (AddListed number force) u left = tt
+  done_more failed more cause (DropPlaces slices force) u left = blank_more failed more cause slices u left
+  done_more failed more cause (MakeStripe volume slice) u left = tt
+  done_more failed more cause (Read volume at count) u left = tt
+  done_more failed more cause (Write volume at block) u left = left
+  done_more failed more cause (Print names) u left = tt
+
+  pub torn_more : (failed more : Outcomes) → AreWithin failed more → (command : Command) (u : Tale) → LeavesTorn failed host memory command u → LeavesTorn more host memory command u
+  torn_more failed more cause (AddPlaces slices force count blocks) u left = tt
+  torn_more failed more cause (AddListed number force) u left = tt
+  torn_more failed more cause (DropPlaces slices force) u left = λ o is all a has calm. left o is all a has (λ some. calm ((cause a.drive.0).some some))
+  torn_more failed more cause (MakeStripe volume slice) u left = tt
+  torn_more failed more cause (Read volume at count) u left = tt
+  torn_more failed more cause (Write volume at block) u left = tt
+  torn_more failed more cause (Print names) u left = tt

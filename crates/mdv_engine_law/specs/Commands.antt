@@ -1,10 +1,14 @@
 -- What a command comes to, and a line.
-use Rattle.std.specs.Prelude.{◌≡◌, ◌+◌, ◌≤◌, ◌^◌, ℕ, List, [], ◌∷◌, length, Some, None}
-use Rattle.mdv_engine_law.specs.Below.{DriveBlock, VolId, Refusal, BadLine, IoFault, OutOfMemory, TooMany, entries_reply, values_reply, Entry, IsTab, listing_of, printed_reply, MakeStripe, Command, AddListed, AddPlaces, DropPlaces, Opened, Read, SliceLine, Table, Write, Line, meant}
+use Rattle.std.specs.Prelude.{◌≡◌, ◌+◌, ◌≤◌, ◌^◌, ℕ, true, false, List, [], ◌∷◌, length, MatchOption, Option, Some, None}
+use Rattle.std.specs.Bool.{MatchBool}
+use Rattle.mdv_engine_law.specs.Below.{DriveBlock, VolId, Refusal, BadLine, IoFault, OutOfMemory, TooMany, entries_reply, values_reply, Entry, IsTab, listing_of, printed_reply, MakeStripe, Command, AddListed, AddPlaces, DropPlaces, Opened, Read, SliceLine, SliceName, Table, Write, Line, meant}
 use Rattle.mdv_standing.specs.Creating.{first_mark}
 use Rattle.mdv_store.specs.Commit as commit
 use Rattle.mdv_store.specs.Create as create
 use Rattle.mdv_acts.specs.Asked.{drives_asked}
+use Rattle.mdv_places.specs.Asked.{Adds, Drops, KeepsFirst}
+use Rattle.mdv_places.specs.Changing.{HasFailedOn, drives_moved, drives_under}
+use Rattle.mdv_places.specs.Outcomes.{IsUnmoved}
 use Rattle.mdv_store.specs.Opened.{shortage}
 use Rattle.mdv_store.specs.Seats.{drives_of}
 use Rattle.mdv_tab.specs.Text.{IsFaultOf}
@@ -21,6 +25,8 @@ use Rattle.mdv_engine_law.specs.Answers.{accepted, refusing, telling}
 use Rattle.mdv_shelf.specs.Failing.{AreCalm, FailedOn, Outcomes}
 use Rattle.mdv_engine_law.specs.Hosts.{identity_of, key_of, lines_asked, opened_area, places_area}
 use Rattle.mdv_engine_law.specs.Line.{AreCalmBeside, AreFormedOn, Kept, Memory, IsSameBeside, Stays, IsCreated, IsUncreated, IsUnbegun, IsCommitted, IsOpenOn, IsSame, AreBlocksAt, ArePut, MayBePut, IsRebooted, IsTurnedDown, blocks_of}
+use Rattle.mdv_engine_law.specs.Moves.{HasMovedOn, IsDeletedOn, IsLostChange, IsSpentChange, IsUndeletedOn, IsUnmovedOn, LeavesLists, drop_of}
+use Rattle.mdv_engine_law.specs.Places.{are_all, list_of}
 use Rattle.mdv_engine_law.specs.Replies.{Blame}
 use Rattle.mdv_engine_law.specs.Refusals.{Case, IsUnopposed, refusal_of}
 
@@ -32,12 +38,14 @@ case_of host kept = record { host = host; memory = kept.memory }
 abbrev pub IsAllowed : Case → Command → Type 0
 IsAllowed case command = refusal_of case command ≡ None
 
--- What a command leaves that is done, and what it tells: a database that was made; the table after the change; what the drive has in the
--- volume's blocks; the block in its place; the open table, printed. That places go isn't done yet, nor is what an entry says that isn't kept.
+-- What a command leaves that is done, and what it tells: a database that was made, or where one is open its places after the change; none where all went; the table after the change; what the drive has in the
+-- volume's blocks; the block in its place; the open table, printed. Never what an entry says that isn't kept.
 abbrev pub Effect : Outcomes → Host → Kept → Command → Answer → Kept → Type 0
-Effect calls host kept (AddPlaces slices force count blocks) answer next = (answer ≡ accepted) × IsCreated calls host (lines_asked host slices) count blocks kept next
+Effect calls host kept (AddPlaces slices force count blocks) answer next =
+    (answer ≡ accepted) × MatchOption kept.memory.opened (IsCreated calls host (lines_asked host slices) count blocks kept next) (λ o. HasMovedOn calls host o (Adds (lines_asked host slices) count blocks) kept next)
 Effect calls host kept (AddListed number force) answer next = ⊥
-Effect calls host kept (DropPlaces slices force) answer next = ⊥
+Effect calls host kept (DropPlaces slices force) answer next =
+    (answer ≡ accepted) × (o : Opened) × (kept.memory.opened ≡ Some o) × MatchBool (are_all o slices) (IsDeletedOn calls host o kept next) (HasMovedOn calls host o (Drops slices) kept next)
 Effect calls host kept (command.MakeStripe volume slice) answer next =
     (answer ≡ accepted) × (o : Opened) × (kept.memory.opened ≡ Some o) × IsCommitted calls host o (table_after host.drives (MakeStripe volume slice) o.table) kept next
 Effect calls host kept (Read volume at count) answer next =
@@ -60,17 +68,41 @@ pub record IsLostCommit (calls : Outcomes) (old : Opened) (table : Table) (activ
   pub lost : commit.IsLostNow calls old new table
   pub few : shortage new ≡ Some (record { active = active; listed = listed })
 
+-- Of places that are added to an open database, and of those that are dropped: the calls that excuse the answer. One that failed on the drive of a dropped place is told where all go, and else isn't.
+abbrev pub blame_of_more : Outcomes → Host → Opened → List SliceLine → ℕ → ℕ → Blame
+blame_of_more calls host o lines count blocks = record {
+  done = AreCalmBeside (drives_moved host.drives o (Adds lines count blocks)) calls;
+  none = AreCalm calls;
+  some = IsUnmoved calls host.drives o (Adds lines count blocks);
+  lost = IsLostChange calls host.drives o (Adds lines count blocks);
+}
+
+abbrev pub blame_of_less : Outcomes → Host → Memory → List SliceName → Blame
+blame_of_less calls host memory slices = record {
+  done = (o : Opened) × (memory.opened ≡ Some o) × MatchBool (are_all o slices) (AreCalm calls) (AreCalmBeside (drives_moved host.drives o (Drops slices)) calls);
+  none = AreCalm calls;
+  some = (o : Opened) × (memory.opened ≡ Some o) × (are_all o slices ≡ true) × HasFailedOn (drives_under host.drives (list_of o)) calls × AreCalmBeside (drives_moved host.drives o KeepsFirst) calls;
+  lost = λ active listed. (o : Opened) × (memory.opened ≡ Some o) × IsLostChange calls host.drives o (drop_of o slices) active listed;
+}
+
+abbrev pub blame_of_creation : Outcomes → Host → Memory → List SliceLine → ℕ → ℕ → Blame
+blame_of_creation calls host memory lines count blocks = record {
+  done = AreCalmBeside (drives_asked lines) calls;
+  none = AreCalm calls;
+  some = create.HasFailed calls (key_of host) (identity_of host memory.begun) lines count blocks;
+  lost = λ active listed. create.IsLost calls (key_of host) (identity_of host memory.begun) lines count blocks active listed × AreCalmBeside (drives_asked lines) calls;
+}
+
+abbrev pub blame_of_places : Outcomes → Host → Memory → Option Opened → List SliceLine → ℕ → ℕ → Blame
+blame_of_places calls host memory None lines count blocks = blame_of_creation calls host memory lines count blocks
+blame_of_places calls host memory (Some o) lines count blocks = blame_of_more calls host o lines count blocks
+
 -- Why a command is answered as it is, whatever is known of the drives' blocks: a transfer is done where no call failed, and tells one on the drive of its blocks; a creation tells one that failed in its formats, and ends the run where too few
 -- places took its table, as a change does, and neither has a call that failed on a drive beside those of its places; a print makes no call.
 abbrev pub blame_of : Outcomes → Host → Memory → Command → Blame
-blame_of calls host memory (AddPlaces slices force count blocks) = record {
-  done = AreCalmBeside (drives_asked (lines_asked host slices)) calls;
-  none = AreCalm calls;
-  some = create.HasFailed calls (key_of host) (identity_of host memory.begun) (lines_asked host slices) count blocks;
-  lost = λ active listed. create.IsLost calls (key_of host) (identity_of host memory.begun) (lines_asked host slices) count blocks active listed × AreCalmBeside (drives_asked (lines_asked host slices)) calls;
-}
+blame_of calls host memory (AddPlaces slices force count blocks) = blame_of_places calls host memory memory.opened (lines_asked host slices) count blocks
 blame_of calls host memory (AddListed number force) = record { done = ⊥; none = AreCalm calls; some = ⊥; lost = λ active listed. ⊥ }
-blame_of calls host memory (DropPlaces slices force) = record { done = ⊥; none = AreCalm calls; some = ⊥; lost = λ active listed. ⊥ }
+blame_of calls host memory (DropPlaces slices force) = blame_of_less calls host memory slices
 blame_of calls host memory (command.MakeStripe volume slice) = record {
   done = (o : Opened) × (memory.opened ≡ Some o) × AreCalmBeside (drives_of o.seats) calls;
   none = AreCalm calls;
@@ -82,31 +114,35 @@ blame_of calls host memory (Write volume at block) = record { done = AreCalm cal
 blame_of calls host memory (command.Print names) = record { done = AreCalm calls; none = AreCalm calls; some = ⊥; lost = λ active listed. ⊥ }
 
 -- and whether it may find the number of its database's tables spent: a change alone, which draws the next
-abbrev pub MaySpend : Command → Type 0
-MaySpend (AddPlaces slices force count blocks) = ⊥
-MaySpend (AddListed number force) = ⊥
-MaySpend (DropPlaces slices force) = ⊥
-MaySpend (command.MakeStripe volume slice) = Unit {0}
-MaySpend (Read volume at count) = ⊥
-MaySpend (Write volume at block) = ⊥
-MaySpend (command.Print names) = ⊥
+abbrev pub MaySpend : Memory → Command → Type 0
+MaySpend memory (AddPlaces slices force count blocks) = MatchOption memory.opened ⊥ (λ o. Unit {0})
+MaySpend memory (AddListed number force) = ⊥
+MaySpend memory (DropPlaces slices force) = Unit {0}
+MaySpend memory (command.MakeStripe volume slice) = Unit {0}
+MaySpend memory (Read volume at count) = ⊥
+MaySpend memory (Write volume at block) = ⊥
+MaySpend memory (command.Print names) = ⊥
 
--- What is left where a call on a drive failed and the line tells it: one of a creation's places, or that of the blocks. A change that can't be
+-- What is left where a call on a drive failed and the line tells it: one of the places that were to be formatted, one of those that all go, or that of the blocks, of which memory isn't clean any more. A change that can't be
 -- committed ends the run instead.
 abbrev pub Fault : Outcomes → Host → Kept → Command → Kept → Type 0
-Fault calls host kept (AddPlaces slices force count blocks) next = IsUncreated calls host (lines_asked host slices) count blocks kept next
+Fault calls host kept (AddPlaces slices force count blocks) next =
+    MatchOption kept.memory.opened (IsUncreated calls host (lines_asked host slices) count blocks kept next) (λ o. IsUnmovedOn calls host o (lines_asked host slices) count blocks kept next)
 Fault calls host kept (AddListed number force) next = ⊥
-Fault calls host kept (DropPlaces slices force) next = ⊥
+Fault calls host kept (DropPlaces slices force) next = (o : Opened) × (kept.memory.opened ≡ Some o) × (are_all o slices ≡ true) × IsUndeletedOn calls host o kept next
 Fault calls host kept (command.MakeStripe volume slice) next = ⊥
 Fault calls host kept (Read volume at count) next = (place : DriveBlock) × FailedOn place.drive calls × AreBlocksAt host kept.memory volume at count place × Stays kept next
-Fault calls host kept (Write volume at block) next = (place : DriveBlock) × FailedOn place.drive calls × AreBlocksAt host kept.memory volume at 1 place × (next.memory ≡ kept.memory) × MayBePut place (block ∷ []) kept.content next.content
+Fault calls host kept (Write volume at block) next =
+    (place : DriveBlock) × FailedOn place.drive calls × AreBlocksAt host kept.memory volume at 1 place × (next.memory ≡ record kept.memory { clean = false }) × MayBePut place (block ∷ []) kept.content next.content
 Fault calls host kept (command.Print names) next = ⊥
 
--- What is left where memory was wanting. A table is judged before it is copied, and how long its record is behind that; a write takes none.
+-- What is left where memory was wanting. A table is judged before it is copied, and how long its record is behind that; a write takes none, nor does a deletion of all places.
 abbrev pub Wanting : Host → Kept → Command → Kept → Type 0
-Wanting host kept (AddPlaces slices force count blocks) next = IsAllowed (case_of host kept) (AddPlaces slices force count blocks) × IsUnbegun kept next
+Wanting host kept (AddPlaces slices force count blocks) next =
+    IsAllowed (case_of host kept) (AddPlaces slices force count blocks) × MatchOption kept.memory.opened (IsUnbegun kept next) (λ o. Stays kept next)
 Wanting host kept (AddListed number force) next = ⊥
-Wanting host kept (DropPlaces slices force) next = ⊥
+Wanting host kept (DropPlaces slices force) next =
+    IsAllowed (case_of host kept) (DropPlaces slices force) × (o : Opened) × (kept.memory.opened ≡ Some o) × (are_all o slices ≡ false) × Stays kept next
 Wanting host kept (command.MakeStripe volume slice) next = IsUnopposed host kept.memory (MakeStripe volume slice) × Stays kept next
 Wanting host kept (Read volume at count) next = IsAllowed (case_of host kept) (Read volume at count) × Stays kept next
 Wanting host kept (Write volume at block) next = ⊥
@@ -128,7 +164,11 @@ pub record LeavesTable (calls : Outcomes) (host : Host) (o : Opened) (table : Ta
 
 -- Why the run is over with a command: too few places took the table, whose numbers are told, and each block outside them reads as it did; or the count would reach its limit, and nothing was done.
 abbrev pub GivesUp : Outcomes → Host → Kept → Command → Ended → Kept → Type 0
-GivesUp calls host kept (AddPlaces slices force count blocks) (ended.Lost active listed) next = LeavesPlaces calls host (lines_asked host slices) count blocks active listed kept next
+GivesUp calls host kept (AddPlaces slices force count blocks) (ended.Lost active listed) next =
+    MatchOption kept.memory.opened (LeavesPlaces calls host (lines_asked host slices) count blocks active listed kept next) (λ o. LeavesLists calls host o (Adds (lines_asked host slices) count blocks) active listed kept next)
+GivesUp calls host kept (AddPlaces slices force count blocks) ended.Spent next = MatchOption kept.memory.opened ⊥ (λ o. IsSpentChange calls o kept next)
+GivesUp calls host kept (DropPlaces slices force) (ended.Lost active listed) next = (o : Opened) × (kept.memory.opened ≡ Some o) × LeavesLists calls host o (drop_of o slices) active listed kept next
+GivesUp calls host kept (DropPlaces slices force) ended.Spent next = (o : Opened) × (kept.memory.opened ≡ Some o) × IsSpentChange calls o kept next
 GivesUp calls host kept (command.MakeStripe volume slice) (ended.Lost active listed) next =
     (o : Opened) × (kept.memory.opened ≡ Some o) × LeavesTable calls host o (table_after host.drives (MakeStripe volume slice) o.table) active listed kept next
 GivesUp calls host kept (command.MakeStripe volume slice) ended.Spent next = AreCalm calls × (o : Opened) × (kept.memory.opened ≡ Some o) × (2 ^ 63 ≤ o.mark.count + 1) × Stays kept next

@@ -1,5 +1,6 @@
 -- How many calls on the drives a line makes, and how many blocks it writes.
-use Rattle.std.specs.Prelude.{◌≡◌, ◌⊎◌, ℕ, ◌+◌, ◌*◌, Bool, true, false, List, length, Option, Some}
+use Rattle.std.specs.Prelude.{◌≡◌, ◌⊎◌, ℕ, ◌+◌, ◌*◌, Bool, true, false, List, length, Contains, None, Option, Some}
+use Rattle.std.specs.Bool.{MatchBool}
 use Rattle.mdv_base.specs.DriveSet.{no_drives}
 use Rattle.mdv_shelf.specs.Everywhere.{Image}
 use Rattle.mdv_shelf.specs.Failing.{Outcomes}
@@ -9,7 +10,12 @@ use Rattle.mdv_store.specs.Boot.{IsEndBy, is_memory}
 use Rattle.mdv_store.specs.BootCounts.{IsAnewCounted, blocks_at, blocks_by, calls_at, calls_by, most_blocks, most_calls, most_reads}
 use Rattle.mdv_store.specs.Booting.{has_written}
 use Rattle.mdv_store.specs.Counts.{drives_lost}
+use Rattle.mdv_acts.specs.Acts.{calls_of}
+use Rattle.mdv_acts.specs.Acts as acts
 use Rattle.mdv_acts.specs.Asked.{blanked_asked}
+use Rattle.mdv_places.specs.Asked.{Adds, Asks, Drops, KeepsFirst, acts_moved}
+use Rattle.mdv_places.specs.Changing.{drives_moved}
+use Rattle.mdv_places.specs.Counts.{move_blocks, move_calls}
 use Rattle.mdv_store.specs.Create.{seats_asked}
 use Rattle.mdv_store.specs.Progress.{Progress}
 use Rattle.mdv_store.specs.Text.{blocks_for}
@@ -18,7 +24,7 @@ use Rattle.mdv_survey.specs.Counts.{AreLinesBy}
 use Rattle.mdv_survey.specs.declared.replica.Survey.{Survey}
 use Rattle.mdv_words.specs.declared.command.Command.TheVariants.{MakeStripe, Print}
 use Rattle.mdv_words.specs.Line as words
-use Rattle.mdv_engine_law.specs.Below.{BootEnd, Command, AddListed, AddPlaces, DropPlaces, Drives, IoFault, Line, Opened, OutOfMemory, Read, Seat, SliceLine, Table, Write, active_of, meant, record_text}
+use Rattle.mdv_engine_law.specs.Below.{BootEnd, Command, AddListed, AddPlaces, DropPlaces, DriveNo, Drives, Geometry, IoFault, Line, Opened, OutOfMemory, Read, Seat, SliceLine, Table, Write, active_of, meant, record_text}
 use Rattle.mdv_engine_law.specs.declared.answer.Answer.{Answer}
 use Rattle.mdv_engine_law.specs.declared.answer.Answer.TheVariants.{Said, Over}
 use Rattle.mdv_engine_law.specs.declared.answer.Ended.TheVariants as ended
@@ -27,6 +33,8 @@ use Rattle.mdv_engine_law.specs.declared.host.Host.{Host}
 use Rattle.mdv_engine_law.specs.Hosts.{lines_asked}
 use Rattle.mdv_engine_law.specs.Answers.{accepted}
 use Rattle.mdv_engine_law.specs.Line.{IsReadOf, IsUpBy, Kept, Memory, answered_by, opened_by}
+use Rattle.mdv_engine_law.specs.Moves.{drop_of}
+use Rattle.mdv_engine_law.specs.Places.{are_all}
 
 -- it makes none, and writes nothing
 abbrev pub NoCalls : Made → Type 0
@@ -48,14 +56,37 @@ pub record CreationCalls (made : Made) (lines : List SliceLine) (count blocks : 
   pub some : made.within (2 * blanked_asked lines count + 6 * places_on lines count + (6 * active_of o.seats + drives_lost (seats_asked o.key o.identity lines count blocks) o.seats))
       (2 * blanked_asked lines count + 12 * places_on lines count) (blanked_asked lines count + 4103 * places_on lines count)
 
--- the calls of a creation that is done, and of a change, by what was open before and what is then
-abbrev pub MadeCallsOf : Made → Command → Host → Option Opened → Option Opened → Type 0
-MadeCallsOf made (AddPlaces slices force count blocks) host old (Some o) = CreationCalls made (lines_asked host slices) count blocks o
-MadeCallsOf made (MakeStripe volume slice) host (Some old) (Some o) = PassCalls made (blocks_for (length (record_text o.table))) old.seats o.seats
-MadeCallsOf made (Read volume at count) host old new = made.exactly 1 0
-MadeCallsOf made (Write volume at block) host old new = made.exactly 2 1
-MadeCallsOf made (Print names) host old new = NoCalls made
-MadeCallsOf made other host old new = ⊥
+-- no call failed on these drives
+abbrev pub HaveNoFailure : List DriveNo → Outcomes → Type 0
+HaveNoFailure drives calls = (drive : DriveNo) → Contains drives drive → (calls drive.0).some → ⊥
+
+-- A change of places formats those that come, blanks masters before as a creation does, writes two tables to the active places, and wipes those that go: just so many calls where none failed, and no more where one did.
+pub record MoveCalls (calls : Outcomes) (made : Made) (g : Geometry) (o : Opened) (asked : Asks) : Type 0 where
+  pub all : HaveNoFailure (drives_moved g o asked) calls → made.exactly (move_calls o asked) (move_blocks o asked)
+  pub some : made.within (calls_of (acts_moved o asked)) (move_calls o asked) (move_blocks o asked)
+
+-- a deletion of all places is a change to the first one alone, and two calls more, with the block of its master
+abbrev pub deletion_calls : Opened → ℕ
+deletion_calls o = move_calls o KeepsFirst + 2
+
+abbrev pub deletion_blocks : Opened → ℕ
+deletion_blocks o = move_blocks o KeepsFirst + 1
+
+-- just so many where no call failed on the drives of the change; and twelve at least by which the first place took both tables, and those of its blanking
+pub record DeletionCalls (calls : Outcomes) (made : Made) (g : Geometry) (o : Opened) : Type 0 where
+  pub all : HaveNoFailure (drives_moved g o KeepsFirst) calls → made.exactly (deletion_calls o) (deletion_blocks o)
+  pub some : made.within 14 (deletion_calls o) (deletion_blocks o)
+
+-- the calls of a creation that is done, and of a change, by what was open before and is then
+abbrev pub MadeCallsOf : Outcomes → Made → Command → Host → Option Opened → Option Opened → Type 0
+MadeCallsOf calls made (AddPlaces slices force count blocks) host None (Some o) = CreationCalls made (lines_asked host slices) count blocks o
+MadeCallsOf calls made (AddPlaces slices force count blocks) host (Some old) new = MoveCalls calls made host.drives old (Adds (lines_asked host slices) count blocks)
+MadeCallsOf calls made (DropPlaces slices force) host (Some old) new = MatchBool (are_all old slices) (DeletionCalls calls made host.drives old) (MoveCalls calls made host.drives old (Drops slices))
+MadeCallsOf calls made (MakeStripe volume slice) host (Some old) (Some o) = PassCalls made (blocks_for (length (record_text o.table))) old.seats o.seats
+MadeCallsOf calls made (Read volume at count) host old new = made.exactly 1 0
+MadeCallsOf calls made (Write volume at block) host old new = made.exactly 2 1
+MadeCallsOf calls made (Print names) host old new = NoCalls made
+MadeCallsOf calls made other host old new = ⊥
 
 -- the calls of a command in which memory was wanting: a read has its blocks before the text of them is made, all else none
 abbrev pub wanting_calls : Command → ℕ
@@ -67,32 +98,44 @@ wanting_calls (Read volume at count) = 1
 wanting_calls (Write volume at block) = 0
 wanting_calls (Print names) = 0
 
--- Where a call failed and it is told: a creation has failed in its formats; a change ends the run instead.
-abbrev pub FaultCalls : Made → Command → Host → Type 0
-FaultCalls made (AddPlaces slices force count blocks) host = made.within 1 (2 * blanked_asked (lines_asked host slices) count + 6 * places_on (lines_asked host slices) count) (blanked_asked (lines_asked host slices) count + 5 * places_on (lines_asked host slices) count)
-FaultCalls made (AddListed number force) host = ⊥
-FaultCalls made (DropPlaces slices force) host = ⊥
-FaultCalls made (MakeStripe volume slice) host = ⊥
-FaultCalls made (Read volume at count) host = made.within 1 1 0
-FaultCalls made (Write volume at block) host = made.within 1 2 1
-FaultCalls made (Print names) host = ⊥
+-- how many calls the formats of a creation make, and how many blocks they write
+abbrev pub format_calls : List SliceLine → ℕ → ℕ
+format_calls lines count = 2 * blanked_asked lines count + 6 * places_on lines count
+
+abbrev pub format_blocks : List SliceLine → ℕ → ℕ
+format_blocks lines count = blanked_asked lines count + 5 * places_on lines count
+
+-- Where a call failed and it is told: a creation has failed in its formats, as have places that are added, and a deletion of all places behind both tables; another change ends the run instead.
+abbrev pub FaultCalls : Made → Command → Host → Option Opened → Type 0
+FaultCalls made (AddPlaces slices force count blocks) host None = made.within 1 (format_calls (lines_asked host slices) count) (format_blocks (lines_asked host slices) count)
+FaultCalls made (AddPlaces slices force count blocks) host (Some o) =
+    made.within 1 (calls_of (acts_moved o (Adds (lines_asked host slices) count blocks))) (acts.blocks_of (acts_moved o (Adds (lines_asked host slices) count blocks)))
+FaultCalls made (AddListed number force) host old = ⊥
+FaultCalls made (DropPlaces slices force) host None = ⊥
+FaultCalls made (DropPlaces slices force) host (Some o) = MatchBool (are_all o slices) (made.within 12 (deletion_calls o) (deletion_blocks o)) ⊥
+FaultCalls made (MakeStripe volume slice) host old = ⊥
+FaultCalls made (Read volume at count) host old = made.within 1 1 0
+FaultCalls made (Write volume at block) host old = made.within 1 2 1
+FaultCalls made (Print names) host old = ⊥
 
 -- Where too few places took a table: a creation's formats were made, and a change made a call.
 abbrev pub LossCalls : Made → Command → Host → Option Opened → Type 0
-LossCalls made (AddPlaces slices force count blocks) host old =
-    made.within (2 * blanked_asked (lines_asked host slices) count + 6 * places_on (lines_asked host slices) count + 1) (2 * blanked_asked (lines_asked host slices) count + 12 * places_on (lines_asked host slices) count) (blanked_asked (lines_asked host slices) count + 4103 * places_on (lines_asked host slices) count)
+LossCalls made (AddPlaces slices force count blocks) host None =
+    made.within (format_calls (lines_asked host slices) count + 1) (2 * blanked_asked (lines_asked host slices) count + 12 * places_on (lines_asked host slices) count) (blanked_asked (lines_asked host slices) count + 4103 * places_on (lines_asked host slices) count)
+LossCalls made (AddPlaces slices force count blocks) host (Some o) = made.within 0 (move_calls o (Adds (lines_asked host slices) count blocks)) (move_blocks o (Adds (lines_asked host slices) count blocks))
+LossCalls made (DropPlaces slices force) host (Some o) = made.within 0 (move_calls o (drop_of o slices)) (move_blocks o (drop_of o slices))
 LossCalls made (MakeStripe volume slice) host (Some o) = made.within 1 (6 * active_of o.seats) (4096 * active_of o.seats)
 LossCalls made other host old = ⊥
 
 -- The calls of a command by its answer, and what was open before and is then. One that is refused for another cause than a failed call or want of memory makes none, nor does one with which a number would reach its limit.
-abbrev pub CommandCalls : Made → Host → Command → Answer → Option Opened → Option Opened → Type 0
-CommandCalls made host command (Said outcome.Ok) old new = MadeCallsOf made command host old new
-CommandCalls made host command (Said (outcome.Values text)) old new = MadeCallsOf made command host old new
-CommandCalls made host command (Said (outcome.Refused IoFault)) old new = FaultCalls made command host
-CommandCalls made host command (Said (outcome.Refused OutOfMemory)) old new = made.within 0 (wanting_calls command) 0
-CommandCalls made host command (Said (outcome.Refused other)) old new = NoCalls made
-CommandCalls made host command (Over (ended.Lost active listed)) old new = LossCalls made command host old
-CommandCalls made host command (Over other) old new = NoCalls made
+abbrev pub CommandCalls : Outcomes → Made → Host → Command → Answer → Option Opened → Option Opened → Type 0
+CommandCalls calls made host command (Said outcome.Ok) old new = MadeCallsOf calls made command host old new
+CommandCalls calls made host command (Said (outcome.Values text)) old new = MadeCallsOf calls made command host old new
+CommandCalls calls made host command (Said (outcome.Refused IoFault)) old new = FaultCalls made command host old
+CommandCalls calls made host command (Said (outcome.Refused OutOfMemory)) old new = made.within 0 (wanting_calls command) 0
+CommandCalls calls made host command (Said (outcome.Refused other)) old new = NoCalls made
+CommandCalls calls made host command (Over (ended.Lost active listed)) old new = LossCalls made command host old
+CommandCalls calls made host command (Over other) old new = NoCalls made
 
 -- of a boot on which no call failed, behind so many that read
 abbrev pub EndCalls : Made → ℕ → BootEnd → Type 0
@@ -140,7 +183,7 @@ pub record BootCalls (calls : Outcomes) (made : Made) (host : Host) (answer : An
 abbrev pub LineCalls : Outcomes → Made → Host → Kept → Line → Answer → Kept → Type 0
 LineCalls calls made host kept words.Boot answer next = BootCalls calls made host answer next.memory kept.content
 LineCalls calls made host kept (words.Tab lines) answer next = NoCalls made
-LineCalls calls made host kept (words.Exec command) answer next = CommandCalls made host (meant kept.memory.entries command) answer kept.memory.opened next.memory.opened
+LineCalls calls made host kept (words.Exec command) answer next = CommandCalls calls made host (meant kept.memory.entries command) answer kept.memory.opened next.memory.opened
 
 -- with the one call of its reply, where it has one
 abbrev pub replied_to : Answer → Made → Made

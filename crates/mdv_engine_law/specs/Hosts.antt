@@ -1,10 +1,13 @@
 -- A host: what it sees of the table of drives, where its database's replicas may lie, and the blocks that its run may touch.
-use Rattle.std.specs.Prelude.{◌≡◌, ◌<◌, ◌+◌, ◌*◌, ◌^◌, ℕ, Bool, not, ◌&&◌, List, [], ◌∷◌, Option, Some, None, Contains}
+use Rattle.std.specs.Prelude.{◌≡◌, ◌<◌, ◌+◌, ◌*◌, ◌^◌, ℕ, Bool, not, ◌&&◌, List, [], ◌∷◌, filter, filter_map, Option, Some, None, Contains}
 use Rattle.std.specs.List.{flat_map, list_any}
 use Rattle.mdv_home.specs.View.{own_view}
+use Rattle.mdv_places.specs.Moments.{found_at, master_area}
 use Rattle.mdv_plan.specs.Slices.{meets_db}
+use Rattle.mdv_store_law.specs.Changes.{is_on}
+use Rattle.mdv_table.specs.Plan.{last_of}
 use Rattle.mdv_name.specs.SliceIndex.{slice_at}
-use Rattle.mdv_engine_law.specs.Below.{Area, Geometry, Identity, IsGeometry, IsOnShelf, IsSound, Key, KeptOutside, Local, Opened, Replicas, SliceAt, SliceLine, SliceName, Tale, covers, joined, nowhere, range, seats_area, site_area, site_of, sizes_of}
+use Rattle.mdv_engine_law.specs.Below.{Area, Geometry, Identity, IsGeometry, IsOnShelf, IsSound, Key, KeptOutside, Local, Opened, Place, PlaceAt, Replicas, SliceAt, SliceLine, SliceName, Tale, covers, joined, nowhere, range, seats_area, site_area, site_of, sizes_of}
 use Rattle.mdv_engine_law.specs.declared.host.Host.{Host}
 
 -- the key of the host's own database
@@ -32,6 +35,15 @@ listed_area host (Some r) = places_area (lines_asked host r.slices) r.count r.bl
 abbrev pub opened_area : Option Opened → Area
 opened_area (Some o) = seats_area o.seats
 opened_area None = nowhere
+
+-- the masters of these places, as their slices lie by the table of drives
+abbrev pub masters_area : Geometry → List Place → Area
+masters_area g places drive block = list_any (λ (at : PlaceAt). master_area at drive block) (filter_map (λ (p : Place). found_at p (slice_at g.slices p.slice)) places)
+
+-- those of the open database's places on these slices
+abbrev pub dropped_area : Geometry → Option Opened → List SliceName → Area
+dropped_area g (Some o) slices = masters_area g (filter (is_on slices) (last_of o.table.plan.lists))
+dropped_area g None slices = nowhere
 
 -- a slice on which volumes may lie: it isn't set aside for replicas, and shares no block with one that is
 abbrev pub takes_volumes : Geometry → SliceLine → Bool

@@ -5,6 +5,7 @@ pub mod Hosts
 pub mod Awake
 pub mod Line
 pub mod Places
+pub mod Moves
 pub mod Refusals
 pub mod Commands
 pub mod Efforts

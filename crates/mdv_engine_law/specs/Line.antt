@@ -1,7 +1,8 @@
 -- What is kept from line to line, what a boot comes to, and what lines ask.
-use Rattle.std.specs.Prelude.{◌≡◌, ◌⊎◌, ◌+◌, ◌<◌, ◌≤◌, ℕ, Bool, true, false, List, [], ◌∷◌, length, map, Option, Some, None, Contains, slice_index_or}
+use Rattle.std.specs.Prelude.{◌≡◌, ◌⊎◌, ◌+◌, ◌<◌, ◌≤◌, ℕ, Bool, true, false, if◌then◌else◌, List, [], ◌∷◌, length, map, Option, Some, None, Contains, slice_index_or}
 use Rattle.std.specs.Bool.{MatchBool}
 use Rattle.std.specs.List.{range_with_len}
+use Rattle.mdv_places.specs.Asked.{names_of}
 use Rattle.mdv_shelf.specs.Failing.{Outcomes}
 use Rattle.mdv_standing.specs.Laws.{ShowsNoTable}
 use Rattle.mdv_store.specs.Boot.{IsEndBy, IsOnce, is_memory}
@@ -12,6 +13,8 @@ use Rattle.mdv_acts.specs.Asked.{drives_asked}
 use Rattle.mdv_store.specs.Progress.{Claimed, Progress, Rewritten, Settled}
 use Rattle.mdv_store.specs.Seats.{drives_of}
 use Rattle.mdv_store.specs.declared.booting.BootEnd.TheVariants as end
+use Rattle.mdv_store_law.specs.Changes.{FirstPlace}
+use Rattle.mdv_store_law.specs.Changes as changes
 use Rattle.mdv_survey.specs.Replica.{at_of}
 use Rattle.mdv_survey.specs.Survey.{IsSurvey, IsSurveyOf}
 use Rattle.mdv_survey.specs.declared.replica.Replica.{Replica}
@@ -19,7 +22,7 @@ use Rattle.mdv_survey.specs.declared.replica.Survey.{Survey}
 use Rattle.mdv_table.specs.Plan.{settled}
 use Rattle.mdv_words.specs.declared.command.Command.TheVariants as command
 use Rattle.mdv_words.specs.Line as words
-use Rattle.mdv_engine_law.specs.Below.{Area, BootEnd, Changed, Command, Created, Deed, DriveBlock, DriveNo, Drives, Entry, Geometry, Head, Identity, Image, IsMapOf, IsNewestOf, IsOwn, Key, Line, MakeStripe, OfPlan, Opened, Read, Refusal, Seat, SliceLine, Slot, Spells, Table, Tale, VolId, Write, Wrote, covers, has_drive, last, no_drives, replicas_of, run_map, seats_area, site_of, AddListed, AddPlaces, DropPlaces}
+use Rattle.mdv_engine_law.specs.Below.{Area, BootEnd, Changed, Deleted, SliceName, Command, Created, Deed, DriveBlock, DriveNo, Drives, Entry, Geometry, Head, Identity, Image, IsMapOf, IsNewestOf, IsOwn, Key, Line, MakeStripe, OfPlan, Opened, Read, Refusal, Seat, SliceLine, Slot, Spells, Table, Tale, VolId, Write, Wrote, covers, has_drive, last, no_drives, replicas_of, run_map, seats_area, site_of, AddListed, AddPlaces, DropPlaces}
 use Rattle.mdv_engine_law.specs.declared.answer.Answer.{Answer}
 use Rattle.mdv_engine_law.specs.declared.answer.Answer.TheVariants.{Over}
 use Rattle.mdv_engine_law.specs.declared.answer.Ended.TheVariants as ended
@@ -27,7 +30,7 @@ use Rattle.mdv_engine_law.specs.declared.host.Host.{Host}
 use Rattle.mdv_engine_law.specs.Answers.{accepted, refusing}
 use Rattle.mdv_engine_law.specs.Hosts.{identity_of, key_of, lines_asked, places_area}
 
--- what an engine keeps in memory: the open database, which drives the last boot brought up and whether no call failed in it, how many
+-- what an engine keeps in memory: the open database, which drives the last boot brought up, whether no call failed in it, nor in a write of blocks or the blanking of a last replica since, how many
 -- creations the run has begun, and the entries of the last `tab` block that was kept since that boot
 pub record Memory : Type 0 where
   pub opened : Option Opened
@@ -98,11 +101,10 @@ pub record IsCreated (calls : Outcomes) (host : Host) (lines : List SliceLine) (
   pub content : IsOpenOn host.drives opened next.content
   pub beside : IsSameBeside (places_area lines count blocks) kept.content next.content
 
--- a call of its formats failed: no replica of the key shows a table, and each block outside the places is as it was
+-- a call of its formats failed: no table was written, and each block outside the places is as it was
 pub record IsUncreated (calls : Outcomes) (host : Host) (lines : List SliceLine) (count blocks : ℕ) (kept next : Kept) : Type 0 where
   pub failed : create.HasFailed calls (key_of host) (identity_of host kept.memory.begun) lines count blocks
   pub memory : next.memory ≡ record kept.memory { begun = kept.memory.begun + 1 }
-  pub content : HasNoTableOn host.drives (key_of host) next.content
   pub beside : IsSameBeside (places_area lines count blocks) kept.content next.content
 
 -- Memory was wanting, before anything was done on the drive. A creation is counted as begun nevertheless.
@@ -233,21 +235,22 @@ pub record IsRebooted (calls : Outcomes) (host : Host) (kept : Kept) (answer : A
 abbrev pub IsTurnedDown : Refusal → Kept → Answer → Kept → Type 0
 IsTurnedDown refusal kept answer next = (answer ≡ refusing refusal) × Stays kept next
 
--- what a line asks: nothing; a boot, by which nothing is acknowledged; a database with so many replicas of so many blocks on each of these slices, or as the kept entry of that number says; another deed; or what
--- so many blocks of a volume hold, from that one on
+-- What a line asks: nothing; a boot, by which nothing is acknowledged; so many replicas of so many blocks on each of these slices, or as the kept entry of that number says: of a new database, or where one is
+-- open as many more; that none is on these slices any more, all of them with force; another deed; or what so many blocks of a volume hold, from that one on.
 pub data Ask : Type 0 where
   Nothing : Ask
   ToBoot : Ask
   ToMake : Key → List SliceLine → ℕ → ℕ → Ask
   ToMakeListed : Key → ℕ → Ask
+  ToDrop : Key → List SliceName → Bool → Ask
   ToDo : Deed → Ask
   ToSee : Key → VolId → ℕ → ℕ → Ask
 
--- what a command asks of the host's own database; that places go asks nothing yet
+-- what a command asks of the host's own database
 abbrev pub asked_by : Host → Command → Ask
 asked_by host (AddPlaces slices force count blocks) = ToMake (key_of host) (lines_asked host slices) count blocks
 asked_by host (AddListed number force) = ToMakeListed (key_of host) number
-asked_by host (DropPlaces slices force) = Nothing
+asked_by host (DropPlaces slices force) = ToDrop (key_of host) slices force
 asked_by host (command.MakeStripe volume slice) = ToDo (Changed (key_of host) (OfPlan (MakeStripe volume slice)))
 asked_by host (Read volume at count) = ToSee (key_of host) volume at count
 asked_by host (Write volume at block) = ToDo (Wrote (key_of host) volume at (block ∷ []))
@@ -259,11 +262,17 @@ asked_by_line host words.Boot = ToBoot
 asked_by_line host (words.Tab lines) = Nothing
 asked_by_line host (words.Exec command) = asked_by host command
 
--- the deeds that it may begin
+-- The deeds that it may begin, in this order: replicas are those of a new database, or more of the open one; and where all places are to go, which only force allows, the first one alone is left before the database is deleted.
 abbrev pub deeds : Ask → List Deed
 deeds Nothing = []
 deeds ToBoot = []
-deeds (ToMake key lines count blocks) = Created key ∷ []
-deeds (ToMakeListed key number) = Created key ∷ []
+deeds (ToMake key lines count blocks) = Created key ∷ Changed key (changes.AddPlaces (names_of lines) count blocks) ∷ []
+deeds (ToMakeListed key number) = Created key ∷ Changed key (changes.AddListed number) ∷ []
+deeds (ToDrop key slices force) = Changed key (changes.DropPlaces slices) ∷ (if force then Changed key FirstPlace ∷ Deleted key ∷ [] else [])
 deeds (ToDo deed) = deed ∷ []
 deeds (ToSee key volume at count) = []
+
+-- and those of which `ok` may acknowledge one: that the first place alone is left is told to nobody
+abbrev pub tellable : Ask → List Deed
+tellable (ToDrop key slices force) = Changed key (changes.DropPlaces slices) ∷ (if force then Deleted key ∷ [] else [])
+tellable ask = deeds ask

@@ -1,28 +1,12 @@
 -- The list of places that comes, by what a line asks of the places of an open database.
-use Rattle.std.specs.Prelude.{◌+◌, ◌*◌, ℕ, zero, suc, Bool, true, false, not, List, [], ◌∷◌, ◌++◌, filter, flat_map, length, take}
-use Rattle.std.specs.List.{list_any}
+use Rattle.std.specs.Prelude.{ℕ, Bool, true, false, List, [], ◌∷◌, ◌++◌, flat_map, length, take}
+pub use Rattle.mdv_store_law.specs.Changes.{is_on, list_less, places_from, places_on}
 use Rattle.mdv_engine_law.specs.Below.{Opened, Place, SliceName, record_text}
-use Rattle.mdv_name.specs.SliceIndex.{same_slice}
 use Rattle.mdv_record.specs.Room.{least_slot_bytes}
 use Rattle.mdv_record.specs.Text.{with_lists}
 use Rattle.mdv_table.specs.Plan.{last_of, places_of}
 use Rattle.mdv_table.specs.declared.plan.Lists.{Lists}
 use Rattle.mdv_table.specs.declared.plan.Lists.TheVariants.{Two}
-
--- the place lies on one of the slices
-abbrev pub is_on : List SliceName → Place → Bool
-is_on slices p = list_any (λ s. same_slice p.slice s) slices
-
-abbrev pub list_less : List SliceName → List Place → List Place
-list_less slices places = filter (λ p. not (is_on slices p)) places
-
--- the places of a slice that gets so many, from this number on
-abbrev pub places_from : SliceName → ℕ → ℕ → ℕ → List Place
-places_from slice blocks k zero = []
-places_from slice blocks k (suc n) = (record { slice = slice; start = 16 + k * blocks; blocks = blocks }) ∷ places_from slice blocks (k + 1) n
-
-abbrev pub places_on : ℕ → ℕ → SliceName → List Place
-places_on count blocks slice = places_from slice blocks 0 count
 
 -- so many places more on each of these slices, behind the others
 abbrev pub list_more : List SliceName → ℕ → ℕ → List Place → List Place
@@ -55,3 +39,7 @@ bytes_with o list = length (record_text (with_lists o.table (lists_with o list))
 
 abbrev pub room_with : Opened → List Place → ℕ
 room_with o list = least_slot_bytes (places_of (lists_with o list))
+
+-- no place would be left without those on these slices
+abbrev pub are_all : Opened → List SliceName → Bool
+are_all o slices = is_empty (list_less slices (list_of o))

@@ -12,7 +12,7 @@ use Rattle.mdv_table.specs.declared.volume.VolumeKind.TheVariants as kind
 use Rattle.mdv_words.specs.declared.command.Command.TheVariants as command
 use Rattle.mdv_engine_law.specs.declared.host.Host.{Host}
 use Rattle.mdv_engine_law.specs.Line.{Memory, record_room}
-use Rattle.mdv_engine_law.specs.Places.{bytes_with, is_empty, list_left, list_less, list_more, list_of, room_with}
+use Rattle.mdv_engine_law.specs.Places.{are_all, bytes_with, list_left, list_more, list_of, room_with}
 use Rattle.mdv_store.specs.Shares.{short_in}
 use Rattle.mdv_store.specs.declared.seats.Need.TheVariants.{Half}
 
@@ -56,7 +56,7 @@ is_missing host slice = not (is_some (slice_at host.drives.slices slice))
 abbrev pub is_short : Host → ℕ → ℕ → SliceName → Bool
 is_short host count blocks slice = nat_lt (blocks_at (slice_at host.drives.slices slice)) (16 + count * blocks)
 
--- Replicas on these slices, so many of so many blocks on each: no such slice; one for other uses; of a first database a call that failed in the last boot, on whichever drive; more than fifty
+-- Replicas on these slices, so many of so many blocks on each: no such slice; one for other uses; of a first database memory that isn't clean; more than fifty
 -- places; a first database without force; a slice that meets another one for replicas, or has one, or is named twice; too few blocks.
 abbrev pub held_of_replicas : Case → List SliceName → Bool → ℕ → ℕ → List Refusal
 held_of_replicas case slices force count blocks =
@@ -77,13 +77,8 @@ abbrev pub held_of_others : Option Opened → List SliceName → ℕ → ℕ →
 held_of_others None slices count blocks = []
 held_of_others (Some o) slices count blocks = held_of_lists o (list_more slices count blocks (list_of o))
 
--- the places of a database that is open can't be changed yet, where nothing else speaks against it
-abbrev pub held_of_more : Option Opened → List Refusal → List Refusal
-held_of_more (Some o) [] = BadLine ∷ []
-held_of_more opened held = held
-
 abbrev pub held_of_creation : Case → List SliceName → Bool → ℕ → ℕ → List Refusal
-held_of_creation case slices force count blocks = held_of_more case.memory.opened (held_of_replicas case slices force count blocks ++ held_of_others case.memory.opened slices count blocks)
+held_of_creation case slices force count blocks = held_of_replicas case slices force count blocks ++ held_of_others case.memory.opened slices count blocks
 
 -- no place of the open database lies on the slice
 abbrev pub is_without : Opened → SliceName → Bool
@@ -97,21 +92,23 @@ is_up_at up (Some at) = has_drive up at.drive
 abbrev pub is_down : Host → Drives → Place → Bool
 is_down host up p = not (is_up_at up (slice_at host.drives.slices p.slice))
 
--- no place would be left
-abbrev pub are_all : Opened → List SliceName → Bool
-are_all o slices = is_empty (list_less slices (list_of o))
-
 -- the list that would come
 abbrev pub rest_of : Opened → List SliceName → List Place
 rest_of o slices = list_left slices (list_of o)
 
+-- the first of these places isn't the first one of its slice
+abbrev pub is_behind : List Place → Bool
+is_behind [] = false
+is_behind (p ∷ ps) = not (p.start == 16)
+
 -- What speaks against it by the state of places: a slice has none; of all places one whose drive the last boot didn't bring up; of the list that comes, which is the first place alone where all go, fewer than half
--- is active.
+-- is active; and where all go, a first place that isn't the first one of its slice, which would be hidden by the wipes of those before it.
 abbrev pub state_of_less : Case → Opened → List SliceName → Option StateWord
 state_of_less case o slices =
     if list_any (is_without o) slices then Some Absent else
     if are_all o slices && list_any (is_down case.host case.memory.up) (list_of o) then Some Down else
-    if is_some (short_in Half o.seats (rest_of o slices)) then Some Inactive else None
+    if is_some (short_in Half o.seats (rest_of o slices)) then Some Inactive else
+    if are_all o slices && is_behind (list_of o) then Some Inactive else None
 
 abbrev pub in_state : Option StateWord → List Refusal
 in_state None = []
@@ -126,16 +123,16 @@ held_of_less case o slices force =
     ++ where_so (are_all o slices && not force) NeedForce))
 
 -- what is told where nothing else speaks against it that this list comes beside that of the open database, or these places
-abbrev pub told_of_lists : Opened → List Place → Refusal
-told_of_lists o list = if nat_lt (room_with o list) (bytes_with o list) then ReplicaFull (bytes_with o list) (room_with o list) else BadLine
+abbrev pub told_of_lists : Opened → List Place → Option Refusal
+told_of_lists o list = if nat_lt (room_with o list) (bytes_with o list) then Some (ReplicaFull (bytes_with o list) (room_with o list)) else None
 
 abbrev pub told_of_others : Option Opened → List SliceName → ℕ → ℕ → Option Refusal
 told_of_others None slices count blocks = None
-told_of_others (Some o) slices count blocks = Some (told_of_lists o (list_more slices count blocks (list_of o)))
+told_of_others (Some o) slices count blocks = told_of_lists o (list_more slices count blocks (list_of o))
 
 abbrev pub held_of_drop : Case → Option Opened → List SliceName → Bool → List Refusal
 held_of_drop case None slices force = NoDatabase ∷ []
-held_of_drop case (Some o) slices force = held_of_more (Some o) (held_of_less case o slices force ++ held_of_lists o (rest_of o slices))
+held_of_drop case (Some o) slices force = held_of_less case o slices force ++ held_of_lists o (rest_of o slices)
 
 -- how long the record of the table would be that the change makes
 abbrev pub bytes_after : Host → Opened → PlanChange → ℕ

@@ -1,12 +1,13 @@
 -- The bytes of replies, how they are told, and what they acknowledge.
-use Rattle.std.specs.Prelude.{◌≡◌, ◌≢◌, ◌⊎◌, ◌<◌, ◌*◌, ℕ, Bool, true, ◌||◌, List, [], ◌∷◌, ◌++◌, All, length, take, codes, if◌then◌else◌}
+use Rattle.std.specs.Prelude.{◌≡◌, ◌≢◌, ◌⊎◌, ◌<◌, ◌*◌, ℕ, Bool, true, ◌||◌, List, [], ◌∷◌, ◌++◌, All, Contains, length, take, codes, if◌then◌else◌}
+use Rattle.std.specs.Bool.{MatchBool}
 use Rattle.std.specs.List.{concat}
 use Rattle.std.specs.Str.{bytes_eq}
 use Rattle.mdv_shelf.specs.Calls.{OnDrive}
 use Rattle.mdv_shelf.specs.Shelves.{IsOneCall, MadeCalls}
 use Rattle.mdv_shelf.specs.Story.{NoFewer}
 use Rattle.mdv_shelf.specs.declared.shelf.Shelf.{Ghosts}
-use Rattle.mdv_engine_law.specs.Below.{refusal_text, Key, VolId, Refusal, IoFault, Created, Deed, Saw, lacks, left_in, one_reply, refused, replies_in, said_in, unsaid, with_reply, IsQuietLine, entries_reply, printed_reply, values_reply}
+use Rattle.mdv_engine_law.specs.Below.{refusal_text, Key, VolId, Refusal, IoFault, Deed, Saw, lacks, left_in, one_reply, refused, replies_in, said_in, unsaid, with_reply, IsQuietLine, entries_reply, printed_reply, values_reply}
 use Rattle.mdv_engine_law.specs.declared.answer.Answer.{Answer}
 use Rattle.mdv_engine_law.specs.declared.answer.Answer.TheVariants.{Said, Over}
 use Rattle.mdv_engine_law.specs.declared.answer.Ended.{Ended}
@@ -14,7 +15,7 @@ use Rattle.mdv_engine_law.specs.declared.answer.Ended.TheVariants as ended
 use Rattle.mdv_engine_law.specs.declared.answer.Outcome.{Outcome}
 use Rattle.mdv_engine_law.specs.declared.answer.Outcome.TheVariants as outcome
 use Rattle.mdv_engine_law.specs.declared.answer.Reply.{Reply}
-use Rattle.mdv_engine_law.specs.Line.{Ask, Nothing, ToBoot, ToDo, ToMake, ToMakeListed, ToSee, deeds}
+use Rattle.mdv_engine_law.specs.Line.{Ask, Nothing, ToBoot, ToDo, ToDrop, ToMake, ToMakeListed, ToSee, deeds, tellable}
 use Rattle.mdv_engine_law.specs.declared.answer.Reply.TheVariants as reply
 
 abbrev pub refusal_line : Refusal → List ℕ
@@ -89,12 +90,17 @@ pub record TellsValues (key : Key) (volume : VolId) (at count : ℕ) (reply : Li
   pub told : reply ≡ values_reply at blocks
   pub seen : done ≡ Saw key volume at blocks ∷ []
 
--- What a reply acknowledges to a line that asks this: `ok` the deed, and a reply to a read the values that it tells.
+-- `ok` acknowledges one of these deeds, and every other reply none
+abbrev pub AcksOne : List Deed → List ℕ → List Deed → Type 0
+AcksOne deeds reply done = MatchBool (bytes_eq reply ok_line) ((deed : Deed) × Contains deeds deed × (done ≡ deed ∷ [])) (done ≡ [])
+
+-- What a reply acknowledges to a line that asks this: `ok` the deed, or one of those that replicas may come to, and a reply to a read the values that it tells.
 abbrev pub AcksBy : Ask → List ℕ → List Deed → Type 0
 AcksBy Nothing reply done = done ≡ []
 AcksBy ToBoot reply done = done ≡ []
-AcksBy (ToMake key lines count blocks) reply done = done ≡ (if bytes_eq reply ok_line then Created key ∷ [] else [])
-AcksBy (ToMakeListed key number) reply done = done ≡ (if bytes_eq reply ok_line then Created key ∷ [] else [])
+AcksBy (ToMake key lines count blocks) reply done = AcksOne (tellable (ToMake key lines count blocks)) reply done
+AcksBy (ToMakeListed key number) reply done = AcksOne (tellable (ToMakeListed key number)) reply done
+AcksBy (ToDrop key slices force) reply done = AcksOne (tellable (ToDrop key slices force)) reply done
 AcksBy (ToDo deed) reply done = done ≡ (if bytes_eq reply ok_line then deed ∷ [] else [])
 AcksBy (ToSee key volume at count) reply done = (IsRefusal reply × (done ≡ [])) ⊎ TellsValues key volume at count reply done
 
@@ -116,6 +122,7 @@ AcksFront Nothing bytes done = done ≡ []
 AcksFront ToBoot bytes done = done ≡ []
 AcksFront (ToMake key lines count blocks) bytes done = done ≡ []
 AcksFront (ToMakeListed key number) bytes done = done ≡ []
+AcksFront (ToDrop key slices force) bytes done = done ≡ []
 AcksFront (ToDo deed) bytes done = done ≡ []
 AcksFront (ToSee key volume at count) bytes done = (IsRefusalFront bytes × (done ≡ [])) ⊎ TellsFront key volume at count bytes done
 

@@ -41,6 +41,7 @@ settled_tellable log mark next table made n change told =
     record {
       before = told.before;
       may = record {
+        lives = refl;
         newest = record { mark = next; table = made; changes = n.version.changes; is_written = true };
         older = log.family;
         family = refl;

@@ -269,23 +269,29 @@ module _ (o : Opened) (s : IsSole o) where
           (trace_more (Spells g) site o.identity ending ending (log_after ending Gone) Ready IsDeleted IsDeleted (λ es. es ≡ wiped_all (spots_behind on r.first 0)) (λ es. es ≡ []) AreWipes t u u
           (λ es fs all none. subst AreWipes (sym (ap (λ (l : List Event). es ++ l) none ∙ append-nil es ∙ all)) (wipes_all (spots_behind on r.first 0))) done over)
 
-    pub goes_on : (m : Tale) → Leaves (MayWipe (at_of r)) t m → EndGoes g o AnyWorld (λ log. log.fate ≡ Ends) t m
-    goes_on m leaves log covers known = record {
-      es = Clearing ∷ [];
-      course = (clearable log covers known, tt);
-      come = record { tells = refl; issues = (tt, tt); begins = tt };
-      traces = ending_traced log covers known m leaves;
-      after = refl;
-    }
+    pub goes_on : (m : Tale) → Leaves (MayWipe (at_of r)) t m → EndGoes g o (Clearing ∷ []) AnyWorld (λ log. log.fate ≡ Ends) t m
+    goes_on m leaves log covers known = (
+      record {
+        es = Clearing ∷ [];
+        course = (clearable log covers known, tt);
+        come = record { tells = refl; issues = (tt, tt); begins = tt };
+        traces = ending_traced log covers known m leaves;
+        after = refl;
+      },
+      refl,
+    )
 
-    pub goes_over : (u : Tale) → Leaves (Wipes (at_of r)) t u → EndGoes g o IsDeleted (λ log. log.fate ≡ Over) t u
-    goes_over u leaves log covers known = record {
-      es = Clearing ∷ Gone ∷ [];
-      course = (clearable log covers known, (refl, tt));
-      come = record { tells = refl; issues = (tt, (tt, tt)); begins = tt };
-      traces = ended_traced log covers known u leaves;
-      after = refl;
-    }
+    pub goes_over : (u : Tale) → Leaves (Wipes (at_of r)) t u → EndGoes g o (Clearing ∷ Gone ∷ []) IsDeleted (λ log. log.fate ≡ Over) t u
+    goes_over u leaves log covers known = (
+      record {
+        es = Clearing ∷ Gone ∷ [];
+        course = (clearable log covers known, (refl, tt));
+        come = record { tells = refl; issues = (tt, (tt, tt)); begins = tt };
+        traces = ended_traced log covers known u leaves;
+        after = refl;
+      },
+      refl,
+    )
 
   -- no two are the only one
   one_sole : (a : IsSole o) → at_of a.replica ≡ at_of r

@@ -63,7 +63,7 @@ module _ (g : Geometry) (sound : IsSound g) (was list : List Place) (lists : IsL
   abbrev front_spaced : list_all (is_spaced was) was ≡ true
   front_spaced = (and_parts (list_all (is_spaced was) was) (list_all (is_spaced was) list && list_all (is_spaced list) list) lists.2).0
 
-  starts_of : (p : Place) → Contains was p → (16 ≤ p.start) × ((p.start - 16) % p.blocks ≡ 0)
+  pub starts_of : (p : Place) → Contains was p → (16 ≤ p.start) × ((p.start - 16) % p.blocks ≡ 0)
   starts_of p has = starts p (and_parts (starts_well p) (list_all (agrees p) was) (one_of_all (is_spaced was) was front_spaced p has)).0
 
   blocks_of : (p q : Place) → Contains was p → Contains was q → p.slice ≡ q.slice → p.blocks ≡ q.blocks

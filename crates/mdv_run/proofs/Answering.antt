@@ -1,4 +1,5 @@
 -- One line, answered.
+use Rattle.mdv_shelf.specs.Moments.{IsSince}
 use Rattle.mdv_shelf.specs.Failing.{AreCalm, Outcomes}
 use Rattle.mdv_engine_law.specs.Replies.{Blame, HasCommandCause, HasEndCause, HasReplyCause, IsReplyTo, reply_at, reply_to}
 use Rattle.mdv_engine_law.specs.declared.answer.Ended.{Ended}
@@ -7,42 +8,39 @@ use Rattle.mdv_engine_law.specs.declared.answer.Outcome.{Outcome}
 use Rattle.mdv_engine_law.specs.declared.answer.Outcome.TheVariants as outcome
 use Rattle.mdv_engine_law.specs.declared.answer.Reply.TheVariants as reply
 use Rattle.mdv_engine_law.specs.Line.{Nothing, Ask, asked_by}
-use Rattle.std.proofs.Common.{◌≡◌, Option, Some, None, inl, inr, ℕ, ◌<◌, List, [], length, take, refl, sym, ◌∙◌, subst, arith}
-use Rattle.mdv_run.specs.Below.{OutOfMemory, TooMany, Answer, IsAnswered, Kept, LinesMoment, meant, Script, line, tab_text, told, Tale, Spelled, Boot, IsLine, Reply, IsReplied, IsTold, IsTurnedDown, FailedOnSite, Host, IsLostOnSite, Memory, Engine, Executed, Knows, StaysHome, Turned, RanTo, key_of, kept_at}
+use Rattle.std.proofs.Common.{◌≡◌, Option, Some, None, inl, inr, ℕ, ◌<◌, List, length, take, refl, sym, ◌∙◌, subst, arith}
+use Rattle.mdv_run.specs.Below.{OutOfMemory, TooMany, Answer, IsAnswered, Kept, LinesMoment, meant, Script, line, tab_text, told, Tale, Spelled, Boot, IsLine, Reply, IsReplied, IsTold, IsTurnedDown, FailedOnSite, Host, IsLostOnSite, Memory, Engine, Executed, Knows, StaysHome, Turned, RanTo, kept_at}
 use Rattle.mdv_run.specs.Promise.{IsUncut, IsWorkOf, LineStays, LineStaysAs, LinesStay}
 use Rattle.mdv_run.specs.Turns.{LineAnswered}
 use Rattle.mdv_words.specs.Line as words
 use Rattle.mdv_words.proofs.Lines.{one_line}
 use Rattle.mdv_engine_law.specs.Answers.{EndsUnwritten, accepted, refusing}
-use Rattle.mdv_engine_law.proofs.Turning.{accepted_none, never_among, refused_none, turned}
+use Rattle.mdv_engine_law.proofs.Turning.{accepted_none, refused_none, turned}
 use Rattle.mdv_engine_law.proofs.Knowing.{knows_kept}
 use Rattle.mdv_engine_law.specs.Replies.{IsPlain}
 use Rattle.mdv_engine_law.specs.Standing.{OnlyReplied}
-use Rattle.mdv_volumes.specs.History.{Created}
 use Rattle.mdv_base.specs.declared.refusal.Refusal.{Refusal}
 use Rattle.mdv_base.specs.declared.refusal.Refusal.TheVariants.{IoFault}
 use Rattle.mdv_shelf.specs.Made.{Made}
 use Rattle.mdv_shelf.proofs.Made.{IsToo}
 use Rattle.mdv_engine_law.proofs.Efforts.{line_too, none_too, replied_too}
-use Rattle.mdv_engine_law.proofs.Opening.{only_boot}
 use Rattle.mdv_engine_law.proofs.Staying.{stays_still}
 use Rattle.mdv_engine_law.proofs.Widening.{AreWithin}
 use Rattle.mdv_run_law.specs.Run.{AreSynced, IsMereRefusal, IsUnwritten, TextCalls}
 use Rattle.mdv_engine.specs.Counts.{IsQuietRefusal}
-use Rattle.mdv_engine_law.specs.Standing.{LeavesDone, LineWrites, TurnMoment, WritesOnly}
+use Rattle.mdv_engine_law.specs.Standing.{LeavesDone, LeavesTorn, LineWrites, TurnMoment, WritesOnly}
 use Rattle.mdv_engine_law.specs.declared.answer.Answer.TheVariants.{Said, Over as Ends}
 use Rattle.mdv_shelf.specs.Area.{KeptOutside, nowhere}
 use Rattle.mdv_shelf.specs.declared.shelf.Shelf.{Ghosts as Shelf}
 use Rattle.mdv_words.specs.declared.command.Command.{Command}
 use Rattle.mdv_shelf.specs.Moments.{Moments}
 use Rattle.mdv_shelf.proofs.Moments.{moments_end, moments_weaker, some_is}
-use Rattle.mdv_run_law.proofs.Turning.{line_moment, line_ran}
+use Rattle.mdv_run_law.proofs.Turning.{line_moment, line_ran, nothing_met}
 use Rattle.mdv_run_law.proofs.Entries.{refused_entries, told_text}
 use Rattle.mdv_run_law.specs.Standing.{HasEntries, IsWanting}
 use Rattle.mdv_engine_law.proofs.Plain.{memory_plain, taken_front}
 use Rattle.mdv_engine_law.proofs.Turning.{refusal_told}
 use Rattle.mdv_engine_law.specs.Commands as came
-use Rattle.mdv_engine_law.specs.Commands.{ComesTo}
 use Rattle.mdv_engine_law.specs.Replies.{ok_line, refusal_line}
 use Rattle.mdv_engine_law.specs.Standing.{TellMoment}
 use Rattle.std.proofs.lemmas.List.{append_cancel_left, take_all}
@@ -65,6 +63,13 @@ quiet_reply failed (Ends end) given piece told on quiet = absurd quiet
 pub accepted_reply : (failed : Type 0) (answer : Answer) (given : Reply) (piece : List ℕ) → IsTold failed answer given piece → IsReplied given → answer ≡ accepted → given ≡ reply.Ok
 accepted_reply failed answer given piece told on is = by (subst (λ (a : Answer). IsTold failed a given piece) is told) where
   by : IsTold failed accepted given piece → given ≡ reply.Ok
+  by (inl whole) = whole.0
+  by (inr cut) = absurd (subst IsReplied cut.given_is on)
+
+-- so where a call failed
+pub fault_reply : (failed : Type 0) (answer : Answer) (given : Reply) (piece : List ℕ) → IsTold failed answer given piece → IsReplied given → answer ≡ refusing IoFault → given ≡ reply.Refused IoFault
+fault_reply failed answer given piece told on is = by (subst (λ (a : Answer). IsTold failed a given piece) is told) where
+  by : IsTold failed (refusing IoFault) given piece → given ≡ reply.Refused IoFault
   by (inl whole) = whole.0
   by (inr cut) = absurd (subst IsReplied cut.given_is on)
 
@@ -113,8 +118,9 @@ said_still failed said given (inr cut) still = subst IsStillEnd cut.0 still
 
 -- a line that was carried out is answered
 pub line_executed : (text : List ℕ) (spelled : Spelled) → IsLine text spelled → (outcomes : Outcomes) (replies : Type 0) (made : Made) (host : Host) (old new : Memory) (given : Reply) (t u : Tale) → Executed outcomes replies made host spelled old new given t u → LineWrites host spelled old t u
-    → (IsQuietRefusal given → KeptOutside nowhere t u) → (IsStillEnd given → KeptOutside nowhere t u) → (spelled ≡ Boot → new.opened ≡ None → KeptOutside nowhere t u) → (given ≡ reply.Ok → (command : Command) → spelled ≡ words.Exec command → LeavesDone host old (meant old.entries command) u) → (given ≡ reply.Ok → spelled ≡ Boot → AreSynced host outcomes u) → LineAnswered outcomes replies made host text old new given t u
-line_executed text spelled is outcomes replies made host old new given t u done writes unwritten still empty leaves synced = record {
+    → (IsQuietRefusal given → KeptOutside nowhere t u) → (IsStillEnd given → KeptOutside nowhere t u) → (spelled ≡ Boot → new.opened ≡ None → KeptOutside nowhere t u) → (given ≡ reply.Ok → (command : Command) → spelled ≡ words.Exec command → LeavesDone outcomes host old (meant old.entries command) u) → (given ≡ reply.Ok → spelled ≡ Boot → AreSynced host outcomes u)
+    → (given ≡ reply.Refused IoFault → (command : Command) → spelled ≡ words.Exec command → LeavesTorn outcomes host old (meant old.entries command) u) → LineAnswered outcomes replies made host text old new given t u
+line_executed text spelled is outcomes replies made host old new given t u done writes unwritten still empty leaves synced torn = record {
   answer = done.answer;
   done = inr (inl (spelled, is, done.carried));
   calls = inr (inl (spelled, is, done.effort));
@@ -124,11 +130,12 @@ line_executed text spelled is outcomes replies made host old new given t u done 
   leaves = λ on ok.
       let told = accepted_reply replies done.answer given done.replied.piece done.replied.as_told on ok in
       record { done = λ command here. leaves told command (one_line text spelled (words.Exec command) is here); synced = λ here. synced told (one_line text spelled Boot is here) };
+  torn = λ on ended command here. torn (fault_reply replies done.answer given done.replied.piece done.replied.as_told on ended) command (one_line text spelled (words.Exec command) is here);
   replied = done.replied;
 } where
-  none : IsReplied given → IsUnwritten done.answer new → KeptOutside nowhere t u
+  none : IsReplied given → IsUnwritten (IsLine text Boot) done.answer new → KeptOutside nowhere t u
   none on (inl quiet) = unwritten (quiet_reply replies done.answer given done.replied.piece done.replied.as_told on quiet)
-  none on (inr (told, closed)) = empty (only_boot outcomes host (kept_at old t) (kept_at new u) spelled (subst (λ (a : Answer). ComesTo outcomes host (kept_at old t) spelled a (kept_at new u)) told done.carried) closed) closed
+  none on (inr (boots, told, closed)) = empty (one_line text spelled Boot is boots) closed
 
 -- what came of the calls of a stretch, told of itself
 pub same_within : (outcomes : Outcomes) → AreWithin outcomes outcomes
@@ -136,9 +143,9 @@ same_within outcomes drive = record { some = λ is. is; none = λ is. is }
 
 -- the calls of a line, told of another stretch
 text_too : (outcomes : Outcomes) (one other : Made) → IsToo one other → (host : Host) (kept next : Kept) (text : List ℕ) (answer : Answer) → TextCalls outcomes one host kept text answer next → TextCalls outcomes other host kept text answer next
-text_too outcomes one other too host kept next text answer (inl (never, none)) = inl (never, none_too one other too none)
+text_too outcomes one other too host kept next text answer (inl (never, none)) = inl (never, none_too outcomes outcomes (same_within outcomes) one other too none)
 text_too outcomes one other too host kept next text answer (inr (inl (spelled, is, calls))) = inr (inl (spelled, is, line_too outcomes outcomes (same_within outcomes) one other too host kept spelled answer next calls))
-text_too outcomes one other too host kept next text answer (inr (inr (want, none))) = inr (inr (want, none_too one other too none))
+text_too outcomes one other too host kept next text answer (inr (inr (want, none))) = inr (inr (want, none_too outcomes outcomes (same_within outcomes) one other too none))
 
 pub answered_too : {outcomes : Outcomes} {replies : Type 0} {one : Made} {host : Host} {text : List ℕ} {old new : Memory} {reply : Reply} {t u : Tale} (other : Made) → IsToo one other → LineAnswered outcomes replies one host text old new reply t u → LineAnswered outcomes replies other host text old new reply t u
 answered_too {outcomes} {replies} {one} {host} {text} {old} {new} {reply} {t} {u} other too done = record {
@@ -149,6 +156,7 @@ answered_too {outcomes} {replies} {one} {host} {text} {old} {new} {reply} {t} {u
   unwritten = done.unwritten;
   still = done.still;
   leaves = done.leaves;
+  torn = done.torn;
   replied = done.replied;
 }
 
@@ -192,7 +200,7 @@ stays_as shelf engine Is bench on given text is = stays_else shelf engine.host (
 -- a refusal that was told, and nothing else happened
 module _ (host : Host) (memory : Memory) (r : Refusal) (plain : IsPlain r) (replies : Type 0) (reply : Reply) (t u : Tale) (given : OnlyReplied replies (refusing r) reply t u) where
   pub refused_turned : (ask : Ask) → IsReplied reply → Turned host ask memory memory t u
-  refused_turned ask on = turned host ask memory memory replies t t u refl (refusing r) plain (λ on has. absurd on) (refused_none host ask memory r t) reply on given
+  refused_turned ask on = turned host ask memory memory replies t t u refl (refusing r) plain (refused_none host ask memory r t) reply on given
 
   -- whose bytes are the refusal's
   pub refused_is : (ask : Ask) (on : IsReplied reply) → (refused_turned ask on).bytes ≡ refusal_line r
@@ -211,32 +219,32 @@ module _ (host : Host) (memory : Memory) (r : Refusal) (plain : IsPlain r) (repl
 -- an `ok` of a boot that was told
 pub accepted_turned : (host : Host) (memory : Memory) (replies : Type 0) (reply : Reply) (t u : Tale) → OnlyReplied replies accepted reply t u → IsReplied reply → Turned host Nothing memory memory t u
 accepted_turned host memory replies reply t u given on =
-    turned host Nothing memory memory replies t t u refl accepted tt (λ on has. absurd (never_among [] (Created (key_of host)) refl has)) (accepted_none host memory t) reply on given
+    turned host Nothing memory memory replies t t u refl accepted tt (accepted_none host memory t) reply on given
 
 pub accepted_ok : (host : Host) (memory : Memory) (replies : Type 0) (reply : Reply) (t u : Tale) (given : OnlyReplied replies accepted reply t u) (on : IsReplied reply) → (accepted_turned host memory replies reply t u given on).bytes ≡ ok_line
 accepted_ok host memory replies reply t u given on =
     told_text replies outcome.Ok reply given.replied.piece (accepted_turned host memory replies reply t u given on).bytes t u given.replied.as_told on given.replied.is_told (accepted_turned host memory replies reply t u given on).is_told
 
+wanting_front : (count : ℕ) → IsWanting (take count (refusal_line OutOfMemory))
+wanting_front count = taken_front (refusal_line OutOfMemory) count
+
+pub wanting_whole : IsWanting (refusal_line OutOfMemory)
+wanting_whole = subst IsWanting (take_all (length (refusal_line OutOfMemory)) (refusal_line OutOfMemory) (omega arith)) (wanting_front (length (refusal_line OutOfMemory)))
+
 -- what a line is refused with where memory was wanting to read it, and what it leaves
 module _ (host : Host) (text : List ℕ) (old : Memory) where
-  wanting_front : (count : ℕ) → IsWanting (take count (refusal_line OutOfMemory))
-  wanting_front count = taken_front (refusal_line OutOfMemory) count
-
-  pub unread_moment : (more : Script) (t m : Tale) → TellMoment (refusal_line OutOfMemory) t m → LinesMoment host (line text more) old t m
-  unread_moment more t m tell =
+  pub unread_moment : (more : Script) (t m : Tale) → IsSince t m → TellMoment (refusal_line OutOfMemory) t m → LinesMoment host (line text more) old t m
+  unread_moment more t m since tell =
       let turn = refusal_told host old Nothing OutOfMemory memory_plain t m tell in
       let front : turn.bytes ≡ take tell.count (refusal_line OutOfMemory) = append_cancel_left (told t) turn.bytes (take tell.count (refusal_line OutOfMemory)) (sym turn.is_told ∙ tell.is_told) in
       let wanting : IsWanting turn.bytes = subst IsWanting (sym front) (wanting_front tell.count) in
-      line_moment host text Nothing more old t m turn (inr (refl, wanting)) (inr wanting)
+      line_moment host text Nothing more old t m (nothing_met host t) since turn (inr (refl, wanting)) (inr wanting)
 
-  pub unread_ran : (replies : Type 0) (reply : Reply) (t u : Tale) → OnlyReplied replies (refusing OutOfMemory) reply t u → IsReplied reply → (more : Script) → RanTo host (line text more) old old more t u
-  unread_ran replies reply t u given on more =
+  pub unread_ran : (replies : Type 0) (reply : Reply) (t u : Tale) → IsSince t u → OnlyReplied replies (refusing OutOfMemory) reply t u → IsReplied reply → (more : Script) → RanTo host (line text more) old old more t u
+  unread_ran replies reply t u since given on more =
       let is = refused_is host old OutOfMemory memory_plain replies reply t u given Nothing on in
-      let wanting : IsWanting (refused_turned host old OutOfMemory memory_plain replies reply t u given Nothing on).bytes = subst IsWanting (sym is) whole in
-      line_ran host text Nothing more old old t u (refused_turned host old OutOfMemory memory_plain replies reply t u given Nothing on) (stays_still host t u given.kept) (inr (refl, wanting)) (inr wanting) (λ knows. refused_keeps host old OutOfMemory memory_plain replies reply t u given text Nothing on)
-    where
-      whole : IsWanting (refusal_line OutOfMemory)
-      whole = subst IsWanting (take_all (length (refusal_line OutOfMemory)) (refusal_line OutOfMemory) (omega arith)) (wanting_front (length (refusal_line OutOfMemory)))
+      let wanting : IsWanting (refused_turned host old OutOfMemory memory_plain replies reply t u given Nothing on).bytes = subst IsWanting (sym is) wanting_whole in
+      line_ran host text Nothing more old old t u (nothing_met host t) since (refused_turned host old OutOfMemory memory_plain replies reply t u given Nothing on) (stays_still host t u given.kept) (inr (refl, wanting)) (inr wanting) (λ knows. refused_keeps host old OutOfMemory memory_plain replies reply t u given text Nothing on)
 
 -- a `tab` block with too many bytes
 pub many_comes : (lines : List ℕ) (outcomes : Outcomes) (host : Host) (kept next : Kept) (answer : Answer) → 65536 < length lines → AreCalm outcomes → IsTurnedDown TooMany kept answer next → IsAnswered outcomes host kept (tab_text lines) answer next

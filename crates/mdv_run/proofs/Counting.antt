@@ -1,5 +1,8 @@
 -- How the calls of a run's turns add up.
-use Rattle.std.proofs.Common.{◌≡◌, ◌⊎◌, ◌≤◌, ◌+◌, ◌*◌, inl, inr, ℕ, Bool, true, false, if◌then◌else◌, ◌++◌, [], ◌∷◌, length, List, Option, None, Some, IfSome, sym, ◌∙◌, ap, subst, arith}
+use Rattle.std.proofs.Common.{◌≡◌, ◌⊎◌, ◌≤◌, ◌+◌, ◌*◌, inl, inr, ℕ, zero, suc, Bool, true, false, not, filter, if◌then◌else◌, ◌++◌, [], ◌∷◌, length, List, Option, None, Some, IfSome, refl, sym, ◌∙◌, ap, subst, length-append, arith}
+use Rattle.std.specs.List.{list_any}
+use Rattle.std.proofs.lemmas.List.{length-map}
+use Rattle.std.proofs.lemmas.List.Sums.{count_by-le-length, length-filter}
 use Rattle.mdv_shelf.specs.Calls.{RoseByAtMost}
 use Rattle.mdv_shelf.specs.Shelves.{MadeCalls}
 use Rattle.mdv_shelf.specs.declared.shelf.Shelf.{Ghosts}
@@ -16,11 +19,30 @@ use Rattle.mdv_engine.specs.Ends.{IsFew}
 use Rattle.mdv_engine.specs.Engine.{IsHeldBy}
 use Rattle.std.proofs.Math.Nat.{mul-le-mul_right}
 use Rattle.std.specs.Prelude.{nat_lt}
+use Rattle.mdv_acts.specs.Acts.{acts_asked, blanks_asked, forms_asked}
+use Rattle.mdv_acts.specs.Acts as acts
 use Rattle.mdv_acts.specs.Asked.{blanked_asked}
+use Rattle.mdv_acts.proofs.Acting.{calls_more}
+use Rattle.mdv_acts.proofs.Counting.{blanks_calls, forms_calls}
+use Rattle.mdv_acts.proofs.Ordering.{order_length}
+use Rattle.mdv_engine_law.specs.Efforts.{deletion_calls, places_on}
+use Rattle.mdv_engine_law.specs.Places.{are_all}
+use Rattle.mdv_places.specs.Asked.{Adds, Asks, Drops, KeepsFirst, acts_moved, claims, list_after, seats_added}
+use Rattle.mdv_places.specs.Counts.{dropped_count, first_count, last_count, move_calls}
+use Rattle.mdv_store.proofs.Spotting.{asked_length}
+use Rattle.mdv_store.specs.Create.{seats_asked}
+use Rattle.mdv_store.specs.Listing.{is_listed_in, seats_in}
+use Rattle.mdv_table.specs.Plan.{beside, last_of, same_place}
+use Rattle.mdv_table.specs.Table.{IsListsOf}
+use Rattle.mdv_table.specs.declared.plan.Lists.{Lists}
+use Rattle.mdv_table.specs.declared.plan.Lists.TheVariants.{One, Two}
 use Rattle.mdv_base.specs.declared.drive.SliceName.{SliceName}
+use Rattle.mdv_base.specs.declared.mark.Identity.{Identity}
+use Rattle.mdv_base.specs.declared.name.Key.{Key}
 use Rattle.mdv_base.specs.declared.name.VolId.{VolId}
 use Rattle.mdv_engine_law.specs.Hosts.{line_at, lines_asked}
 use Rattle.mdv_name.specs.SliceIndex.{slice_at}
+use Rattle.mdv_name.specs.declared.geometry.Geometry.{Geometry}
 use Rattle.mdv_name.specs.declared.slice_lines.SliceAt.{SliceAt}
 use Rattle.mdv_name.specs.declared.slice_lines.SliceLine.{SliceLine}
 use Rattle.mdv_words.specs.Listed.{as_listed}
@@ -124,13 +146,63 @@ blanked_few lines count = by (nat_lt 1 count) where
   by true = omega arith
   by false = omega arith
 
+fewer : {X : Type 0} (test : X → Bool) (xs : List X) → length (filter test xs) ≤ length xs
+fewer test xs = omega (arith, length-filter test xs, count_by-le-length test xs)
+
+last_few : (g : Geometry) (lists : Lists) → IsListsOf g lists → length (last_of lists) ≤ 50
+last_few g (One places) are = are.few
+last_few g (Two old new) are = are.1.few
+
+-- places that are added are formatted, and masters blanked
+formats_calls : (key : Key) (identity : Identity) (claim : ℕ) (lines : List SliceLine) (count blocks : ℕ) → acts.calls_of (acts_asked key identity claim lines count blocks) ≡ 2 * blanked_asked lines count + 6 * (length lines * count)
+formats_calls key identity claim lines zero blocks =
+    let forms : acts.calls_of (acts_asked key identity claim lines zero blocks) ≡ 6 * (length lines * zero) = forms_calls zero blocks key identity claim lines in
+    let none : blanked_asked lines zero ≡ 0 = refl in
+    omega (arith, forms, none)
+formats_calls key identity claim lines (suc n) blocks =
+    omega (arith, calls_more (blanks_asked lines (suc n) blocks) (forms_asked key identity claim lines (suc n) blocks), blanks_calls (suc n) blocks (omega arith) lines, forms_calls (suc n) blocks key identity claim lines)
+
+-- A change of places writes two tables to fifty places at most and to those that come, and wipes no more than fifty.
+module _ (host : Host) (o : Opened) (held : IsHeldBy host o) where
+  moved_calls : (asked : Asks) (formats added : ℕ) → acts.calls_of (acts_moved o asked) ≡ formats → length (seats_added o asked) ≡ added → move_calls o asked ≤ formats + 12 * (50 + added) + 2 * 50
+  moved_calls asked formats added formats_are added_are =
+      let list = last_of o.table.plan.lists in
+      let after = list_after asked list in
+      let seats = o.seats ++ seats_added o asked in
+      let all : length seats ≡ length o.seats + length (seats_added o asked) = length-append o.seats (seats_added o asked) in
+      let first : first_count o asked ≤ length seats = active_most seats in
+      let last : last_count o asked ≤ length (seats_in after seats) = active_most (seats_in after seats) in
+      let listed : length (seats_in after seats) ≤ length seats = fewer (is_listed_in after) seats in
+      let wiped : dropped_count o asked ≡ length (beside after list) = order_length (beside after list) in
+      let left : length (beside after list) ≤ length list = fewer (λ p. not (list_any (same_place p) after)) list in
+      let few : length list ≤ 50 = last_few host.drives o.table.plan.lists held.of_geometry.lists in
+      let some = held.few in
+      omega (arith, all, first, last, listed, wiped, left, few, some, formats_are, added_are)
+
+  dropped_calls : (slices : List SliceName) (force : Bool) → calls_of host (Some o) (DropPlaces slices force) ≤ 14 * 50 + 2
+  dropped_calls slices force = by (are_all o slices) where
+    by : (all : Bool) → (if all then deletion_calls o else move_calls o (Drops slices)) ≤ 14 * 50 + 2
+    by true = (let moved = moved_calls KeepsFirst 0 0 refl refl in omega (arith, moved))
+    by false = (let moved = moved_calls (Drops slices) 0 0 refl refl in omega (arith, moved))
+
+-- places that are added, or those of a database that is made
+added_calls : (host : Host) (opened : Option Opened) → IfSome opened (IsHeldBy host) → (slices : List SliceName) (force : Bool) (count blocks : ℕ)
+    → calls_of host opened (AddPlaces slices force count blocks) ≤ 14 * 50 + (18 * places_on (lines_asked host slices) count + 2 * blanked_asked (lines_asked host slices) count)
+added_calls host None held slices force count blocks = omega arith
+added_calls host (Some o) held slices force count blocks =
+    let lines = lines_asked host slices in
+    let are : length (seats_added o (Adds lines count blocks)) ≡ length lines * count = length-map (seats_asked o.key o.identity lines count blocks) (claims o.mark.boot) ∙ asked_length o.key o.identity count blocks lines in
+    let moved = moved_calls host o held (Adds lines count blocks) (2 * blanked_asked lines count + 6 * (length lines * count)) (length lines * count) (formats_calls o.key o.identity o.mark.boot lines count blocks) are in
+    omega (arith, moved)
+
 -- an entry's places are fifty at most
-listed_most : (host : Host) (opened : Option Opened) (r : Replicas) → length r.slices * r.count ≤ 50 → calls_of host opened (AddPlaces r.slices true r.count r.blocks) ≤ 14 * 50
-listed_most host opened r few =
+listed_most : (host : Host) (opened : Option Opened) → IfSome opened (IsHeldBy host) → (r : Replicas) (force : Bool) → length r.slices * r.count ≤ 50 → calls_of host opened (AddPlaces r.slices force r.count r.blocks) ≤ 34 * 50
+listed_most host opened held r force few =
     let lines = lines_asked host r.slices in
     let rows : length lines * r.count ≤ length r.slices * r.count = mul-le-mul_right r.count (lines_few host r.slices) in
     let blanked = blanked_few lines r.count in
-    omega (arith, few, rows, blanked)
+    let added = added_calls host opened held r.slices force r.count r.blocks in
+    omega (arith, few, rows, blanked, added)
 
 -- a command, where the open database is one of the host's
 pub exec_calls : (host : Host) (memory : Memory) → IsWell host memory → (command : Command) (old new : Option ℕ) → RoseByAtMost (1 + calls_of host memory.opened (meant memory.entries command)) old new → RoseByAtMost 2 old new ⊎ IsFew (meant memory.entries command)
@@ -143,15 +215,19 @@ exec_calls host memory well command old new took few = by command took few where
   stripe None held volume slice = omega arith
   stripe (Some o) held volume slice = (let few = held.few in let active = active_most o.seats in omega (arith, few, active))
 
-  listed : (number : ℕ) (force : Bool) (said : Option Replicas) → RoseByAtMost (1 + calls_of host memory.opened (as_listed number force said)) old new → RoseByAtMost 2 old new ⊎ IsFew (as_listed number force said) → RoseByAtMost (1 + 14 * 50) old new
-  listed number force said took (inl two) = wide 1 (14 * 50) (omega arith) two
-  listed number force (Some r) took (inr few) = wide (calls_of host memory.opened (AddPlaces r.slices force r.count r.blocks)) (14 * 50) (listed_most host memory.opened r few) took
-  listed number force None took (inr few) = wide 0 (14 * 50) (omega arith) took
+  listed : (number : ℕ) (force : Bool) (said : Option Replicas) → RoseByAtMost (1 + calls_of host memory.opened (as_listed number force said)) old new → RoseByAtMost 2 old new ⊎ IsFew (as_listed number force said) → RoseByAtMost (1 + 34 * 50) old new
+  listed number force said took (inl two) = wide 1 (34 * 50) (omega arith) two
+  listed number force (Some r) took (inr few) = wide (calls_of host memory.opened (AddPlaces r.slices force r.count r.blocks)) (34 * 50) (listed_most host memory.opened well.database r force few) took
+  listed number force None took (inr few) = wide 0 (34 * 50) (omega arith) took
+
+  less : (opened : Option Opened) → IfSome opened (IsHeldBy host) → (slices : List SliceName) (force : Bool) → calls_of host opened (DropPlaces slices force) ≤ 14 * 50 + 2
+  less None held slices force = omega arith
+  less (Some o) held slices force = dropped_calls host o held slices force
 
   by : (command : Command) → RoseByAtMost (1 + calls_of host memory.opened (meant memory.entries command)) old new → RoseByAtMost 2 old new ⊎ IsFew (meant memory.entries command) → RoseByAtMost (1 + command_calls host command) old new
-  by (AddPlaces slices force count blocks) took few = took
+  by (AddPlaces slices force count blocks) took few = wide (calls_of host memory.opened (AddPlaces slices force count blocks)) (command_calls host (AddPlaces slices force count blocks)) (added_calls host memory.opened well.database slices force count blocks) took
   by (AddListed number force) took few = listed number force (listed_by memory.entries number) took few
-  by (DropPlaces slices force) took few = took
+  by (DropPlaces slices force) took few = wide (calls_of host memory.opened (DropPlaces slices force)) (14 * 50 + 2) (less memory.opened well.database slices force) took
   by (asked.MakeStripe volume slice) took few = wide (calls_of host memory.opened (asked.MakeStripe volume slice)) (6 * 50) (stripe memory.opened well.database volume slice) took
   by (Read volume at count) took few = took
   by (Write volume at block) took few = took

@@ -7,17 +7,11 @@ use Rattle.mdv_shelf.specs.Story.{Effort}
 use Rattle.mdv_engine_law.specs.Efforts.{NoCalls, replied_to}
 use Rattle.mdv_shelf.specs.Area.{KeptOutside, nowhere}
 use Rattle.mdv_run.specs.Promise.{point_of}
-use Rattle.mdv_run_law.specs.Standing.{ComeOf, Context, NothingLeft, context_of}
-use Rattle.mdv_status.specs.Telling.{replies_in}
-use Rattle.mdv_store_law.specs.Machine.{AreAll}
-use Rattle.mdv_volumes.proofs.Lists.{all_both}
-use Rattle.mdv_volumes.specs.Happening.{IsIssue}
-use Rattle.mdv_volumes.specs.History.{Event}
-use Rattle.std.proofs.Common.{◌≡◌, ◌≤◌, inl, inr, ℕ, Bool, true, List, [], ◌∷◌, ◌++◌, Option, Some, refl, sym, ◌∙◌, ap, subst}
+use Rattle.std.proofs.Common.{◌≡◌, ◌≤◌, inl, inr, ℕ, Bool, true, List, [], ◌++◌, Option, Some, refl, sym, ◌∙◌, ap, subst}
 use Rattle.mdv_run.specs.Below.{LineTooLong, Items, Script, at_end, spent, too_long, line, asked_before, IsItem, IsItemTurn, Item, TooLong, End, Spent, Tale, told, Answer, Reply, Host, IsLostOnSite, Memory, IsTold, IsReplied, Kept, IsTurnedDown, kept_at, Replied, RunStatus, NoQuorum, Panic, ReadFault, TwoDatabases, WriteFault, NoMemory, NumbersSpent, At, Counts, NextLine, OnDrive, OnReplies, RanTo, Stretch, IsAnswered, IsSame, contents}
-use Rattle.mdv_run_law.specs.Run.{AreInTime, EndsAt, FromTo, IsPassage, IsUnwritten, Leads as LeadsOn, NextCalls, NextLeaves, NextWrites, giving_failed, OnlyReplying, OnlyUngiven, OnlyUnread, RoseCalmly, drive_failures, Over as IsOver, broken, ended as script_ended, unread, EndsAs, EndsWith, IsSaid, refused_by}
+use Rattle.mdv_run_law.specs.Run.{AreInTime, EndsAt, FromTo, IsPassage, IsUnwritten, NextBoots, NextCalls, NextLeaves, NextTorn, NextWrites, giving_failed, OnlyReplying, OnlyUngiven, OnlyUnread, RoseCalmly, drive_failures, Over as IsOver, broken, ended as script_ended, unread, EndsAs, EndsWith, IsSaid, refused_by}
+use Rattle.mdv_base.specs.declared.refusal.Refusal.TheVariants.{IoFault}
 use Rattle.mdv_engine_law.specs.Answers.{EndsUnwritten, accepted, refusing}
-use Rattle.mdv_engine_law.specs.Standing.{IsOfRun}
 use Rattle.mdv_engine_law.specs.Replies.{HasReplyCause, IsLost, outcome_text, reply_at, reply_to, text_of}
 use Rattle.mdv_engine_law.specs.declared.answer.Answer.TheVariants.{Said, Over as Ends}
 use Rattle.mdv_engine_law.specs.declared.answer.Ended.{Ended}
@@ -126,39 +120,19 @@ ended_uncut ended.Memory r is told = absurd (cc (is, told))
 ended_uncut (ended.NoQuorum readable needed) r is told = absurd (cc (is, told))
 ended_uncut (ended.TwoDatabases a b) r is told = absurd (cc (is, told))
 
--- each creation that the events of lines issue has the run's word
-module _ (host : Host) (last : Context) where
-  abbrev AreIssued : List Event → Type 0
-  AreIssued = AreAll (IsIssue (IsOfRun host))
-
-  none_issued : (es : List Event) → es ≡ [] → AreIssued es
-  none_issued es none = subst AreIssued (sym none) tt
-
-  lines_issued : (down : Context) (script : Script) (replies : List (List ℕ)) (es : List Event) → ComeOf host (NothingLeft last) down script replies es → AreIssued es
-  lines_issued down script [] es come = none_issued es come.0
-  lines_issued down at_end (reply ∷ replies) es come = none_issued es come.0
-  lines_issued down (spent lines bytes) (reply ∷ replies) es come = none_issued es come.0
-  lines_issued down (too_long more) (reply ∷ replies) es come = subst AreIssued (sym come.2) (all_both (IsIssue (IsOfRun host)) come.0 come.1 come.3.issues (lines_issued down more replies come.1 come.4))
-  lines_issued down (line text more) (reply ∷ replies) es come = subst AreIssued (sym come.2) (all_both (IsIssue (IsOfRun host)) come.0 come.1 come.4.does.issues (lines_issued come.3 more replies come.1 come.6))
-
--- lines that ran to a place lead each history on that was known before them, by events of the run
-pub led_on : (host : Host) (script left : Script) (old new : Memory) (t u : Tale) → RanTo host script old new left t u → LeadsOn host old new t u
-led_on host script left old new t u ran = λ h known. (
-    let gone = ran.goes h known in
-    record { es = gone.es; course = gone.course; come = lines_issued host (context_of new) (context_of old) script (replies_in ran.bytes) gone.es gone.come; stands = gone.stands; after = gone.after })
-
 -- what its answer says of the drives, where it was told whole, and of each history
-record Tells (host : Host) (from : At) (then : Point) (answer : Answer) (next : Kept) : Type 0 where
-  pub unwritten : IsUnwritten answer next.memory → FromTo (KeptOutside nowhere) from.story then.story
+record Tells (host : Host) (from : At) (then : Point) (answer : Answer) (next : Kept) (more : Script) : Type 0 where
+  pub unwritten : IsUnwritten (NextBoots from.script) answer next.memory → FromTo (KeptOutside nowhere) from.story then.story
   pub leaves : answer ≡ accepted → FromTo (λ t u. NextLeaves (drive_failures from.counts then.counts) host from.kept.memory from.script u) from.story then.story
-  pub leads : FromTo (LeadsOn host from.kept.memory next.memory) from.story then.story
+  pub torn : answer ≡ refusing IoFault → FromTo (λ t u. NextTorn (drive_failures from.counts then.counts) host from.kept.memory from.script u) from.story then.story
+  pub leads : FromTo (RanTo host from.script from.kept.memory next.memory more) from.story then.story
 
 -- how one turn leads on: its answer is the next line's, by whatever counts each drive failed as often
 module _ (host : Host) (from : At) (then : Point) (r : Reply) (rose : RoseInTurn from.counts then.counts r) (next : Kept) (more : Script) (before : Option Script) (before_is : before ≡ Some more) (answer : Answer)
     (comes : (c : Counts) → RoseCalmly from.counts c → c.drives ≡ then.counts.drives → NextLine host from.counts from.kept from.script answer c next more) (calls : NextCalls (drive_failures from.counts then.counts) (replied_to answer (made_between from.effort then.effort)) host from.kept from.script answer next) (writes : FromTo (NextWrites host from.kept.memory from.script) from.story then.story) (still_by : EndsUnwritten answer → FromTo (KeptOutside nowhere) from.story then.story) (piece : List ℕ)
     (passage : IsPassage from piece (at then next from.refused more))
   where
-    line_on : IsReplied r → Tells host from then answer next → (any : Bool) → IsSaid answer → piece ≡ text_of answer → any ≡ refused_by answer from.refused → Leads host from piece then next before (On any)
+    line_on : IsReplied r → Tells host from then answer next more → (any : Bool) → IsSaid answer → piece ≡ text_of answer → any ≡ refused_by answer from.refused → Leads host from piece then next before (On any)
     line_on on tells any said text is = (
       more,
       before_is,
@@ -169,6 +143,7 @@ module _ (host : Host) (from : At) (then : Point) (r : Reply) (rose : RoseInTurn
         writes = writes;
         unwritten = tells.unwritten;
         leaves = tells.leaves;
+        torn = tells.torn;
         leads = tells.leads;
         said = said;
         as_text = text;
@@ -190,13 +165,13 @@ module _ (host : Host) (from : At) (then : Point) (r : Reply) (rose : RoseInTurn
 -- what a reply leads to, by its answer
 leads : (host : Host) (from : At) (then : Point) (r : Reply) → RoseInTurn from.counts then.counts r → (next : Kept) (more : Script) (before : Option Script) → before ≡ Some more → (answer : Answer) (piece : List ℕ)
     → ((c : Counts) → RoseCalmly from.counts c → c.drives ≡ then.counts.drives → NextLine host from.counts from.kept from.script answer c next more) → NextCalls (drive_failures from.counts then.counts) (replied_to answer (made_between from.effort then.effort)) host from.kept from.script answer next → FromTo (NextWrites host from.kept.memory from.script) from.story then.story → (EndsUnwritten answer → FromTo (KeptOutside nowhere) from.story then.story)
-    → IsPassage from piece (at then next from.refused more) → (IsReplied r → Tells host from then answer next)
+    → IsPassage from piece (at then next from.refused more) → (IsReplied r → Tells host from then answer next more)
     → IsTold (giving_failed from.counts then.counts) answer r piece → Leads host from piece then next before (turn_of r from.refused)
 leads host from then r rose next more before is (Said this) piece comes calls writes still_by passage tells (inl whole) = subst (λ (x : Reply). Leads host from piece then next before (turn_of x from.refused)) (sym whole.0) (by this comes calls (tells on) whole.1) where
   on : IsReplied r
   on = replied_whole this r whole.0
 
-  by : (this : Outcome) → ((c : Counts) → RoseCalmly from.counts c → c.drives ≡ then.counts.drives → NextLine host from.counts from.kept from.script (Said this) c next more) → NextCalls (drive_failures from.counts then.counts) (replied_to (Said this) (made_between from.effort then.effort)) host from.kept from.script (Said this) next → Tells host from then (Said this) next → piece ≡ outcome_text this → Leads host from piece then next before (turn_of (reply_to this) from.refused)
+  by : (this : Outcome) → ((c : Counts) → RoseCalmly from.counts c → c.drives ≡ then.counts.drives → NextLine host from.counts from.kept from.script (Said this) c next more) → NextCalls (drive_failures from.counts then.counts) (replied_to (Said this) (made_between from.effort then.effort)) host from.kept from.script (Said this) next → Tells host from then (Said this) next more → piece ≡ outcome_text this → Leads host from piece then next before (turn_of (reply_to this) from.refused)
   by outcome.Ok comes calls tells is_text = line_on host from then r rose next more before is (Said outcome.Ok) comes calls writes still_by piece passage on tells from.refused tt is_text refl
   by (outcome.Values text) comes calls tells is_text = line_on host from then r rose next more before is (Said (outcome.Values text)) comes calls writes still_by piece passage on tells from.refused tt is_text refl
   by (outcome.Refused refusal) comes calls tells is_text = line_on host from then r rose next more before is (Said (outcome.Refused refusal)) comes calls writes still_by piece passage on tells true tt is_text refl
@@ -216,7 +191,7 @@ leads host from then r rose next more before is (Ends end) piece comes calls wri
 
 -- a line
 pub leads_line : (now then : Point) (r : Reply) → RoseInTurn now.counts then.counts r → (host : Host) (old new : Memory) (any : Bool) (s more : Script) (text : List ℕ) (before : Option Script) (t u : Tale) → Passes now then t u
-    → s ≡ line text more → before ≡ Some more → LineAnswered (drive_failures now.counts then.counts) (giving_failed now.counts then.counts) (made_between now.effort then.effort) host text old new r t u → (IsReplied r → LeadsOn host old new t u) → Turns host now then old new any s before (turn_of r any) t u
+    → s ≡ line text more → before ≡ Some more → LineAnswered (drive_failures now.counts then.counts) (giving_failed now.counts then.counts) (made_between now.effort then.effort) host text old new r t u → (IsReplied r → RanTo host (line text more) old new more t u) → Turns host now then old new any s before (turn_of r any) t u
 leads_line now then r rose host old new any s more text before t u passes is next done led = record {
   piece = done.replied.piece;
   is_told = done.replied.is_told;
@@ -228,15 +203,16 @@ leads_line now then r rose host old new any s more text before t u passes is nex
       (λ still. from_to now then t u passes (KeptOutside nowhere) (done.still still))
       (passage_of now then t u passes old new any s more done.replied.piece done.replied.is_told)
       (λ on. record {
-        unwritten = λ quiet. from_to now then t u passes (KeptOutside nowhere) (done.unwritten on quiet);
+        unwritten = λ quiet. from_to now then t u passes (KeptOutside nowhere) (done.unwritten on (subst (λ (x : Script). IsUnwritten (NextBoots x) done.answer new) is quiet));
         leaves = λ ok. from_to now then t u passes (λ _ v. NextLeaves (drive_failures now.counts then.counts) host old s v) (subst (λ (x : Script). NextLeaves (drive_failures now.counts then.counts) host old x u) (sym is) (done.leaves on ok));
-        leads = from_to now then t u passes (LeadsOn host old new) (led on);
+        torn = λ ended. from_to now then t u passes (λ _ v. NextTorn (drive_failures now.counts then.counts) host old s v) (subst (λ (x : Script). NextTorn (drive_failures now.counts then.counts) host old x u) (sym is) (done.torn on ended));
+        leads = from_to now then t u passes (RanTo host s old new more) (subst (λ (x : Script). RanTo host x old new more t u) (sym is) (led on));
       }) done.replied.as_told;
 }
 
 -- a line that was too long
 pub leads_long : (now then : Point) (r : Reply) → RoseInTurn now.counts then.counts r → AreCalm (drive_failures now.counts then.counts) → (host : Host) (old : Memory) (any : Bool) (s more : Script) (before : Option Script) (t u : Tale) → Passes now then t u
-    → s ≡ too_long more → before ≡ Some more → IsTurnedDown LineTooLong (kept_at old t) (refusing LineTooLong) (kept_at old u) → Replied (giving_failed now.counts then.counts) (refusing LineTooLong) r t u → KeptOutside nowhere t u → NoCalls (replied_to (refusing LineTooLong) (made_between now.effort then.effort)) → (IsReplied r → LeadsOn host old old t u)
+    → s ≡ too_long more → before ≡ Some more → IsTurnedDown LineTooLong (kept_at old t) (refusing LineTooLong) (kept_at old u) → Replied (giving_failed now.counts then.counts) (refusing LineTooLong) r t u → KeptOutside nowhere t u → NoCalls (replied_to (refusing LineTooLong) (made_between now.effort then.effort)) → (IsReplied r → RanTo host (too_long more) old old more t u)
     → Turns host now then old old any s before (turn_of r any) t u
 leads_long now then r rose still host old any s more before t u passes is next down replied kept none led = record {
   piece = replied.piece;
@@ -247,7 +223,7 @@ leads_long now then r rose still host old any s more before t u passes is next d
       (from_to now then t u passes (NextWrites host old s) (subst (λ (x : Script). NextWrites host old x t u) (sym is) kept))
       (λ reads. absurd reads)
       (passage_of now then t u passes old old any s more replied.piece replied.is_told)
-      (λ on. record { unwritten = λ quiet. from_to now then t u passes (KeptOutside nowhere) kept; leaves = λ ok. absurd (cc (ok)); leads = from_to now then t u passes (LeadsOn host old old) (led on) }) replied.as_told;
+      (λ on. record { unwritten = λ quiet. from_to now then t u passes (KeptOutside nowhere) kept; leaves = λ ok. absurd (cc (ok)); torn = λ ended. absurd (cc (ended)); leads = from_to now then t u passes (RanTo host s old old more) (subst (λ (x : Script). RanTo host x old old more t u) (sym is) (led on)) }) replied.as_told;
 }
 
 -- a turn on which the run goes on was replied to

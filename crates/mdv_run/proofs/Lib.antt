@@ -6,5 +6,6 @@ pub mod Answering
 pub mod Used
 pub mod Shown
 pub mod Fronts
+pub mod Led
 pub mod Fronting
 pub mod Counting

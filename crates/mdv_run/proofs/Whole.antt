@@ -23,11 +23,12 @@ use Rattle.mdv_shelf.specs.Story.{Effort}
 use Rattle.mdv_engine_law.specs.Efforts.{BootCalls}
 use Rattle.mdv_engine_law.specs.Standing.{BootMoment}
 use Rattle.mdv_shelf.specs.Area.{KeptOutside, nowhere}
+use Rattle.mdv_shelf.specs.Moments.{IsSince}
 use Rattle.mdv_run_law.specs.Run.{FromTo}
 use Rattle.mdv_run.specs.Promise.{between}
 use Rattle.std.proofs.Common.{◌≡◌, ◌⊎◌, inl, inr, ℕ, List, [], ◌++◌, Option, None, Some, Err, refl, sym, subst, ◌∙◌, ap, false}
 use Rattle.std.proofs.lemmas.List.{append-nil}
-use Rattle.mdv_run.specs.Below.{Script, Tale, site_area, told, Ended, Host, Memory, IsRebooted, kept_at, unbooted, HasBootCause, boot_answer, RunStatus, Counts, Stretch, IsWholeRun, HasStatusCause}
+use Rattle.mdv_run.specs.Below.{BootedTo, Script, Tale, site_area, told, Ended, Host, Memory, IsRebooted, kept_at, unbooted, HasBootCause, boot_answer, RunStatus, Counts, Stretch, IsWholeRun, HasStatusCause}
 use Rattle.mdv_engine_law.specs.Line.{contents}
 use Rattle.mdv_run_law.specs.Run.{IsLostStatus, IsPoint, RoseCalmly, drive_failures, status_at}
 use Rattle.mdv_engine_law.specs.Answers.{EndsUnwritten, accepted}
@@ -45,7 +46,7 @@ module _ (host : Host) (stretch : Stretch) (start : Counts) (t : Tale) (script :
     is_told = quiet ∙ sym (append-nil (told t));
     last = kept_at memory u;
     left = record { content = λ drive block. refl; opened = λ known. absurd (known (lost r)) };
-    runs = record { answer = boot_answer {T = T} (Err r); booted = end; rose = rose; kept = kept_at memory u; boots = rebooted; by = record { story = stretch.new; effort = stretch.after.effort }; calls = calls; writes = writes; unwritten = unwritten; point = point; runs = (refl, record { quiet = refl; uncalled = refl }, record { silent = refl; ended = refl; keeps = refl }) };
+    runs = record { answer = boot_answer {T = T} (Err r); booted = end; rose = rose; kept = kept_at memory u; boots = rebooted; by = record { story = stretch.new; effort = stretch.after.effort }; calls = calls; writes = writes; unwritten = unwritten; point = point; leads = λ said. absurd (cc (said)); runs = (refl, record { quiet = refl; uncalled = refl }, record { silent = refl; ended = refl; keeps = refl }) };
   } where
     lost : (r : Ended) → IsLostStatus (status_at r)
     lost (ended.Lost active listed) = tt
@@ -60,15 +61,15 @@ module _ (host : Host) (stretch : Stretch) (start : Counts) (t : Tale) (script :
 
   -- a run that goes on to its lines
   pub whole_lines : (mid end : Counts) → RoseCalmly start mid → (u v : Tale) (memory : Memory) (status : RunStatus) (story : Option Story) (effort : Effort) → IsPoint stretch start.source mid (record { story = story; effort = effort }) (contents u) → tale ≡ Some v → told u ≡ told t → IsRebooted (drive_failures start mid) host (kept_at (unbooted 0) t) accepted (kept_at memory u) → BootCalls (drive_failures start mid) (made_between stretch.before.effort effort) host accepted memory (contents t) → FromTo (KeptOutside (site_area host.site)) stretch.old story → (memory.opened ≡ None → FromTo (KeptOutside nowhere) stretch.old story)
-      → LinesRun host stretch (record { counts = mid; story = story; effort = effort }) end memory false script status u v → IsWholeRun host stretch start end t script tale status
-  whole_lines mid end rose u v memory status story effort point is quiet rebooted calls writes empty lines = record {
+      → FromTo (λ x y. BootedTo host memory x y × IsSince x y) stretch.old story → LinesRun host stretch (record { counts = mid; story = story; effort = effort }) end memory false script status u v → IsWholeRun host stretch start end t script tale status
+  whole_lines mid end rose u v memory status story effort point is quiet rebooted calls writes empty leads lines = record {
     u = v;
     tells = is;
     more = lines.more;
     is_told = lines.is_told ∙ ap (λ (l : List ℕ). l ++ lines.more) quiet;
     last = lines.last;
     left = lines.left;
-    runs = record { answer = accepted; booted = mid; rose = rose; kept = kept_at memory u; boots = rebooted; by = record { story = story; effort = effort }; calls = calls; writes = writes; unwritten = unwritten; point = point; runs = lines.runs };
+    runs = record { answer = accepted; booted = mid; rose = rose; kept = kept_at memory u; boots = rebooted; by = record { story = story; effort = effort }; calls = calls; writes = writes; unwritten = unwritten; point = point; leads = λ said s u is_s is_u. leads s u is_s is_u; runs = lines.runs };
   } where
     unwritten : EndsUnwritten accepted ⊎ ((accepted ≡ accepted) × (memory.opened ≡ None)) → FromTo (KeptOutside nowhere) stretch.old story
     unwritten (inl reads) = absurd reads

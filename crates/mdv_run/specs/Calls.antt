@@ -17,11 +17,12 @@ use Rattle.mdv_run.specs.declared.session.Turn.TheVariants.{On, Over}
 abbrev pub boot_calls : Host → ℕ
 boot_calls host = 2 * length host.site.drives + most_reads host.site + most_calls
 
--- What a command takes: a creation twelve for each place, and two more for each that is blanked before, where it names an entry of fifty places at most; a change six for each of fifty places; a read one, a write two, and a print none.
+-- What a command takes. A change of places twelve for each of fifty and two for each that is wiped, where places are added or some are dropped; with each that is added another eighteen, and two
+-- for each that is blanked before, an entry fifty places at most; and where all are dropped two more. A change of volumes takes six for each of fifty places; a read one, a write two, and a print none.
 abbrev pub command_calls : Host → Command → ℕ
-command_calls host (AddPlaces slices force count blocks) = 2 * blanked_asked (lines_asked host slices) count + 12 * places_on (lines_asked host slices) count
-command_calls host (AddListed number force) = 14 * 50
-command_calls host (DropPlaces slices force) = 0
+command_calls host (AddPlaces slices force count blocks) = 14 * 50 + (18 * places_on (lines_asked host slices) count + 2 * blanked_asked (lines_asked host slices) count)
+command_calls host (AddListed number force) = 34 * 50
+command_calls host (DropPlaces slices force) = 14 * 50 + 2
 command_calls host (command.MakeStripe volume slice) = 6 * 50
 command_calls host (Read volume at count) = 1
 command_calls host (Write volume at block) = 2

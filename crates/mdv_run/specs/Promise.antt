@@ -119,10 +119,10 @@ TurnTells shelf source engine bench on from before refused =
     (script : Script) → asked_before before (source.left from) ≡ Some script
     → AtEachMoment shelf (λ t m. Knows engine.host engine.state t.tale → TurnFront engine.host (at (point_at shelf source bench from) (kept_at engine.state t.tale) refused script) t m) bench on
 
--- a front of a line's reply
+-- a front of a line's reply; and where it was told whole, what the line led to
 abbrev pub LineTells : {B : Type 0} → Shelf B → Engine → List ℕ → B → B → Type 0
 LineTells shelf engine text bench on =
-    AtEachMoment shelf (λ t m. Knows engine.host engine.state t.tale → TellsFront (λ failures kept answer next. IsAnswered failures engine.host kept text answer next) engine.state t m) bench on
+    AtEachMoment shelf (λ t m. Knows engine.host engine.state t.tale → TellsFront (λ failures kept answer next. IsAnswered failures engine.host kept text answer next) (λ new x y. (more : Script) → RanTo engine.host (line text more) engine.state new more x y) engine.state t m) bench on
 
 -- the giving of a reply didn't fail, or there was none
 abbrev pub IsUncut : Reply → Type 0

@@ -1,8 +1,9 @@
 -- How the lines of a run follow one another.
 use Rattle.mdv_shelf.specs.Failing.{Outcomes}
 use Rattle.std.specs.Prelude.{◌≡◌, ℕ, Bool, true, List, ◌++◌, Option, Some}
-use Rattle.mdv_run.specs.Below.{Script, Tale, told, Answer, Reply, Host, Kept, Memory, kept_at, Replied, RunStatus, NoQuorum, Panic, TwoDatabases, WriteFault, NoMemory, NumbersSpent, At, Counts, IsNextFront, LinesToldBy, LineTold, Runs, Stretch, IsAnswered, IsLeft, HasStatusCause}
-use Rattle.mdv_engine_law.specs.Answers.{EndsUnwritten, accepted}
+use Rattle.mdv_run.specs.Below.{Boot, IsLine, Script, Tale, told, Answer, Reply, Host, Kept, Memory, kept_at, Replied, RunStatus, NoQuorum, Panic, TwoDatabases, WriteFault, NoMemory, NumbersSpent, At, Counts, IsNextFront, LinesToldBy, LineTold, Runs, Stretch, IsAnswered, IsLeft, HasStatusCause}
+use Rattle.mdv_base.specs.declared.refusal.Refusal.TheVariants.{IoFault}
+use Rattle.mdv_engine_law.specs.Answers.{EndsUnwritten, accepted, refusing}
 use Rattle.mdv_engine_law.specs.Replies.{IsReplied}
 use Rattle.mdv_run_law.specs.Run.{IsUnwritten}
 use Rattle.mdv_shelf.specs.Area.{KeptOutside, nowhere}
@@ -10,21 +11,22 @@ use Rattle.mdv_shelf.specs.Story.{Moment, Story}
 use Rattle.mdv_shelf.specs.Made.{Made}
 use Rattle.mdv_shelf.specs.Story.{Effort}
 use Rattle.mdv_engine_law.specs.Efforts.{replied_to}
-use Rattle.mdv_run_law.specs.Run.{EndsAt, IsLastShown, IsLostStatus, TextCalls, TextLeaves, TextWrites, Over as IsOver}
+use Rattle.mdv_run_law.specs.Run.{EndsAt, IsLastShown, IsLostStatus, TextCalls, TextLeaves, TextTorn, TextWrites, Over as IsOver}
 use Rattle.mdv_engine_law.specs.declared.answer.Reply.TheVariants as reply
 use Rattle.mdv_run.specs.declared.session.Turn.{Turn}
 use Rattle.mdv_run.specs.declared.session.Turn.TheVariants.{On, Over}
 
 -- a line that was carried out and replied to, with so many calls, of which those on drives came out so and the giving of its reply may have failed, and the blocks
--- that it may write; none, where it is refused for another cause than a failed call and told so, nor by a boot that found nothing, nor where the run is over with it and no places were lost; and what it leaves that was told `ok`
+-- that it may write; none, where it is refused for another cause than a failed call and told so, nor by a boot that found nothing, nor where the run is over with it and no places were lost; and what it leaves that was told `ok`, or that a failed call ended
 pub record LineAnswered (outcomes : Outcomes) (replies : Type 0) (made : Made) (host : Host) (text : List ℕ) (old new : Memory) (reply : Reply) (t u : Tale) : Type 0 where
   pub answer : Answer
   pub done : IsAnswered outcomes host (kept_at old t) text answer (kept_at new u)
   pub calls : TextCalls outcomes (replied_to answer made) host (kept_at old t) text answer (kept_at new u)
   pub writes : TextWrites host old text t u
-  pub unwritten : IsReplied reply → IsUnwritten answer new → KeptOutside nowhere t u
+  pub unwritten : IsReplied reply → IsUnwritten (IsLine text Boot) answer new → KeptOutside nowhere t u
   pub still : EndsUnwritten answer → KeptOutside nowhere t u
   pub leaves : IsReplied reply → answer ≡ accepted → TextLeaves outcomes host old text u
+  pub torn : IsReplied reply → answer ≡ refusing IoFault → TextTorn outcomes host old text u
   pub replied : Replied replies answer reply t u
 
 -- how a run goes on with a reply

@@ -1,13 +1,15 @@
 -- What the events of runs begin was asked by their lines, and what they tell their replies tell, in the same order.
 use Rattle.std.proofs.lemmas.List.{append-nil}
 use Rattle.std.proofs.Common.{◌≡◌, inl, inr, ℕ, List, [], ◌∷◌, ◌++◌, Some, refl, sym, ◌∙◌, ap, subst}
-use Rattle.mdv_run_law.specs.Below.{Geometry, Script, at_end, spent, too_long, line, left_in, replies_in, Deed, Event, Host, issuable, issuable_front, issued_by, told_by}
+use Rattle.mdv_run_law.specs.Below.{Geometry, Script, at_end, spent, too_long, line, left_in, replies_in, Deed, Deleted, Event, Host, Local, issuable, issuable_front, issued_by, told_by}
 use Rattle.mdv_store_law.specs.Part.{IsPart}
 use Rattle.mdv_store_law.proofs.Parts.{part_more}
 use Rattle.mdv_volumes.specs.Happening as history
 use Rattle.mdv_store_law.proofs.Machine.{all_more}
 use Rattle.mdv_run_law.specs.Standing.{AreBegun, AreIdle, AreOfRun, AreTold, ComeOf, Context, InWork}
-use Rattle.mdv_run_law.specs.Lives.{Ran, AreAsked, AreOfRuns, AreSaid, IsBetween, OfHost, host_of}
+use Rattle.mdv_run_law.specs.Lives.{Ran, AreAsked, AreOfRuns, AreSaid, IsBetween, MayHaveEnded, OfHost, host_of}
+use Rattle.mdv_run_law.proofs.Deeds.{part_contains}
+use Rattle.mdv_volumes.specs.HistoryLaws.{KeepDatabase}
 
 -- what lines may have begun, of which these events begin a part; and what their replies tell, which is all that these events tell
 pub record Answers (Asked Said : List Deed → Type 0) (es : List Event) : Type 0 where
@@ -121,3 +123,9 @@ runs_answer drives name (ran ∷ before) es are =
     answers_both (AreAsked drives name (ran ∷ before)) (AreSaid drives name (ran ∷ before)) es are.0 (are.1 ++ are.2) old.asked new.asked old.said new.said are.3
     (old.asked, old.are_asked, new.asked, new.are_asked, refl) (old.said, old.are_said, new.said, new.are_said, refl)
     old.begins new.begins old.tells new.tells
+
+-- so no end of the host's database begins, where no line of them may have begun one
+pub runs_keep : (drives : Geometry) (name : List ℕ) (ran : List Ran) (es : List Event) → AreOfRuns drives name ran es → (MayHaveEnded drives name ran → ⊥) → KeepDatabase (Local name) es
+runs_keep drives name ran es are never has =
+    let answers = runs_answer drives name ran es are in
+    never (answers.asked, answers.are_asked, part_contains (issued_by es) answers.asked (Deleted (Local name)) answers.begins has)

@@ -1,5 +1,5 @@
 -- Where nothing failed and memory wasn't wanting, a line comes to one answer.
-use Rattle.std.proofs.Common.{◌≡◌, inl, inr, ℕ, zero, suc, ◌+◌, ◌≤◌, ◌<◌, Bool, false, ◌&&◌, ◌||◌, not, if◌then◌else◌, List, [], ◌∷◌, ◌++◌, length, map, Option, Some, Contains, refl, sym, ◌∙◌, ap, subst, arith, None}
+use Rattle.std.proofs.Common.{◌≡◌, inl, inr, ℕ, zero, suc, ◌+◌, ◌^◌, ◌≤◌, ◌<◌, Bool, true, false, cond, ◌&&◌, ◌||◌, not, if◌then◌else◌, List, [], ◌∷◌, ◌++◌, length, map, flat_map, MatchOption, Option, Some, Contains, refl, sym, ◌∙◌, ap, subst, arith, None}
 use Rattle.std.specs.List.{list_any, range_with_len}
 use Rattle.std.specs.Prelude.{is_some}
 use Rattle.mdv_base.specs.Order.{first_refusal, where_so}
@@ -7,12 +7,30 @@ use Rattle.mdv_base.specs.declared.drive.DriveNo.{DriveNo}
 use Rattle.mdv_base.specs.declared.drive.SliceName.{SliceName}
 use Rattle.mdv_name.specs.SliceIndex.{slice_at}
 use Rattle.mdv_engine_law.specs.Below.{Absent, Down, Inactive, NeedForce, NoSuchSlice, Place, SliceAt, WrongKind}
-use Rattle.mdv_engine_law.specs.Places.{list_of}
+use Rattle.mdv_engine_law.specs.Places.{are_all, is_empty, list_of}
 use Rattle.mdv_base.specs.DriveSet.{Drives, has_drive}
 use Rattle.mdv_map.specs.Maps.{DriveBlock}
 use Rattle.mdv_words.proofs.Tabs.{entries_are_in_form}
 use Rattle.mdv_run_law.proofs.Meaning.{formed_as, meant_in_form}
 use Rattle.mdv_run_law.specs.Below.{AreBlocksAt, ArePut, Answer, BadLine, CameTo, Command, ComesTo, AddListed, AddPlaces, DropPlaces, Entry, Host, Image, IsCommitted, IsCreated, IsSame, IsSameBeside, IsTab, IsTurnedDown, Kept, Line, Memory, Opened, Print, Read, Refusal, SliceLine, Spells, Table, TooMany, VolId, Write, blocks_of, meant, entries_reply, identity_of, key_of, listing_of, printed_reply, record_text, site_area, site_of, values_reply}
+use Rattle.std.specs.Bool.{MatchBool}
+use Rattle.std.proofs.lemmas.Bool.{cases_Bool, false_from_ne_true, false≢true}
+use Rattle.std.proofs.lemmas.List.{length-append}
+use Rattle.std.proofs.lemmas.List.Elements.{Contains-append_cases, filter_map-append}
+use Rattle.mdv_places.specs.Asked.{Adds, Asks, Drops, KeepsFirst, list_after, list_less, names_of, places_on, seats_added}
+use Rattle.mdv_places.specs.Changing.{both_of}
+use Rattle.mdv_places.specs.Moments.{area_moved, master_area, places_dropped}
+use Rattle.mdv_replica.specs.Forms.{block_of}
+use Rattle.mdv_replica.specs.declared.replica.PlaceAt.{PlaceAt}
+use Rattle.mdv_shown.specs.Found.{IsFound}
+use Rattle.mdv_name.specs.declared.geometry.Geometry.{Geometry}
+use Rattle.mdv_shown.specs.declared.site.Site.{Site}
+use Rattle.mdv_store.proofs.Sitting.{contains_first, first_or_behind}
+use Rattle.mdv_store.specs.Opened.{shortage}
+use Rattle.mdv_table.specs.Plan.{last_of}
+use Rattle.mdv_table.specs.Table.{IsListsOf}
+use Rattle.mdv_table.specs.declared.plan.Lists.{Lists}
+use Rattle.mdv_table.specs.declared.plan.Lists.TheVariants.{One as OneList, Two}
 use Rattle.mdv_words.specs.declared.command.Command.TheVariants as command
 use Rattle.mdv_words.specs.Line as words
 use Rattle.mdv_words.specs.Line.{IsInForm}
@@ -23,15 +41,16 @@ use Rattle.mdv_engine_law.specs.declared.answer.Ended.{Ended}
 use Rattle.mdv_engine_law.specs.declared.answer.Ended.TheVariants as ended
 use Rattle.mdv_engine_law.specs.Answers.{refusing, telling}
 use Rattle.mdv_engine_law.specs.Commands as came
-use Rattle.mdv_engine_law.specs.Commands.{Effect, Fault, GivesUp, IsAllowed, IsLostCommit, IsTabRefusal, KeepsTab, case_of}
+use Rattle.mdv_engine_law.specs.Commands.{Effect, Fault, GivesUp, IsAllowed, IsLostCommit, IsTabRefusal, KeepsTab, LeavesPlaces, case_of}
 use Rattle.mdv_engine_law.specs.Hosts.{lines_asked}
-use Rattle.mdv_engine_law.specs.Line.{IsOpenOn}
+use Rattle.mdv_engine_law.specs.Line.{IsOpenOn, IsUncreated}
+use Rattle.mdv_engine_law.specs.Moves.{AreTheirsOn, HasMovedOn, IsBlankOn, IsDeletedOn, IsSpentChange, IsUndeletedOn, IsUnmovedOn, LeavesLists, drop_of}
 use Rattle.mdv_base.specs.declared.mark.Identity.{Identity}
 use Rattle.mdv_base.specs.declared.mark.Mark.{Mark}
 use Rattle.mdv_engine_law.proofs.Allowed.{allowed_slice}
 use Rattle.mdv_engine_law.proofs.Places.{asked_length}
 use Rattle.mdv_shelf.specs.Failing.{Outcomes}
-use Rattle.mdv_engine_law.specs.Refusals.{are_all, held_of_drop, held_of_lists, held_of_more, in_state, is_down, is_missing, is_plain, is_up_at, is_without, refusal_of, rest_of}
+use Rattle.mdv_engine_law.specs.Refusals.{Case, held_of_drop, held_of_lists, in_state, is_behind, is_down, is_missing, is_plain, is_up_at, is_without, refusal_of, rest_of}
 use Rattle.mdv_replica.specs.declared.replica.Head.{Head}
 use Rattle.mdv_standing.specs.Creating.{first_mark}
 use Rattle.mdv_store.proofs.Spotting.{asked_active, asked_length as seats_length}
@@ -39,17 +58,18 @@ use Rattle.mdv_store.specs.Commit.{next_mark}
 use Rattle.mdv_store.specs.Commit as commit
 use Rattle.mdv_store.specs.Create as create
 use Rattle.mdv_store.specs.Create.{seats_asked, table_of}
-use Rattle.mdv_store.specs.Seats.{TakesSlot, active_of, replicas_of, seats_area}
+use Rattle.mdv_store.specs.Seats.{TakesSlot, active_of, replica_area, replicas_of, seats_area}
 use Rattle.mdv_store.specs.declared.seats.Seat.{Seat}
 use Rattle.mdv_survey.specs.declared.replica.Replica.{Replica}
 use Rattle.mdv_table.specs.Change.{table_after}
 use Rattle.mdv_table.specs.declared.change.Change.TheVariants.{MakeStripe}
-use Rattle.mdv_run_law.specs.Run.{AreOnce, IsAnswered, IsOfTable, IsSaid, IsSameMemory}
+use Rattle.mdv_run_law.specs.Run.{AreOnce, ChangesPlaces, IsAnswered, IsOfTable, IsSaid, IsSameMemory}
 use Rattle.mdv_tab.proofs.OneTab.{one_tab, never_bad, never_either, never_many}
-use Rattle.mdv_run_law.proofs.Keeping.{IsHeld, IsSatisfied, One, Same, Settled, boot_same, its_site, ok, plan_of, put_same, same_through, stays_same, there_each, there_settled}
-use Rattle.mdv_run_law.proofs.Moving.{IsAway, IsClear, alike_beside, areas_in_site, one_text}
+use Rattle.mdv_run_law.proofs.Keeping.{IsHeld, IsSatisfied, One, Same, Settled, boot_same, its_site, ok, plan_of, put_same, same_through, same_weaker, stays_same, there_each, there_settled}
+use Rattle.mdv_run_law.proofs.Moving.{IsAway, IsClear, IsThere, alike_beside, any_has, any_of, area_at, areas_in_site, here_of, one_text}
+use Rattle.mdv_run_law.proofs.Shifting.{IsOver, dropped_under, lost_over, moved_clean, moved_is, moved_open, never_over, one_over, some_half}
 use Rattle.mdv_run_law.proofs.Passing.{NoneFailed, left_active, left_is, never_short, seats_with, slotted, slotted_is}
-use Rattle.mdv_run_law.proofs.Placing.{one_at, at_beside, opened_twice}
+use Rattle.mdv_run_law.proofs.Placing.{one_at, at_beside, opened_twice, put_at}
 use Rattle.mdv_run_law.proofs.Written.{alike_behind, have, made, made_beside, written}
 use Rattle.mdv_store.specs.Shares.{short_in, short_of}
 use Rattle.mdv_store.specs.declared.seats.Need.TheVariants.{Half}
@@ -63,16 +83,71 @@ same_blocks c d first (suc count) same =
     let rest = same_blocks c d (first + 1) count (λ k less. ap c (omega arith) ∙ same (suc k) (omega arith) ∙ ap d (omega arith)) in
     cc (here, rest)
 
+-- a list that comes isn't empty
+places_some : (g : Geometry) (lists : Lists) → IsListsOf g lists → 1 ≤ length (last_of lists)
+places_some g (OneList places) is = is.some
+places_some g (Two old new) is = is.1.some
+
+longer : (list more : List Place) → 1 ≤ length list → 1 ≤ length (list ++ more)
+longer list more some = let both = length-append list more in omega (arith, some, both)
+
+some_left : (list : List Place) → is_empty list ≡ false → 1 ≤ length list
+some_left [] none = absurd (false≢true (sym none))
+some_left (p ∷ ps) some = omega arith
+
 line_of : (slices : List SliceLine) → 1 ≤ length slices → (line : SliceLine) × Contains slices line
 line_of [] some = absurd (omega (arith, some))
 line_of (line ∷ lines) some = (line, (0, omega arith, refl))
+
+-- What is kept of two is the same, but for the list of the drives that are up, by which nothing is judged but the drives of places that go.
+module _ (host : Host) (memory : Memory) (up : Drives) where
+  abbrev one_case : Case
+  one_case = record { host = host; memory = memory }
+
+  abbrev other_case : Case
+  other_case = record { host = host; memory = record memory { up = up } }
+
+  module _ (ups : (drive : DriveNo) → has_drive memory.up drive ≡ has_drive up drive) where
+    one_up : (at : Option SliceAt) → is_up_at up at ≡ is_up_at memory.up at
+    one_up None = refl
+    one_up (Some at) = sym (ups at.drive)
+
+    one_down : (places : List Place) → list_any (is_down host up) places ≡ list_any (is_down host memory.up) places
+    one_down [] = refl
+    one_down (p ∷ places) = (λ i. not (one_up (slice_at host.drives.slices p.slice) i) || one_down places i)
+
+    one_drop : (opened : Option Opened) (slices : List SliceName) (force : Bool) → first_refusal (held_of_drop other_case opened slices force) ≡ first_refusal (held_of_drop one_case opened slices force)
+    one_drop None slices force = refl
+    one_drop (Some o) slices force =
+        let down : list_any (is_down host up) (list_of o) ≡ list_any (is_down host memory.up) (list_of o) = one_down (list_of o) in
+        let missing = where_so (list_any (is_missing host) slices) NoSuchSlice in
+        let plain = where_so (list_any (λ slice. is_plain (slice_at host.drives.slices slice)) slices) WrongKind in
+        let unforced = where_so (are_all o slices && not force) NeedForce in
+        let hidden = if are_all o slices && is_behind (list_of o) then Some Inactive else None in
+        let inactive = if is_some (short_in Half o.seats (rest_of o slices)) then Some Inactive else hidden in
+        λ i. first_refusal ((missing ++ (plain ++ (in_state (if list_any (is_without o) slices then Some Absent else if are_all o slices && down i then Some Down else inactive) ++ unforced))) ++ held_of_lists o (rest_of o slices))
+
+    pub one_refusal_of : (cmd : Command) → refusal_of other_case cmd ≡ refusal_of one_case cmd
+    one_refusal_of (AddPlaces slices force count blocks) = refl
+    one_refusal_of (AddListed number force) = refl
+    one_refusal_of (DropPlaces slices force) = one_drop memory.opened slices force
+    one_refusal_of (command.MakeStripe volume slice) = refl
+    one_refusal_of (Read volume at count) = refl
+    one_refusal_of (Write volume at block) = refl
+    one_refusal_of (Print names) = refl
+
+-- the same in memory, each command is refused for the same cause
+pub same_refusal_of : (host : Host) (k j : Memory) → IsSameMemory k j → (cmd : Command) → refusal_of (record { host = host; memory = j }) cmd ≡ refusal_of (record { host = host; memory = k }) cmd
+same_refusal_of host k j same cmd =
+    let is : j ≡ record k { up = j.up } = λ i. record { opened = sym same.opened i; up = j.up; clean = sym same.clean i; begun = sym same.begun i; entries = sym same.entries i } in
+    ap (λ (x : Memory). refusal_of (record { host = host; memory = x }) cmd) is ∙ one_refusal_of host k j.up same.up cmd
 
 module _ (calls also : Outcomes) (calm : NoneFailed calls) (calm_too : NoneFailed also) (host : Host) (has : IsOfTable host) (once : AreOnce host.drives.slices) where
   abbrev There : Kept → Type 0
   There kept = Settled host has once kept
 
-  abbrev Both : Kept → Kept → Type 0
-  Both k j = Same host has once k j
+  abbrev Both : Type 0 → Kept → Kept → Type 0
+  Both may k j = Same host has once may k j
 
   -- a database that is open, with other entries
   settled_with : (kept next : Kept) (entries : List Entry) → next.memory ≡ record kept.memory { entries = entries } → IsSame kept.content next.content → There kept → There next
@@ -89,43 +164,13 @@ module _ (calls also : Outcomes) (calm : NoneFailed calls) (calm_too : NoneFaile
     abbrev j : Kept
     j = record { memory = memory_too; content = d }
 
-    -- by which nothing is judged but the drives of places that go
-    module _ (ups : (drive : DriveNo) → has_drive memory.up drive ≡ has_drive up drive) where
-      one_up : (at : Option SliceAt) → is_up_at up at ≡ is_up_at memory.up at
-      one_up None = refl
-      one_up (Some at) = sym (ups at.drive)
-
-      one_down : (places : List Place) → list_any (is_down host up) places ≡ list_any (is_down host memory.up) places
-      one_down [] = refl
-      one_down (p ∷ places) = (λ i. not (one_up (slice_at host.drives.slices p.slice) i) || one_down places i)
-
-      one_drop : (opened : Option Opened) (slices : List SliceName) (force : Bool) → first_refusal (held_of_drop (case_of host j) opened slices force) ≡ first_refusal (held_of_drop (case_of host k) opened slices force)
-      one_drop None slices force = refl
-      one_drop (Some o) slices force =
-          let down : list_any (is_down host up) (list_of o) ≡ list_any (is_down host memory.up) (list_of o) = one_down (list_of o) in
-          let missing = where_so (list_any (is_missing host) slices) NoSuchSlice in
-          let plain = where_so (list_any (λ slice. is_plain (slice_at host.drives.slices slice)) slices) WrongKind in
-          let unforced = where_so (are_all o slices && not force) NeedForce in
-          let inactive = is_some (short_in Half o.seats (rest_of o slices)) in
-          λ i. first_refusal (held_of_more (Some o)
-          ((missing ++ (plain ++ (in_state (if list_any (is_without o) slices then Some Absent else if are_all o slices && down i then Some Down else if inactive then Some Inactive else None) ++ unforced))) ++ held_of_lists o (rest_of o slices)))
-
-      one_refusal_of : (cmd : Command) → refusal_of (case_of host j) cmd ≡ refusal_of (case_of host k) cmd
-      one_refusal_of (AddPlaces slices force count blocks) = refl
-      one_refusal_of (AddListed number force) = refl
-      one_refusal_of (DropPlaces slices force) = one_drop memory.opened slices force
-      one_refusal_of (command.MakeStripe volume slice) = refl
-      one_refusal_of (Read volume at count) = refl
-      one_refusal_of (Write volume at block) = refl
-      one_refusal_of (Print names) = refl
-
     as_there : (volume : VolId) (at count : ℕ) (from : DriveBlock) → AreBlocksAt host memory_too volume at count from → AreBlocksAt host memory volume at count from
     as_there volume at count from is = record { first = is.first; blocks = is.blocks; lies = is.lies; within = is.within; block_is = is.block_is }
 
-    module _ (same : Both k j) (sated : IsSatisfied a) (sated_too : IsSatisfied b) where
+    module _ (may : Type 0) (same : Both may k j) (sated : IsSatisfied a) (sated_too : IsSatisfied b) where
       -- both refused
-      refused : (r q : Refusal) → r ≡ q → IsTurnedDown r k a n → IsTurnedDown q j b m → One host has once n m a b
-      refused r q one first second = (first.0 ∙ ap refusing one ∙ sym second.0, λ said. stays_same host has once k j n m same first.1 second.1)
+      refused : (r q : Refusal) → r ≡ q → IsTurnedDown r k a n → IsTurnedDown q j b m → One host has once may n m a b
+      refused r q one first second = (first.0 ∙ ap refusing one ∙ sym second.0, λ said. stays_same host has once may k j n m same first.1 second.1)
 
       -- a database that was just made is one
       module _ (lines : List SliceLine) (count blocks : ℕ) (some : 1 ≤ length lines) (more : 1 ≤ count) where
@@ -161,7 +206,7 @@ module _ (calls also : Outcomes) (calm : NoneFailed calls) (calm_too : NoneFaile
             subst (λ (x : Opened). IsHeld host has once x next.content) (sym is ∙ sym (opened_twice next.memory.opened o p opened also))
             (record { key = refl; some = some_active; on = opens })
 
-        created : IsCreated calls host lines count blocks k n → IsCreated also host lines count blocks j m → Both n m
+        created : IsCreated calls host lines count blocks k n → IsCreated also host lines count blocks j m → Both may n m
         created one other =
             let is = made_is calls calm one.opened one.made in
             let is_too = made_is also calm_too other.opened other.made in
@@ -174,7 +219,7 @@ module _ (calls also : Outcomes) (calm : NoneFailed calls) (calm_too : NoneFaile
                   made_beside host.drives host.site (ok host has once) new new_site head (key_of host) (identity_of host memory.begun) lines count blocks refl c n.content one.beside opens drive block out
                   ∙ same.beside drive block out
                   ∙ sym (made_beside host.drives host.site (ok host has once) new new_site head (key_of host) (identity_of host memory.begun) lines count blocks refl d m.content other.beside opens_too drive block out);
-              alike = alike_behind host.drives host.site (ok host has once) new new_site (IsClear (Spells host.drives) (one_text host.drives) host.site (ok host has once) (replicas_of new.seats)) c d n.content m.content same.alike
+              alike = λ wanted. alike_behind host.drives host.site (ok host has once) new new_site (IsClear (Spells host.drives) (one_text host.drives) host.site (ok host has once) (replicas_of new.seats)) c d n.content m.content (same.alike wanted)
                   (made host.drives host.site (ok host has once) new new_site head (key_of host) (identity_of host memory.begun) lines count blocks refl c n.content one.beside opens)
                   (made host.drives host.site (ok host has once) new new_site head (key_of host) (identity_of host memory.begun) lines count blocks refl d m.content other.beside opens_too) opens opens_too;
               formed = formed_as n.memory memory (ap (λ (x : Memory). x.entries) one.memory) same.formed;
@@ -217,7 +262,7 @@ module _ (calls also : Outcomes) (calm : NoneFailed calls) (calm_too : NoneFaile
         out_of image is next wrote drive block out =
             wrote drive block (areas_in_site (Spells host.drives) (one_text host.drives) host.site (ok host has once) image (replicas_of o.seats) (there_each host has once o image is) drive block out)
 
-        committed : IsCommitted calls host o table k n → IsCommitted also host o table j m → Both n m
+        committed : IsCommitted calls host o table k n → IsCommitted also host o table j m → Both may n m
         committed one other =
             let is = committed_is calls calm one.opened one.committed in
             let is_too = committed_is also calm_too other.opened other.committed in
@@ -227,7 +272,7 @@ module _ (calls also : Outcomes) (calm : NoneFailed calls) (calm_too : NoneFaile
               memory = same_through n.memory (record memory { opened = Some one.opened }) (record memory_too { opened = Some other.opened }) m.memory one.memory other.memory
                   (record { opened = ap (λ (x : Opened). Some x) (is ∙ sym is_too); up = same.memory.up; clean = refl; begun = refl; entries = refl });
               beside = λ drive block out. out_of c held n.content one.beside drive block out ∙ same.beside drive block out ∙ sym (out_of d held_too m.content other.beside drive block out);
-              alike = alike_behind host.drives host.site (ok host has once) next_open next_site (IsAway (Spells host.drives) (one_text host.drives) host.site (ok host has once) (replicas_of next_open.seats)) c d n.content m.content same.alike
+              alike = λ wanted. alike_behind host.drives host.site (ok host has once) next_open next_site (IsAway (Spells host.drives) (one_text host.drives) host.site (ok host has once) (replicas_of next_open.seats)) c d n.content m.content (same.alike wanted)
                   (written host.drives host.site (ok host has once) next_open next_site next_head o.seats refl c n.content (there_each host has once o c held) one.beside opens)
                   (written host.drives host.site (ok host has once) next_open next_site next_head o.seats refl d m.content (there_each host has once o d held_too) other.beside opens_too) opens opens_too;
               formed = formed_as n.memory memory (ap (λ (x : Memory). x.entries) one.memory) same.formed;
@@ -241,35 +286,157 @@ module _ (calls also : Outcomes) (calm : NoneFailed calls) (calm_too : NoneFaile
           let plan = plan_of host has once o c (same.one o opened) in
           (one_at host has.sound has.site memory volume o opened plan at count block other one two, λ i less. at_beside host has.sound has.site memory volume o opened plan at count other i two less)
 
-      -- both done
-      effects : (cmd : Command) → IsInForm cmd → IsAllowed (case_of host k) cmd → Effect calls host k cmd a n → Effect also host j cmd b m → One host has once n m a b
-      effects (AddPlaces slices force count blocks) form free one two =
-          let lines = asked_length host slices (allowed_slice (case_of host k) slices force count blocks free) in
-          let some = form.0 in
-          (one.0 ∙ sym two.0, λ said. created (lines_asked host slices) count blocks (omega (arith, lines, some)) form.1.0 one.1 two.1)
-      effects (AddListed number force) form free one two = absurd one
-      effects (DropPlaces slices force) form free one two = absurd one
-      effects (command.MakeStripe volume slice) form free (told, o, opened, one) (told_too, other, opened_too, two) =
-          let is : other ≡ o = opened_twice memory.opened o other opened opened_too in (
-            told ∙ sym told_too,
-            λ said. committed o (table_after host.drives (MakeStripe volume slice) o.table) (same.one o opened) (same.other o opened) one
-                (subst (λ (x : Opened). IsCommitted also host x (table_after host.drives (MakeStripe volume slice) x.table) j m) is two),
-          )
-      effects (Read volume at count) form free (quiet, from, there, text, stays) (quiet_too, other, there_too, text_too, stays_too) =
-          let both = there_once volume at count there.lies.0 there.lies.1 from other there (as_there volume at count other there_too) in
-          let blocks = ap (λ (x : DriveBlock). blocks_of c x count) both.0 ∙ same_blocks (c other.drive) (d other.drive) other.block count (λ i less. same.beside other.drive (other.block + i) (both.1 i less)) in
-          (text ∙ ap (λ (bs : List (List ℕ)). telling (values_reply at bs)) blocks ∙ sym text_too, λ said. stays_same host has once k j n m same stays stays_too)
-      effects (Write volume at block) form free (quiet, place, there, told, kept, put) (quiet_too, other, there_too, told_too, kept_too, put_too) =
-          let both = there_once volume at 1 there.lies.0 there.lies.1 place other there (as_there volume at 1 other there_too) in
-          (told ∙ sym told_too, λ said. put_same host has once other block (both.1 0 (omega arith)) k j n m same kept kept_too (subst (λ (p : DriveBlock). ArePut p (block ∷ []) c n.content) both.0 put) put_too)
-      effects (Print names) form free (quiet, o, opened, text, stays) (quiet_too, other, opened_too, text_too, stays_too) =
-          let same_open = opened_twice memory.opened other o opened_too opened in
-          (text ∙ ap (λ (x : Opened). telling (printed_reply (listing_of x.table.plan names))) same_open ∙ sym text_too, λ said. stays_same host has once k j n m same stays stays_too)
+      -- The places of an open database changed: what is outside the site is as it was, or blank.
+      module _ (o : Opened) (opened : memory.opened ≡ Some o) (asked : Asks) where
+        abbrev masters : ℕ → ℕ → Bool
+        masters drive block = list_any (λ (x : PlaceAt). master_area x drive block) (places_dropped host.drives o asked)
+
+        -- no replica of it lies there, nor one of a place that was added
+        seats_inside : (old new : Image) → IsHeld host has once o old → AreTheirsOn host.drives o.key o.identity (seats_added o asked) new → (drive block : ℕ) → site_area host.site drive block ≡ false → seats_area (both_of o asked).seats drive block ≡ false
+        seats_inside old new held formed drive block out = false_from_ne_true (seats_area (both_of o asked).seats drive block) (λ hit.
+            let found = any_of (λ (r : Replica). replica_area r drive block) (replicas_of (both_of o asked).seats) hit in
+            elim (Contains-append_cases (replicas_of o.seats) (replicas_of (seats_added o asked)) found.0 (subst (λ (l : List Replica). Contains l found.0) (filter_map-append (λ (s : Seat). s.replica) o.seats (seats_added o asked)) found.1)) [
+              | inl was ↦
+                  let inside = areas_in_site (Spells host.drives) (one_text host.drives) host.site (ok host has once) old (replicas_of o.seats) (there_each host has once o old held) drive block out in
+                  false≢true (sym inside ∙ any_has (λ (r : Replica). area_at r drive block) (replicas_of o.seats) found.0 was found.2)
+              | inr added ↦
+                  let own = formed found.0 added in
+                  let its : Replica = record { line = found.0.line; number = found.0.number; first = found.0.first; head = own.0 } in
+                  let here = here_of (Spells host.drives) (one_text host.drives) host.site (ok host has once) new its (subst (λ (s : Site). IsFound (Spells host.drives) s its.line its.number (new its.line.at.drive.0) its.first its.head) (sym (its_site host has once o held.key)) own.1.found) in
+                  let inside = areas_in_site (Spells host.drives) (one_text host.drives) host.site (ok host has once) new (its ∷ []) (λ r one_of. subst (λ (x : Replica). IsThere host.drives host.site (ok host has once) new x) (only_there its r one_of) here) drive block out in
+                  false≢true (sym inside ∙ any_has (λ (r : Replica). area_at r drive block) (its ∷ []) its (contains_first its []) found.2)
+            ])
+          where
+            only_there : (one r : Replica) → Contains (one ∷ []) r → one ≡ r
+            only_there one r has = elim (first_or_behind one r [] has) [ inl same ↦ same | inr none ↦ absurd (omega (arith, none.1)) ]
+
+        kept_outside : (old new : Image) → IsHeld host has once o old → AreTheirsOn host.drives o.key o.identity (seats_added o asked) new → IsSameBeside (area_moved host.drives o asked) old new → (drive block : ℕ) → site_area host.site drive block ≡ false → masters drive block ≡ false
+            → new drive block ≡ old drive block
+        kept_outside old new held formed beside drive block out none = beside drive block ((λ i. seats_inside old new held formed drive block out i || masters drive block) ∙ none)
+
+        -- the block of a master that was wiped
+        blank_there : (new : Image) → ((x : PlaceAt) → Contains (places_dropped host.drives o asked) x → IsBlankOn x new) → (drive block : ℕ) → masters drive block ≡ true → new drive block ≡ block_of []
+        blank_there new wiped drive block hit =
+            let found = any_of (λ (x : PlaceAt). master_area x drive block) (places_dropped host.drives o asked) hit in
+            let at = put_at found.0.drive.0 found.0.first drive block found.2 in
+            let first : block ≡ found.0.first = omega (arith, at.1) in
+            ap (λ (n : ℕ). new n block) at.0 ∙ ap (new found.0.drive.0) first ∙ wiped found.0 found.1
+
+        both_outside : (one other : Image) → AreTheirsOn host.drives o.key o.identity (seats_added o asked) one → AreTheirsOn host.drives o.key o.identity (seats_added o asked) other → ((x : PlaceAt) → Contains (places_dropped host.drives o asked) x → IsBlankOn x one) → ((x : PlaceAt) → Contains (places_dropped host.drives o asked) x → IsBlankOn x other)
+            → IsSameBeside (area_moved host.drives o asked) c one → IsSameBeside (area_moved host.drives o asked) d other → (drive block : ℕ) → site_area host.site drive block ≡ false → one drive block ≡ other drive block
+        both_outside one other formed formed_too wiped wiped_too beside beside_too drive block out = elim (cases_Bool (masters drive block)) [
+          | inl hit ↦ blank_there one wiped drive block hit ∙ sym (blank_there other wiped_too drive block hit)
+          | inr none ↦ kept_outside c one (same.one o opened) formed beside drive block out none ∙ same.beside drive block out ∙ sym (kept_outside d other (same.other o opened) formed_too beside_too drive block out none)
+        ]
+
+        -- what is open later is settled, and on the drives
+        moved_settled : 1 ≤ length (list_after asked (list_of o)) → (failed : Outcomes) → NoneFailed failed → (was next : Kept) → (is : HasMovedOn failed host o asked was next) → There next
+        moved_settled some failed quiet was next is = λ p also.
+            let same_open = moved_is host.drives o asked failed quiet is.1.opened is.0 is.1.moved in
+            let mine = ap (λ (x : Memory). x.opened) is.1.memory in
+            subst (λ (x : Opened). IsHeld host has once x next.content) (sym (opened_twice next.memory.opened is.1.opened p mine also))
+            (record {
+              key = ap (λ (x : Opened). x.key) same_open ∙ (same.one o opened).key;
+              some = subst (λ (x : Opened). 0 < active_of x.seats) (sym same_open) (some_half (moved_open host.drives o asked).seats (list_after asked (list_of o)) some (subst (λ (x : Opened). shortage x ≡ None) same_open is.1.moved.enough));
+              on = is.1.content;
+            })
+
+        moved : 1 ≤ length (list_after asked (list_of o)) → HasMovedOn calls host o asked k n → HasMovedOn also host o asked j m → Both ⊥ n m
+        moved some one other =
+            let is = moved_is host.drives o asked calls calm one.1.opened one.0 one.1.moved in
+            let is_too = moved_is host.drives o asked also calm_too other.1.opened other.0 other.1.moved in
+            record {
+              memory = same_through n.memory (record memory { opened = Some one.1.opened }) (record memory_too { opened = Some other.1.opened }) m.memory one.1.memory other.1.memory
+                  (record { opened = ap (λ (x : Opened). Some x) (is ∙ sym is_too); up = same.memory.up; clean = refl; begun = refl; entries = refl });
+              beside = both_outside n.content m.content one.1.formed other.1.formed (one.1.wiped.all (moved_clean host.drives o asked calls calm one.1.opened one.0 one.1.moved)) (other.1.wiped.all (moved_clean host.drives o asked also calm_too other.1.opened other.0 other.1.moved)) one.1.beside other.1.beside;
+              alike = λ none. absurd none;
+              formed = formed_as n.memory memory (ap (λ (x : Memory). x.entries) one.1.memory) same.formed;
+              one = moved_settled some calls calm k n one;
+              other = moved_settled some also calm_too j m other;
+            }
+
+      -- the database is gone
+      none_open : (next : Kept) → next.memory.opened ≡ None → There next
+      none_open next none p is = absurd (let never : None ≡ Some p = sym none ∙ is in cc (never))
+
+      none_added : (o : Opened) (image : Image) → AreTheirsOn host.drives o.key o.identity (seats_added o KeepsFirst) image
+      none_added o image r has = absurd (omega (arith, has.1))
+
+      deleted : (o : Opened) → memory.opened ≡ Some o → IsDeletedOn calls host o k n → IsDeletedOn also host o j m → Both ⊥ n m
+      deleted o opened one other = record {
+        memory = same_through n.memory _ _ m.memory one.memory other.memory (record { opened = refl; up = same.memory.up; clean = refl; begun = refl; entries = refl });
+        beside = both_outside o opened KeepsFirst n.content m.content (none_added o n.content) (none_added o m.content) (λ x has. one.wiped x (dropped_under host.drives o KeepsFirst x has)) (λ x has. other.wiped x (dropped_under host.drives o KeepsFirst x has)) one.beside other.beside;
+        alike = λ none. absurd none;
+        formed = formed_as n.memory memory (ap (λ (x : Memory). x.entries) one.memory) same.formed;
+        one = none_open n (ap (λ (x : Memory). x.opened) one.memory);
+        other = none_open m (ap (λ (x : Memory). x.opened) other.memory);
+      }
+
+      -- as long as no boot comes behind it
+      never_then : {later : Type 0} (next other : Kept) → (later → ⊥) → Both ⊥ next other → Both later next other
+      never_then {later} next other never is = same_weaker host has once ⊥ later next other never is
+
+      -- Both done. A change of the places of an open database leaves what a boot behind it finds open.
+      module _ (later : Type 0) (to : later → may) where
+        abbrev Alike : Answer → Answer → Type 0
+        Alike x y = One host has once later n m x y
+
+        weaker : Both may n m → Both later n m
+        weaker is = same_weaker host has once may later n m to is
+
+        added : (slices : List SliceName) (force : Bool) (count blocks : ℕ) → (ChangesPlaces host memory (AddPlaces slices force count blocks) → later → ⊥) → IsAllowed (case_of host k) (AddPlaces slices force count blocks) → 1 ≤ length (lines_asked host slices) → 1 ≤ count → (opened : Option Opened) → memory.opened ≡ opened
+            → MatchOption opened (IsCreated calls host (lines_asked host slices) count blocks k n) (λ o. HasMovedOn calls host o (Adds (lines_asked host slices) count blocks) k n)
+            → MatchOption opened (IsCreated also host (lines_asked host slices) count blocks j m) (λ o. HasMovedOn also host o (Adds (lines_asked host slices) count blocks) j m) → Both later n m
+        added slices force count blocks still free some more None is one two = weaker (created (lines_asked host slices) count blocks some more one two)
+        added slices force count blocks still free some more (Some o) is one two =
+            let listed = places_some host.drives o.table.plan.lists (plan_of host has once o c (same.one o is)).lists in
+            never_then n m (still (free, λ none. absurd (let both : None ≡ Some o = sym none ∙ is in cc (both))))
+            (moved o is (Adds (lines_asked host slices) count blocks) (longer (list_of o) (flat_map (places_on count blocks) (names_of (lines_asked host slices))) listed) one two)
+
+        dropped : (slices : List SliceName) (force : Bool) → (later → ⊥) → (o : Opened) → memory.opened ≡ Some o → (all : Bool) → are_all o slices ≡ all → MatchBool all (IsDeletedOn calls host o k n) (HasMovedOn calls host o (Drops slices) k n) → MatchBool all (IsDeletedOn also host o j m) (HasMovedOn also host o (Drops slices) j m) → Both later n m
+        dropped slices force still o is true all one two = never_then n m still (deleted o is one two)
+        dropped slices force still o is false all one two = never_then n m still (moved o is (Drops slices) (some_left (list_less slices (list_of o)) all) one two)
+
+        effects : (cmd : Command) → (ChangesPlaces host memory cmd → later → ⊥) → IsInForm cmd → IsAllowed (case_of host k) cmd → Effect calls host k cmd a n → Effect also host j cmd b m → Alike a b
+        effects (AddPlaces slices force count blocks) still form free one two =
+            let lines = asked_length host slices (allowed_slice (case_of host k) slices force count blocks free) in
+            let some = form.0 in
+            (one.0 ∙ sym two.0, λ said. added slices force count blocks still free (omega (arith, lines, some)) form.1.0 memory.opened refl one.1 two.1)
+        effects (AddListed number force) still form free one two = absurd one
+        effects (DropPlaces slices force) still form free (told, o, opened, one) (told_too, other, opened_too, two) =
+            let is : other ≡ o = opened_twice memory.opened o other opened opened_too in (
+              told ∙ sym told_too,
+              λ said. dropped slices force (still free) o opened (are_all o slices) refl one (subst (λ (x : Opened). MatchBool (are_all x slices) (IsDeletedOn also host x j m) (HasMovedOn also host x (Drops slices) j m)) is two),
+            )
+        effects (command.MakeStripe volume slice) still form free (told, o, opened, one) (told_too, other, opened_too, two) =
+            let is : other ≡ o = opened_twice memory.opened o other opened opened_too in (
+              told ∙ sym told_too,
+              λ said. weaker (committed o (table_after host.drives (MakeStripe volume slice) o.table) (same.one o opened) (same.other o opened) one
+                  (subst (λ (x : Opened). IsCommitted also host x (table_after host.drives (MakeStripe volume slice) x.table) j m) is two)),
+            )
+        effects (Read volume at count) still form free (quiet, from, there, text, stays) (quiet_too, other, there_too, text_too, stays_too) =
+            let both = there_once volume at count there.lies.0 there.lies.1 from other there (as_there volume at count other there_too) in
+            let blocks = ap (λ (x : DriveBlock). blocks_of c x count) both.0 ∙ same_blocks (c other.drive) (d other.drive) other.block count (λ i less. same.beside other.drive (other.block + i) (both.1 i less)) in
+            (text ∙ ap (λ (bs : List (List ℕ)). telling (values_reply at bs)) blocks ∙ sym text_too, λ said. weaker (stays_same host has once may k j n m same stays stays_too))
+        effects (Write volume at block) still form free (quiet, place, there, told, kept, put) (quiet_too, other, there_too, told_too, kept_too, put_too) =
+            let both = there_once volume at 1 there.lies.0 there.lies.1 place other there (as_there volume at 1 other there_too) in
+            (told ∙ sym told_too, λ said. weaker (put_same host has once other block (both.1 0 (omega arith)) may k j n m same kept kept_too (subst (λ (p : DriveBlock). ArePut p (block ∷ []) c n.content) both.0 put) put_too))
+        effects (Print names) still form free (quiet, o, opened, text, stays) (quiet_too, other, opened_too, text_too, stays_too) =
+            let same_open = opened_twice memory.opened other o opened_too opened in
+            (text ∙ ap (λ (x : Opened). telling (printed_reply (listing_of x.table.plan names))) same_open ∙ sym text_too, λ said. weaker (stays_same host has once may k j n m same stays stays_too))
+
+      unmade_never : (failed : Outcomes) → NoneFailed failed → (opened : Option Opened) (lines : List SliceLine) (count blocks : ℕ) (x y : Kept) → MatchOption opened (IsUncreated failed host lines count blocks x y) (λ o. IsUnmovedOn failed host o lines count blocks x y) → ⊥
+      unmade_never failed quiet None lines count blocks x y fault = quiet fault.failed.drive.0 fault.failed.here
+      unmade_never failed quiet (Some o) lines count blocks x y fault = quiet fault.unmoved.drive.0 fault.unmoved.here
+
+      undeleted_never : (failed : Outcomes) → NoneFailed failed → (o : Opened) (x y : Kept) → IsUndeletedOn failed host o x y → ⊥
+      undeleted_never failed quiet o x y (inl half) = false≢true (moved_clean host.drives o KeepsFirst failed quiet half.opened false half.moved)
+      undeleted_never failed quiet o x y (inr unblanked) = quiet unblanked.first.drive.0 unblanked.failed
 
       never_faulted : (failed : Outcomes) → NoneFailed failed → (cmd : Command) (x y : Kept) → Fault failed host x cmd y → ⊥
-      never_faulted failed quiet (AddPlaces slices force count blocks) x y fault = quiet fault.failed.drive.0 fault.failed.here
+      never_faulted failed quiet (AddPlaces slices force count blocks) x y fault = unmade_never failed quiet x.memory.opened (lines_asked host slices) count blocks x y fault
       never_faulted failed quiet (AddListed number force) x y fault = fault
-      never_faulted failed quiet (DropPlaces slices force) x y fault = fault
+      never_faulted failed quiet (DropPlaces slices force) x y fault = undeleted_never failed quiet fault.0 x y fault.3
       never_faulted failed quiet (command.MakeStripe volume slice) x y fault = fault
       never_faulted failed quiet (Read volume at count) x y fault = quiet fault.0.drive fault.1.here
       never_faulted failed quiet (Write volume at block) x y fault = quiet fault.0.drive fault.1.here
@@ -288,41 +455,83 @@ module _ (calls also : Outcomes) (calm : NoneFailed calls) (calm_too : NoneFaile
           never_short failed quiet _ Half Half (λ share so. so) o.table.plan.lists o.seats is.new.seats (record { active = active; listed = listed }) is.lost.tried.left is.lost.tried.half
           (ap (λ (t : Table). short_of Half is.new.seats t.plan.lists) (sym (ap (λ (x : Opened). x.table) is.lost.is)) ∙ is.few)
 
-      -- over for want of numbers alone
-      over_is : (failed : Outcomes) → NoneFailed failed → (cmd : Command) (end : Ended) (x y : Kept) → GivesUp failed host x cmd end y → end ≡ ended.Spent
-      over_is failed quiet (AddPlaces slices force count blocks) (ended.Lost active listed) x y is =
-          absurd (never_unmade failed quiet (identity_of host x.memory.begun) (lines_asked host slices) count blocks active listed is.lost)
-      over_is failed quiet (AddPlaces slices force count blocks) ended.Spent x y is = refl
-      over_is failed quiet (AddPlaces slices force count blocks) ended.Memory x y is = absurd is
-      over_is failed quiet (AddPlaces slices force count blocks) (ended.NoQuorum readable needed) x y is = absurd is
-      over_is failed quiet (AddPlaces slices force count blocks) (ended.TwoDatabases one other) x y is = absurd is
-      over_is failed quiet (AddListed number force) end x y is = absurd is
-      over_is failed quiet (DropPlaces slices force) end x y is = absurd is
-      over_is failed quiet (command.MakeStripe volume slice) (ended.Lost active listed) x y is =
-          absurd (never_uncommitted failed quiet is.0 (table_after host.drives (MakeStripe volume slice) is.0.table) active listed is.2.lost)
-      over_is failed quiet (command.MakeStripe volume slice) ended.Spent x y is = refl
-      over_is failed quiet (command.MakeStripe volume slice) ended.Memory x y is = absurd is
-      over_is failed quiet (command.MakeStripe volume slice) (ended.NoQuorum readable needed) x y is = absurd is
-      over_is failed quiet (command.MakeStripe volume slice) (ended.TwoDatabases one other) x y is = absurd is
-      over_is failed quiet (Read volume at count) end x y is = absurd is
-      over_is failed quiet (Write volume at block) end x y is = absurd is
-      over_is failed quiet (Print names) end x y is = absurd is
+      -- Why a command ends the run: a creation never does, and a change of volumes for want of numbers alone.
+      abbrev OverBy : Option Opened → Command → Ended → Type 0
+      OverBy opened (AddPlaces slices force count blocks) end = MatchOption opened ⊥ (λ o. IsOver host.drives o (Adds (lines_asked host slices) count blocks) end)
+      OverBy opened (AddListed number force) end = ⊥
+      OverBy opened (DropPlaces slices force) end = (o : Opened) × (opened ≡ Some o) × IsOver host.drives o (drop_of o slices) end
+      OverBy opened (command.MakeStripe volume slice) end = (o : Opened) × (opened ≡ Some o) × (end ≡ ended.Spent) × (2 ^ 63 ≤ o.mark.count + 1)
+      OverBy opened (Read volume at count) end = ⊥
+      OverBy opened (Write volume at block) end = ⊥
+      OverBy opened (Print names) end = ⊥
 
-      spent_never : (cmd : Command) (failed other_calls : Outcomes) (x y z w : Kept) (answer : Answer) → x.memory.opened ≡ y.memory.opened → GivesUp failed host x cmd ended.Spent z → Effect other_calls host y cmd answer w → ⊥
-      spent_never (AddPlaces slices force count blocks) failed other_calls x y z w answer is gives effect = gives
-      spent_never (AddListed number force) failed other_calls x y z w answer is gives effect = gives
-      spent_never (DropPlaces slices force) failed other_calls x y z w answer is gives effect = gives
-      spent_never (command.MakeStripe volume slice) failed other_calls x y z w answer is (quiet, o, opened, high, stays) (told, other, opened_too, done) =
-          let count = ap (λ (x : Opened). x.mark.count) (opened_twice y.memory.opened o other (sym is ∙ opened) opened_too) in
-          let small = done.committed.tried.small in
-          absurd (omega (arith, count, high, small))
-      spent_never (Read volume at count) failed other_calls x y z w answer is gives effect = gives
-      spent_never (Write volume at block) failed other_calls x y z w answer is gives effect = gives
-      spent_never (Print names) failed other_calls x y z w answer is gives effect = gives
+      module _ (failed : Outcomes) (quiet : NoneFailed failed) (x y : Kept) where
+        added_lost : (slices : List SliceName) (force : Bool) (count blocks active listed : ℕ) (opened : Option Opened) → MatchOption opened (LeavesPlaces failed host (lines_asked host slices) count blocks active listed x y) (λ o. LeavesLists failed host o (Adds (lines_asked host slices) count blocks) active listed x y)
+            → OverBy opened (AddPlaces slices force count blocks) (ended.Lost active listed)
+        added_lost slices force count blocks active listed None is = absurd (never_unmade failed quiet (identity_of host x.memory.begun) (lines_asked host slices) count blocks active listed is.lost)
+        added_lost slices force count blocks active listed (Some o) is = lost_over host.drives o (Adds (lines_asked host slices) count blocks) failed quiet active listed is.lost
 
-      never_done : (failed other_calls : Outcomes) → NoneFailed failed → (cmd : Command) (end : Ended) (x y z w : Kept) (answer : Answer) → x.memory.opened ≡ y.memory.opened → GivesUp failed host x cmd end z → Effect other_calls host y cmd answer w → ⊥
-      never_done failed other_calls quiet cmd end x y z w answer is gives effect =
-          spent_never cmd failed other_calls x y z w answer is (subst (λ (e : Ended). GivesUp failed host x cmd e z) (over_is failed quiet cmd end x z gives) gives) effect
+        added_spent : (slices : List SliceName) (force : Bool) (count blocks : ℕ) (opened : Option Opened) → MatchOption opened ⊥ (λ o. IsSpentChange failed o x y) → OverBy opened (AddPlaces slices force count blocks) ended.Spent
+        added_spent slices force count blocks None is = is
+        added_spent slices force count blocks (Some o) is = inl (refl, is.spent)
+
+        over_by : (cmd : Command) (end : Ended) → GivesUp failed host x cmd end y → OverBy x.memory.opened cmd end
+        over_by (AddPlaces slices force count blocks) (ended.Lost active listed) is = added_lost slices force count blocks active listed x.memory.opened is
+        over_by (AddPlaces slices force count blocks) ended.Spent is = added_spent slices force count blocks x.memory.opened is
+        over_by (AddPlaces slices force count blocks) ended.Memory is = absurd is
+        over_by (AddPlaces slices force count blocks) (ended.NoQuorum readable needed) is = absurd is
+        over_by (AddPlaces slices force count blocks) (ended.TwoDatabases one other) is = absurd is
+        over_by (AddListed number force) end is = absurd is
+        over_by (DropPlaces slices force) (ended.Lost active listed) is = (is.0, is.1, lost_over host.drives is.0 (drop_of is.0 slices) failed quiet active listed is.2.lost)
+        over_by (DropPlaces slices force) ended.Spent is = (is.0, is.1, inl (refl, is.2.spent))
+        over_by (DropPlaces slices force) ended.Memory is = absurd is
+        over_by (DropPlaces slices force) (ended.NoQuorum readable needed) is = absurd is
+        over_by (DropPlaces slices force) (ended.TwoDatabases one other) is = absurd is
+        over_by (command.MakeStripe volume slice) (ended.Lost active listed) is =
+            absurd (never_uncommitted failed quiet is.0 (table_after host.drives (MakeStripe volume slice) is.0.table) active listed is.2.lost)
+        over_by (command.MakeStripe volume slice) ended.Spent is = (is.1, is.2, refl, is.3)
+        over_by (command.MakeStripe volume slice) ended.Memory is = absurd is
+        over_by (command.MakeStripe volume slice) (ended.NoQuorum readable needed) is = absurd is
+        over_by (command.MakeStripe volume slice) (ended.TwoDatabases one other) is = absurd is
+        over_by (Read volume at count) end is = absurd is
+        over_by (Write volume at block) end is = absurd is
+        over_by (Print names) end is = absurd is
+
+        -- what is done doesn't end the run
+        added_done : (lines : List SliceLine) (count blocks : ℕ) (end : Ended) (opened : Option Opened) → MatchOption opened (IsCreated failed host lines count blocks x y) (λ o. HasMovedOn failed host o (Adds lines count blocks) x y) → MatchOption opened ⊥ (λ o. IsOver host.drives o (Adds lines count blocks) end) → ⊥
+        added_done lines count blocks end None effect over = over
+        added_done lines count blocks end (Some o) effect over = never_over host.drives o (Adds lines count blocks) failed quiet effect.1.opened effect.0 effect.1.moved end over
+
+        dropped_done : (o : Opened) (slices : List SliceName) (end : Ended) (all : Bool) → MatchBool all (IsDeletedOn failed host o x y) (HasMovedOn failed host o (Drops slices) x y) → IsOver host.drives o (cond all KeepsFirst (Drops slices)) end → ⊥
+        dropped_done o slices end true effect over = never_over host.drives o KeepsFirst failed quiet effect.left.0 true effect.left.1 end over
+        dropped_done o slices end false effect over = never_over host.drives o (Drops slices) failed quiet effect.1.opened effect.0 effect.1.moved end over
+
+        done_over : (cmd : Command) (answer : Answer) (end : Ended) → Effect failed host x cmd answer y → OverBy x.memory.opened cmd end → ⊥
+        done_over (AddPlaces slices force count blocks) answer end effect over = added_done (lines_asked host slices) count blocks end x.memory.opened effect.1 over
+        done_over (AddListed number force) answer end effect over = over
+        done_over (DropPlaces slices force) answer end (told, o, opened, effect) (other, opened_too, over) =
+            dropped_done o slices end (are_all o slices) effect (subst (λ (z : Opened). IsOver host.drives z (drop_of z slices) end) (opened_twice x.memory.opened o other opened opened_too) over)
+        done_over (command.MakeStripe volume slice) answer end (told, o, opened, effect) (other, opened_too, is, high) =
+            let count = ap (λ (z : Opened). z.mark.count) (opened_twice x.memory.opened o other opened opened_too) in
+            let small = effect.committed.tried.small in
+            absurd (omega (arith, count, high, small))
+        done_over (Read volume at count) answer end effect over = over
+        done_over (Write volume at block) answer end effect over = over
+        done_over (Print names) answer end effect over = over
+
+      added_once : (lines : List SliceLine) (count blocks : ℕ) (one other : Ended) (opened : Option Opened) → MatchOption opened ⊥ (λ o. IsOver host.drives o (Adds lines count blocks) one) → MatchOption opened ⊥ (λ o. IsOver host.drives o (Adds lines count blocks) other) → one ≡ other
+      added_once lines count blocks one other None first second = absurd first
+      added_once lines count blocks one other (Some o) first second = one_over host.drives o (Adds lines count blocks) one other first second
+
+      over_once : (opened : Option Opened) (cmd : Command) (one other : Ended) → OverBy opened cmd one → OverBy opened cmd other → one ≡ other
+      over_once opened (AddPlaces slices force count blocks) one other first second = added_once (lines_asked host slices) count blocks one other opened first second
+      over_once opened (AddListed number force) one other first second = absurd first
+      over_once opened (DropPlaces slices force) one other (o, is, first) (p, is_too, second) =
+          one_over host.drives o (drop_of o slices) one other first (subst (λ (z : Opened). IsOver host.drives z (drop_of z slices) other) (opened_twice opened o p is is_too) second)
+      over_once opened (command.MakeStripe volume slice) one other first second = first.2 ∙ sym second.2
+      over_once opened (Read volume at count) one other first second = absurd first
+      over_once opened (Write volume at block) one other first second = absurd first
+      over_once opened (Print names) one other first second = absurd first
 
       never : (cmd : Command) (r : Refusal) → refusal_of (case_of host k) cmd ≡ Some r → IsAllowed (case_of host k) cmd → ⊥
       never cmd r is free = absurd (cc (is, free))
@@ -330,21 +539,25 @@ module _ (calls also : Outcomes) (calm : NoneFailed calls) (calm_too : NoneFaile
       same_refusal : (r q : Refusal) (o : Option Refusal) → o ≡ Some r → o ≡ Some q → r ≡ q
       same_refusal r q o is also = cc
 
-      came_same : (cmd : Command) → IsInForm cmd → CameTo calls host k cmd a n → CameTo also host j cmd b m → One host has once n m a b
-      came_same cmd form (came.refused quiet r is left) (came.refused quiet_too q is_too left_too) = refused r q (same_refusal r q (refusal_of (case_of host k) cmd) is (sym (one_refusal_of same.memory.up cmd) ∙ is_too)) left left_too
-      came_same cmd form (came.refused quiet r is left) (came.done free effect) = absurd (never cmd r is (sym (one_refusal_of same.memory.up cmd) ∙ free))
-      came_same cmd form (came.refused quiet r is left) (came.over end free so gives) = absurd (never cmd r is (sym (one_refusal_of same.memory.up cmd) ∙ free))
-      came_same cmd form (came.done free effect) (came.refused quiet_too r is left) = absurd (never cmd r (sym (one_refusal_of same.memory.up cmd) ∙ is) free)
-      came_same cmd form (came.done free effect) (came.done free_too effect_too) = effects cmd form free effect effect_too
-      came_same cmd form (came.done free effect) (came.over end free_too so gives) = absurd (never_done also calls calm_too cmd end j k m n a refl gives effect)
-      came_same cmd form (came.over end free so gives) (came.refused quiet r is left) = absurd (never cmd r (sym (one_refusal_of same.memory.up cmd) ∙ is) free)
-      came_same cmd form (came.over end free so gives) (came.done free_too effect) = absurd (never_done calls also calm cmd end k j n m b refl gives effect)
-      came_same cmd form (came.over end free so gives) (came.over other free_too so_too gives_too) =
-          (so ∙ ap (λ (e : Ended). Over e) (over_is calls calm cmd end k n gives ∙ sym (over_is also calm_too cmd other j m gives_too)) ∙ sym so_too, λ said. absurd (let unsaid : ⊥ = subst IsSaid so said in unsaid))
-      came_same cmd form (came.wanting quiet is left) second = absurd (sated.not_refused is)
-      came_same cmd form (came.faulted free is fault) second = absurd (never_faulted calls calm cmd k n fault)
-      came_same cmd form first (came.wanting quiet is left) = absurd (sated_too.not_refused is)
-      came_same cmd form first (came.faulted free is fault) = absurd (never_faulted also calm_too cmd j m fault)
+      module _ (later : Type 0) (to : later → may) where
+        lower : One host has once may n m a b → One host has once later n m a b
+        lower is = (is.0, λ said. weaker later to (is.1 said))
+
+        came_same : (cmd : Command) → (ChangesPlaces host memory cmd → later → ⊥) → IsInForm cmd → CameTo calls host k cmd a n → CameTo also host j cmd b m → One host has once later n m a b
+        came_same cmd still form (came.refused quiet r is left) (came.refused quiet_too q is_too left_too) = lower (refused r q (same_refusal r q (refusal_of (case_of host k) cmd) is (sym (one_refusal_of host memory up same.memory.up cmd) ∙ is_too)) left left_too)
+        came_same cmd still form (came.refused quiet r is left) (came.done free effect) = absurd (never cmd r is (sym (one_refusal_of host memory up same.memory.up cmd) ∙ free))
+        came_same cmd still form (came.refused quiet r is left) (came.over end free so gives) = absurd (never cmd r is (sym (one_refusal_of host memory up same.memory.up cmd) ∙ free))
+        came_same cmd still form (came.done free effect) (came.refused quiet_too r is left) = absurd (never cmd r (sym (one_refusal_of host memory up same.memory.up cmd) ∙ is) free)
+        came_same cmd still form (came.done free effect) (came.done free_too effect_too) = effects later to cmd still form free effect effect_too
+        came_same cmd still form (came.done free effect) (came.over end free_too so gives) = absurd (done_over calls calm k n cmd a end effect (over_by also calm_too j m cmd end gives))
+        came_same cmd still form (came.over end free so gives) (came.refused quiet r is left) = absurd (never cmd r (sym (one_refusal_of host memory up same.memory.up cmd) ∙ is) free)
+        came_same cmd still form (came.over end free so gives) (came.done free_too effect) = absurd (done_over also calm_too j m cmd b end effect (over_by calls calm k n cmd end gives))
+        came_same cmd still form (came.over end free so gives) (came.over other free_too so_too gives_too) =
+            (so ∙ ap (λ (e : Ended). Over e) (over_once memory.opened cmd end other (over_by calls calm k n cmd end gives) (over_by also calm_too j m cmd other gives_too)) ∙ sym so_too, λ said. absurd (let unsaid : ⊥ = subst IsSaid so said in unsaid))
+        came_same cmd still form (came.wanting quiet is left) second = absurd (sated.not_refused is)
+        came_same cmd still form (came.faulted free is fault) second = absurd (never_faulted calls calm cmd k n fault)
+        came_same cmd still form first (came.wanting quiet is left) = absurd (sated_too.not_refused is)
+        came_same cmd still form first (came.faulted free is fault) = absurd (never_faulted also calm_too cmd j m fault)
 
       -- a block is read in one way
       one_refusal : (lines : List ℕ) (r q : Refusal) → IsTabRefusal lines r → IsTabRefusal lines q → r ≡ q
@@ -361,7 +574,7 @@ module _ (calls also : Outcomes) (calm : NoneFailed calls) (calm_too : NoneFaile
       never_entered lines entries TooMany tab why = never_many lines entries tab why
       never_entered lines entries other_one tab why = why
 
-      keeps_same : (lines : List ℕ) → KeepsTab calls k lines a n → KeepsTab also j lines b m → One host has once n m a b
+      keeps_same : (lines : List ℕ) → KeepsTab calls k lines a n → KeepsTab also j lines b m → One host has once may n m a b
       keeps_same lines (came.entered quiet entries tab is memory_is kept) (came.entered quiet_too others tab_too is_too memory_also kept_too) =
           let same_entries = one_tab lines entries others tab tab_too in (
             is ∙ ap (λ (es : List Entry). telling (entries_reply (length es))) same_entries ∙ sym is_too,
@@ -369,7 +582,7 @@ module _ (calls also : Outcomes) (calm : NoneFailed calls) (calm_too : NoneFaile
               memory = same_through n.memory (record memory { entries = entries }) (record memory_too { entries = others }) m.memory memory_is memory_also
                   (record { opened = refl; up = same.memory.up; clean = refl; begun = refl; entries = same_entries });
               beside = λ drive block out. kept drive block ∙ same.beside drive block out ∙ sym (kept_too drive block);
-              alike = alike_beside (Spells host.drives) (one_text host.drives) host.site (ok host has once) c d n.content m.content (λ drive block within. kept drive block) (λ drive block within. kept_too drive block) same.alike;
+              alike = λ wanted. alike_beside (Spells host.drives) (one_text host.drives) host.site (ok host has once) c d n.content m.content (λ drive block within. kept drive block) (λ drive block within. kept_too drive block) (same.alike wanted);
               formed = formed_as n.memory (record memory { entries = entries }) (ap (λ (x : Memory). x.entries) memory_is) (entries_are_in_form lines entries tab);
               one = settled_with k n entries memory_is kept same.one;
               other = settled_with j m others memory_also kept_too same.other;
@@ -381,27 +594,33 @@ module _ (calls also : Outcomes) (calm : NoneFailed calls) (calm_too : NoneFaile
       keeps_same lines (came.unread quiet is left) second = absurd (sated.not_refused is)
       keeps_same lines first (came.unread quiet is left) = absurd (sated_too.not_refused is)
 
-      comes : (text : List ℕ) (spelled : Line) → words.IsLine text spelled → ComesTo calls host k spelled a n → ComesTo also host j spelled b m → One host has once n m a b
-      comes text (words.Tab lines) is first second = keeps_same lines first second
-      comes text words.Boot is first second = boot_same host has once calls also calm calm_too k j n m a b same sated sated_too first second
-      comes text (words.Exec cmd) is first second = came_same (meant memory.entries cmd) (meant_in_form memory.entries same.formed cmd (commands_are_in_form text cmd is.1)) first second
+      comes : (later : Type 0) → (later → may) → (text : List ℕ) (spelled : Line) → words.IsLine text spelled → (spelled ≡ words.Boot → may) → ((cmd : Command) → spelled ≡ words.Exec cmd → ChangesPlaces host memory (meant memory.entries cmd) → later → ⊥)
+          → ComesTo calls host k spelled a n → ComesTo also host j spelled b m → One host has once later n m a b
+      comes later to text (words.Tab lines) is boots still first second = (let one = keeps_same lines first second in (one.0, λ said. same_weaker host has once may later n m to (one.1 said)))
+      comes later to text words.Boot is boots still first second = boot_same host has once may later (boots refl) calls also calm calm_too k j n m a b same sated sated_too first second
+      comes later to text (words.Exec cmd) is boots still first second = came_meant (meant memory.entries cmd) (still cmd refl) (meant_in_form memory.entries same.formed cmd (commands_are_in_form text cmd is.1)) first second where
+        came_meant : (x : Command) → (ChangesPlaces host memory x → later → ⊥) → IsInForm x → CameTo calls host k x a n → CameTo also host j x b m → One host has once later n m a b
+        came_meant x still form first second = came_same later to x still form first second
 
   -- a line comes to the same from what is kept in common
-  one_carried : (text : List ℕ) (spelled : Line) → words.IsLine text spelled → (k j n m : Kept) (a b : Answer) → Both k j → IsSatisfied a → IsSatisfied b → ComesTo calls host k spelled a n → ComesTo also host j spelled b m → One host has once n m a b
-  one_carried text spelled line k j n m a b same sated sated_too first second =
+  one_carried : (may later : Type 0) → (later → may) → (text : List ℕ) (spelled : Line) → words.IsLine text spelled → (k j n m : Kept) (a b : Answer) → (spelled ≡ words.Boot → may) → ((cmd : Command) → spelled ≡ words.Exec cmd → ChangesPlaces host k.memory (meant k.memory.entries cmd) → later → ⊥)
+      → Both may k j → IsSatisfied a → IsSatisfied b → ComesTo calls host k spelled a n → ComesTo also host j spelled b m → One host has once later n m a b
+  one_carried may later to text spelled line k j n m a b boots still same sated sated_too first second =
       let fields = same.memory in
       let is : j.memory ≡ record k.memory { up = j.memory.up } = λ i. record { opened = sym fields.opened i; up = j.memory.up; clean = sym fields.clean i; begun = sym fields.begun i; entries = sym fields.entries i } in
       let moved = subst (λ (x : Memory). ComesTo also host (record { memory = x; content = j.content }) spelled b m) is second in
       let settled = subst (λ (x : Memory). There (record { memory = x; content = j.content })) is same.other in
       let memories : IsSameMemory k.memory (record k.memory { up = j.memory.up }) = record { opened = refl; up = fields.up; clean = refl; begun = refl; entries = refl } in
-      comes k.memory j.memory.up k.content j.content n m a b (record { memory = memories; beside = same.beside; alike = same.alike; formed = same.formed; one = same.one; other = settled }) sated sated_too text spelled line first moved
+      comes k.memory j.memory.up k.content j.content n m a b may (record { memory = memories; beside = same.beside; alike = same.alike; formed = same.formed; one = same.one; other = settled }) sated sated_too later to text spelled line boots still first moved
 
   -- and so does a line
-  pub one_answer : (text : List ℕ) (k j n m : Kept) (a b : Answer) → Both k j → IsSatisfied a → IsSatisfied b → IsAnswered calls host k text a n → IsAnswered also host j text b m → One host has once n m a b
-  one_answer text k j n m a b same sated sated_too (inl first) (inl second) = (first.2.0 ∙ sym second.2.0, λ said. stays_same host has once k j n m same first.2.1 second.2.1)
-  one_answer text k j n m a b same sated sated_too (inl first) (inr (inl second)) = absurd (first.0 second.0 second.1)
-  one_answer text k j n m a b same sated sated_too (inr (inl first)) (inl second) = absurd (second.0 first.0 first.1)
-  one_answer text k j n m a b same sated sated_too (inr (inr first)) second = absurd (sated.not_refused first.1.0)
-  one_answer text k j n m a b same sated sated_too first (inr (inr second)) = absurd (sated_too.not_refused second.1.0)
-  one_answer text k j n m a b same sated sated_too (inr (inl first)) (inr (inl second)) =
-      one_carried text first.0 first.1 k j n m a b same sated sated_too first.2 (subst (λ (x : Line). ComesTo also host j x b m) (one_line text second.0 first.0 second.1 first.1) second.2)
+  pub one_answer : (may later : Type 0) → (later → may) → (text : List ℕ) (k j n m : Kept) (a b : Answer) → (words.IsLine text words.Boot → may) → ((cmd : Command) → words.IsLine text (words.Exec cmd) → ChangesPlaces host k.memory (meant k.memory.entries cmd) → later → ⊥)
+      → Both may k j → IsSatisfied a → IsSatisfied b → IsAnswered calls host k text a n → IsAnswered also host j text b m → One host has once later n m a b
+  one_answer may later to text k j n m a b boots still same sated sated_too (inl first) (inl second) = (first.2.0 ∙ sym second.2.0, λ said. same_weaker host has once may later n m to (stays_same host has once may k j n m same first.2.1 second.2.1))
+  one_answer may later to text k j n m a b boots still same sated sated_too (inl first) (inr (inl second)) = absurd (first.0 second.0 second.1)
+  one_answer may later to text k j n m a b boots still same sated sated_too (inr (inl first)) (inl second) = absurd (second.0 first.0 first.1)
+  one_answer may later to text k j n m a b boots still same sated sated_too (inr (inr first)) second = absurd (sated.not_refused first.1.0)
+  one_answer may later to text k j n m a b boots still same sated sated_too first (inr (inr second)) = absurd (sated_too.not_refused second.1.0)
+  one_answer may later to text k j n m a b boots still same sated sated_too (inr (inl first)) (inr (inl second)) =
+      one_carried may later to text first.0 first.1 k j n m a b (λ is. boots (subst (words.IsLine text) is first.1)) (λ cmd is. still cmd (subst (words.IsLine text) is first.1)) same sated sated_too first.2
+      (subst (λ (x : Line). ComesTo also host j x b m) (one_line text second.0 first.0 second.1 first.1) second.2)

@@ -5,7 +5,7 @@ use Rattle.mdv_base.specs.declared.refusal.Refusal.TheVariants.{IoFault}
 use Rattle.mdv_base.proofs.Causes.{rose_of_once, rose_within}
 use Rattle.mdv_listing.proofs.Lines.{listings_are_lines}
 use Rattle.mdv_status.specs.Values.{printed_reply}
-use Rattle.mdv_run_law.specs.Below.{AreInForm, Image, Refusal, BadLine, OutOfMemory, TooMany, Script, at_end, spent, too_long, line, replies_in, Command, AddListed, AddPlaces, DropPlaces, MakeStripe, Print, Read, Write, Boot, Line, Answer, Host, Kept, CameTo, ComesTo, IsRebooted, IsPlain, Spells, IsPlainAnswer, IsReply, meant, refusal_line}
+use Rattle.mdv_run_law.specs.Below.{Memory, Entry, AreInForm, Image, Refusal, BadLine, OutOfMemory, TooMany, Script, at_end, spent, too_long, line, replies_in, Command, AddListed, AddPlaces, DropPlaces, MakeStripe, Print, Read, Write, Boot, Line, Answer, Host, Kept, CameTo, ComesTo, IsRebooted, IsPlain, Spells, IsPlainAnswer, IsReply, meant, refusal_line}
 use Rattle.mdv_words.specs.Line as words
 use Rattle.mdv_engine_law.specs.declared.answer.Answer.TheVariants.{Said, Over as Ends}
 use Rattle.mdv_engine_law.specs.declared.answer.Ended.{Ended}
@@ -23,8 +23,8 @@ use Rattle.mdv_engine_law.specs.Replies.{text_of}
 use Rattle.mdv_engine_law.proofs.Plain.{bad_line_plain, fault_plain, too_long_plain, too_many_plain, memory_plain, refusal_plain, ok_reply, values_are_reply, refusal_reply}
 use Rattle.mdv_run_law.specs.declared.status.RunStatus.{RunStatus}
 use Rattle.mdv_run_law.specs.declared.status.RunStatus.TheVariants.{NoMemory}
-use Rattle.mdv_run_law.specs.Run.{Counts, RoseTo, RoseCalmly, OnlyReplying, IsUndisturbed, IsSated, Stops, At, NextLine, IsSaid, refused_by, LineTold, LinesTold, Stretch, no_line, one_more, EndsAs, EndsAt, EndsWith, Over, unread, ended as script_ended, broken, Runs, RunsFrom, behind_boot, Progress, IsAnswered, IsLostStatus, IsOfTable, AreOnce, IsSameEnd, OneCourse, started, drive_failures, giving_failed, status_at}
-use Rattle.mdv_run_law.proofs.Carrying.{one_answer}
+use Rattle.mdv_run_law.specs.Run.{BootsFirst, ChangesPlaces, IsSameMemory, NeverBoots, NextChanges, Counts, RoseTo, RoseCalmly, OnlyReplying, IsUndisturbed, IsSated, Stops, At, NextLine, IsSaid, refused_by, LineTold, LinesTold, Stretch, no_line, one_more, EndsAs, EndsAt, EndsWith, Over, unread, ended as script_ended, broken, Runs, RunsFrom, behind_boot, Progress, IsAnswered, IsLostStatus, IsOfTable, AreOnce, IsSameEnd, OneCourse, started, drive_failures, giving_failed, status_at}
+use Rattle.mdv_run_law.proofs.Carrying.{one_answer, same_refusal_of}
 use Rattle.mdv_run_law.proofs.Moving.{alike_back, alike_itself, one_text}
 use Rattle.mdv_run_law.proofs.Passing.{NoneFailed}
 use Rattle.mdv_run_law.proofs.Keeping.{IsSatisfied, One, Same, ok, one_boot, same_back, stays_same}
@@ -52,7 +52,7 @@ module _ (calls : Outcomes) (host : Host) (kept next : Kept) (answer : Answer) w
   effect_plain : (command : Command) → Effect calls host kept command answer next → IsPlainAnswer answer
   effect_plain (AddPlaces slices force count blocks) is = ok_plain is.0
   effect_plain (AddListed number force) is = absurd is
-  effect_plain (DropPlaces slices force) is = absurd is
+  effect_plain (DropPlaces slices force) is = ok_plain is.0
   effect_plain (MakeStripe volume slice) is = ok_plain is.0
   effect_plain (Read volume at count) is = subst IsPlainAnswer (sym is.3) (inl (record { at = at; blocks = _; is = refl }))
   effect_plain (Write volume at block) is = ok_plain is.3
@@ -201,30 +201,39 @@ end_satisfied failed calm answer next told status last with sated = record {
 
 -- two runs in which nothing failed
 module _ (host : Host) (content : Image) (has : IsOfTable host) (once : AreOnce host.drives.slices) where
+  -- a line of the script may boot
+  abbrev MayBoot : Script → Type 0
+  MayBoot script = NeverBoots script → ⊥
+
+  -- no line boots where the next one changes the places of an open database
+  abbrev Behaves : Memory → Script → Type 0
+  Behaves memory script = NextChanges host memory script → NeverBoots script
+
   -- what the next line of both comes to
   record Next (answer other : Answer) (next also : Kept) (rest left : Script) : Type 0 where
     same : other ≡ answer
     script : left ≡ rest
     plain : IsPlainAnswer answer
-    kept : IsSaid answer → Same host has once next also
+    kept : IsSaid answer → Same host has once (MayBoot rest) next also
 
-  one_next : (now then from to : Counts) → NoneFailed (drive_failures now then) → NoneFailed (drive_failures from to) → (n m next also : Kept) → Same host has once n m → (script rest left : Script) (answer other : Answer) → IsSatisfied answer → IsSatisfied other
+  one_next : (now then from to : Counts) → NoneFailed (drive_failures now then) → NoneFailed (drive_failures from to) → (n m next also : Kept) (script rest left : Script) → Same host has once (MayBoot script) n m → Behaves n.memory script → (answer other : Answer) → IsSatisfied answer → IsSatisfied other
       → NextLine host now n script answer then next rest → NextLine host from m script other to also left → Next answer other next also rest left
-  one_next now then from to calm calm_too n m next also same at_end rest left answer other enough enough_too one two = absurd one
-  one_next now then from to calm calm_too n m next also same (spent lines bytes) rest left answer other enough enough_too one two = absurd one
-  one_next now then from to calm calm_too n m next also same (too_long behind) rest left answer other enough enough_too one two = record {
+  one_next now then from to calm calm_too n m next also at_end rest left same behaves answer other enough enough_too one two = absurd one
+  one_next now then from to calm calm_too n m next also (spent lines bytes) rest left same behaves answer other enough enough_too one two = absurd one
+  one_next now then from to calm calm_too n m next also (too_long behind) rest left same behaves answer other enough enough_too one two = record {
     same = two.3.0 ∙ sym one.3.0;
     script = two.0 ∙ sym one.0;
     plain = subst IsPlainAnswer (sym one.3.0) too_long_plain;
-    kept = λ heard. stays_same host has once n m next also same one.3.1 two.3.1;
+    kept = λ heard. subst (λ (x : Script). Same host has once (MayBoot x) next also) (sym one.0) (stays_same host has once (MayBoot behind) n m next also same one.3.1 two.3.1);
   }
-  one_next now then from to calm calm_too n m next also same (line text behind) rest left answer other enough enough_too one two =
-      let answers = one_answer (drive_failures now then) (drive_failures from to) calm calm_too host has once text n m next also answer other same enough enough_too one.2 two.2 in
+  one_next now then from to calm calm_too n m next also (line text behind) rest left same behaves answer other enough enough_too one two =
+      let answers = one_answer (drive_failures now then) (drive_failures from to) calm calm_too host has once (MayBoot (line text behind)) (MayBoot behind) (λ boots never. boots never.1) text n m next also answer other (λ boot never. never.0 boot)
+      (λ command is changes boots. boots (behaves (command, is, changes)).1) same enough enough_too one.2 two.2 in
       record {
         same = sym answers.0;
         script = two.0 ∙ sym one.0;
         plain = answer_plain (drive_failures now then) host n next answer text one.2;
-        kept = answers.1;
+        kept = λ heard. subst (λ (x : Script). Same host has once (MayBoot x) next also) (sym one.0) (answers.1 heard);
       }
 
   same_refused : (answer other : Answer) (a b : Bool) → other ≡ answer → a ≡ b → refused_by answer a ≡ refused_by other b
@@ -234,7 +243,8 @@ module _ (host : Host) (content : Image) (has : IsOfTable host) (once : AreOnce 
   record Beside (n m : At) : Type 0 where
     script : n.script ≡ m.script
     refused : n.refused ≡ m.refused
-    kept : Same host has once n.kept m.kept
+    kept : Same host has once (MayBoot n.script) n.kept m.kept
+    behaves : Behaves n.kept.memory n.script
 
   one_end : (refused also : Bool) (script left : Script) (s r : RunStatus) → refused ≡ also → script ≡ left → EndsAs refused script s → EndsAs also left r → s ≡ r
   one_end refused also script left s r before scripts one other =
@@ -278,7 +288,7 @@ module _ (host : Host) (content : Image) (has : IsOfTable host) (once : AreOnce 
         let there = drives_calm m.counts m.counts to f (no_more_itself m.counts) (no_more_replying other to f given_too) calm_too in
         let last = calm_within n.counts then e e (next_rose host n.counts then n.kept next n.script left answer is) (rose_itself e) calm in
         let last_too = calm_within m.counts to f f (next_rose host m.counts to m.kept also m.script behind other is_too) (rose_itself f) calm_too in
-        let both = one_next n.counts then m.counts to here there n.kept m.kept next also beside.kept n.script left behind answer other (end_satisfied _ (giving_calm _ _ last) answer next a s k with sated) (end_satisfied _ (giving_calm _ _ last_too) other also b r j with_too sated_too)
+        let both = one_next n.counts then m.counts to here there n.kept m.kept next also n.script left behind beside.kept beside.behaves answer other (end_satisfied _ (giving_calm _ _ last) answer next a s k with sated) (end_satisfied _ (giving_calm _ _ last_too) other also b r j with_too sated_too)
         is (subst (λ (x : Script). NextLine host m.counts m.kept x other to also behind) (sym beside.script) is_too) in
         one_with _ _ (giving_calm _ _ last) (giving_calm _ _ last_too) answer other both.same next also a b s r k j with with_too
 
@@ -291,29 +301,46 @@ module _ (host : Host) (content : Image) (has : IsOfTable host) (once : AreOnce 
         let here = drives_calm n.counts n.counts to e (no_more_itself n.counts) (no_more_replying answer to e given) calm in
         let there = drives_calm m.counts m.counts then.counts f (no_more_itself m.counts) rose_too calm_too in
         let last = calm_within n.counts to e e (next_rose host n.counts to n.kept next n.script left answer is) (rose_itself e) calm in
-        let both = one_next n.counts to m.counts then.counts here there n.kept m.kept next then.kept beside.kept n.script left then.script answer two.answer (end_satisfied _ (giving_calm _ _ last) answer next a s k with sated) (line_satisfied two.answer piece rest r two.said two.as_text sated_too)
+        let both = one_next n.counts to m.counts then.counts here there n.kept m.kept next then.kept n.script left then.script beside.kept beside.behaves answer two.answer (end_satisfied _ (giving_calm _ _ last) answer next a s k with sated) (line_satisfied two.answer piece rest r two.said two.as_text sated_too)
         is (subst (λ (x : Script). NextLine host m.counts m.kept x two.answer then.counts then.kept then.script) (sym beside.script) two.comes) in
         said_text answer _ (giving_calm _ _ last) (subst IsSaid both.same two.said) next a s k with
+
+  -- what the one changes the other does
+  places_back : (k j : Memory) → IsSameMemory k j → (command : Command) → ChangesPlaces host j command → ChangesPlaces host k command
+  places_back k j same (AddPlaces slices force count blocks) (granted, there) = (sym (same_refusal_of host k j same (AddPlaces slices force count blocks)) ∙ granted, λ none. there (sym same.opened ∙ none))
+  places_back k j same (AddListed number force) changes = changes
+  places_back k j same (DropPlaces slices force) granted = sym (same_refusal_of host k j same (DropPlaces slices force)) ∙ granted
+  places_back k j same (MakeStripe volume slice) changes = changes
+  places_back k j same (Read volume at count) changes = changes
+  places_back k j same (Write volume at block) changes = changes
+  places_back k j same (Print names) changes = changes
+
+  changes_back : (k j : Memory) → IsSameMemory k j → (script : Script) → NextChanges host j script → NextChanges host k script
+  changes_back k j same at_end changes = changes
+  changes_back k j same (spent lines bytes) changes = changes
+  changes_back k j same (too_long more) changes = changes
+  changes_back k j same (line text more) (command, is, changes) = (command, is, places_back k j same (meant k.entries command) (subst (λ (entries : List Entry). ChangesPlaces host j (meant entries command)) (sym same.entries) changes))
 
   beside_back : (n m : At) → Beside n m → Beside m n
   beside_back n m is = record {
     script = sym is.script;
     refused = sym is.refused;
-    kept = record { formed = subst AreInForm is.kept.memory.entries is.kept.formed; memory = same_back n.kept.memory m.kept.memory is.kept.memory; beside = λ drive block out. sym (is.kept.beside drive block out); alike = alike_back (Spells host.drives) (one_text host.drives) host.site (ok host has once) n.kept.content m.kept.content is.kept.alike; one = is.kept.other; other = is.kept.one };
+    kept = record { formed = subst AreInForm is.kept.memory.entries is.kept.formed; memory = same_back n.kept.memory m.kept.memory is.kept.memory; beside = λ drive block out. sym (is.kept.beside drive block out); alike = λ wanted. alike_back (Spells host.drives) (one_text host.drives) host.site (ok host has once) n.kept.content m.kept.content (is.kept.alike (subst MayBoot (sym is.script) wanted)); one = is.kept.other; other = is.kept.one };
+    behaves = λ changes. subst NeverBoots is.script (is.behaves (subst (NextChanges host n.kept.memory) (sym is.script) (changes_back n.kept.memory m.kept.memory is.kept.memory m.script changes)));
   }
 
   sated_apart : (piece rest x : List ℕ) (status : RunStatus) → IsSated ((piece ++ rest) ++ x) status → IsSated (piece ++ (rest ++ x)) status
   sated_apart piece rest x status sated = subst (λ (l : List ℕ). IsSated l status) (append_assoc piece rest x) sated
 
   module _ (e f : Counts) (s r : RunStatus) (k j : Kept) where
-    one_run : (w v : Stretch) (c d x_at y_at : ℕ) (n m p q : At) (a b x y : List ℕ) → Beside n m → IsUndisturbed n.counts e → IsUndisturbed m.counts f → IsSated (a ++ x) s → IsSated (b ++ y) r
+    one_run : (w v : Stretch) (c d x_at y_at : ℕ) (n m p q : At) (a b x y : List ℕ) → Beside n m → BootsFirst host w c n → IsUndisturbed n.counts e → IsUndisturbed m.counts f → IsSated (a ++ x) s → IsSated (b ++ y) r
         → LinesTold host w c n a p → LinesTold host v d m b q → Over host w x_at e p x s k → Over host v y_at f q y r j → SameEnds host (a ++ x) (b ++ y) s r k j
-    one_run w v c d x_at y_at n m p q a b x y beside calm calm_too sated sated_too (no_line c_is at) (no_line d_is also) one two = one_over w v x_at y_at e f s r k j n m x y beside calm calm_too sated sated_too one two
-    one_run w v c d x_at y_at n m p q a b x y beside calm calm_too sated sated_too (no_line c_is at) (one_more d_is from mid to piece rest some said shown lines) one two =
+    one_run w v c d x_at y_at n m p q a b x y beside first calm calm_too sated sated_too (no_line c_is at) (no_line d_is also) one two = one_over w v x_at y_at e f s r k j n m x y beside calm calm_too sated sated_too one two
+    one_run w v c d x_at y_at n m p q a b x y beside first calm calm_too sated sated_too (no_line c_is at) (one_more d_is from mid to piece rest some said shown lines) one two =
         absurd (one_stays w v x_at y_at e f s r k j n m mid x piece (rest ++ y) beside calm calm_too (no_more_on mid.counts q.counts f (lines_rose host v (d + length piece) mid q rest lines).drives (over_rose host v y_at f q y r j two)) sated (sated_apart piece rest y r sated_too) one said)
-    one_run w v c d x_at y_at n m p q a b x y beside calm calm_too sated sated_too (one_more c_is from mid to piece rest some said shown lines) (no_line d_is at) one two =
+    one_run w v c d x_at y_at n m p q a b x y beside first calm calm_too sated sated_too (one_more c_is from mid to piece rest some said shown lines) (no_line d_is at) one two =
         absurd (one_stays v w y_at x_at f e r s j k m n mid y piece (rest ++ x) (beside_back n m beside) calm_too calm (no_more_on mid.counts p.counts e (lines_rose host w (c + length piece) mid p rest lines).drives (over_rose host w x_at e p x s k one)) sated_too (sated_apart piece rest x s sated) two said)
-    one_run w v c d x_at y_at n m p q a b x y beside calm calm_too sated sated_too (one_more c_is from mid to piece rest some said shown lines) (one_more d_is start also last other behind some_too turn shown_too turns) one two =
+    one_run w v c d x_at y_at n m p q a b x y beside first calm calm_too sated sated_too (one_more c_is from mid to piece rest some said shown lines) (one_more d_is start also last other behind some_too turn shown_too turns) one two =
         let up = no_more_on mid.counts p.counts e (lines_rose host w (c + length piece) mid p rest lines).drives (over_rose host w x_at e p x s k one) in
         let up_too = no_more_on also.counts q.counts f (lines_rose host v (d + length other) also q behind turns).drives (over_rose host v y_at f q y r j two) in
         let here = drives_calm n.counts n.counts mid.counts e (no_more_itself n.counts) up calm in
@@ -322,28 +349,29 @@ module _ (host : Host) (content : Image) (has : IsOfTable host) (once : AreOnce 
         let left_too = calm_within m.counts also.counts f f (next_rose host m.counts also.counts m.kept also.kept m.script also.script turn.answer turn.comes) (rose_itself f) calm_too in
         let all = sated_apart piece rest x s sated in
         let all_too = sated_apart other behind y r sated_too in
-        let both = one_next n.counts mid.counts m.counts also.counts here there n.kept m.kept mid.kept also.kept beside.kept n.script mid.script also.script said.answer turn.answer
+        let both = one_next n.counts mid.counts m.counts also.counts here there n.kept m.kept mid.kept also.kept n.script mid.script also.script beside.kept beside.behaves said.answer turn.answer
         (line_satisfied said.answer piece (rest ++ x) s said.said said.as_text all) (line_satisfied turn.answer other (behind ++ y) r turn.said turn.as_text all_too)
         said.comes (subst (λ (z : Script). NextLine host m.counts m.kept z turn.answer also.counts also.kept also.script) (sym beside.script) turn.comes) in
         let pieces : piece ≡ other = said.as_text ∙ sym (ap text_of both.same) ∙ sym turn.as_text in
         let whole : IsReply piece = subst IsReply (sym said.as_text) (said_reply said.answer both.plain said.said) in
+        let ahead : BootsFirst host w (c + length piece) mid = λ told at more. first (piece ++ told) at (one_more c n mid at piece told some said shown more) in
         let ends = one_run w v (c + length piece) (d + length other) x_at y_at mid also p q rest behind x y
-        (record { script = sym both.script; refused = said.as_refused ∙ same_refused said.answer turn.answer n.refused m.refused both.same beside.refused ∙ sym turn.as_refused; kept = both.kept said.said })
-        left left_too (rest_sated piece (rest ++ x) s whole all) (rest_sated other (behind ++ y) r (subst IsReply pieces whole) all_too) lines turns one two in
+        (record { script = sym both.script; refused = said.as_refused ∙ same_refused said.answer turn.answer n.refused m.refused both.same beside.refused ∙ sym turn.as_refused; kept = both.kept said.said; behaves = ahead [] mid (no_line (c + length piece) mid) })
+        ahead left left_too (rest_sated piece (rest ++ x) s whole all) (rest_sated other (behind ++ y) r (subst IsReply pieces whole) all_too) lines turns one two in
         (append_assoc piece rest x ∙ (λ i. pieces i ++ ends.0 i) ∙ sym (append_assoc other behind y), ends.1, ends.2)
 
     runs_rose : (w : Stretch) (n : At) (told : List ℕ) → Runs host w e n told s k → NoMore n.counts e
     runs_rose w n told runs = no_more_on n.counts runs.at.counts e (lines_rose host w 0 n runs.at runs.so_far runs.lines).drives (over_rose host w (length runs.so_far) e runs.at runs.rest s k runs.over)
 
-    one_from : (w v : Stretch) (answer : Answer) (now from : Counts) (p q : Progress) (n m : Kept) → (IsSaid answer → Same host has once n m) → (script : Script) (a b : List ℕ) → IsUndisturbed now e → IsUndisturbed from f → IsSated a s → IsSated b r
+    one_from : (w v : Stretch) (answer : Answer) (now from : Counts) (p q : Progress) (n m : Kept) → (script : Script) → (IsSaid answer → Same host has once (MayBoot script) n m) → BootsFirst host w 0 (behind_boot now p n script) → (a b : List ℕ) → IsUndisturbed now e → IsUndisturbed from f → IsSated a s → IsSated b r
         → RunsFrom host w e answer now p n script a s k → RunsFrom host v f answer from q m script b r j → SameEnds host a b s r k j
-    one_from w v (Said outcome.Ok) now from p q n m same script a b calm calm_too sated sated_too one two =
+    one_from w v (Said outcome.Ok) now from p q n m script same first a b calm calm_too sated sated_too one two =
         let ends = one_run w v 0 0 (length one.so_far) (length two.so_far) (behind_boot now p n script) (behind_boot from q m script) one.at two.at one.so_far two.so_far one.rest two.rest
-        (record { script = refl; refused = refl; kept = same tt }) calm calm_too (subst (λ (l : List ℕ). IsSated l s) one.parts sated) (subst (λ (l : List ℕ). IsSated l r) two.parts sated_too) one.lines two.lines one.over two.over in
+        (record { script = refl; refused = refl; kept = same tt; behaves = first [] (behind_boot now p n script) (no_line 0 (behind_boot now p n script)) }) first calm calm_too (subst (λ (l : List ℕ). IsSated l s) one.parts sated) (subst (λ (l : List ℕ). IsSated l r) two.parts sated_too) one.lines two.lines one.over two.over in
         (one.parts ∙ ends.0 ∙ sym two.parts, ends.1, ends.2)
-    one_from w v (Said (outcome.Values text)) now from p q n m same script a b calm calm_too sated sated_too one two = absurd one
-    one_from w v (Said (outcome.Refused refusal)) now from p q n m same script a b calm calm_too sated sated_too one two = absurd one
-    one_from w v (Ends end) now from p q n m same script a b calm calm_too sated sated_too one two = one_stop host n m (status_at end) a b s r k j (ended_status end) one.2 two.2
+    one_from w v (Said (outcome.Values text)) now from p q n m script same first a b calm calm_too sated sated_too one two = absurd one
+    one_from w v (Said (outcome.Refused refusal)) now from p q n m script same first a b calm calm_too sated sated_too one two = absurd one
+    one_from w v (Ends end) now from p q n m script same first a b calm calm_too sated sated_too one two = one_stop host n m (status_at end) a b s r k j (ended_status end) one.2 two.2
 
   -- the boot at a run's start
   module _ (e : Counts) (s : RunStatus) (k : Kept) where
@@ -359,20 +387,20 @@ module _ (host : Host) (content : Image) (has : IsOfTable host) (once : AreOnce 
       not_wanting = λ is. (let stops : (e ≡ now) × EndsAt w p.story p.effort × Stops n NoMemory told s k = subst (λ (x : Answer). RunsFrom host w e x now p n script told s k) is from in sated.end stops.2.ended);
     }
 
-  one_start : (calls also : Outcomes) → NoneFailed calls → NoneFailed also → (n m : Kept) (a b : Answer) → IsSatisfied a → IsSatisfied b → IsRebooted calls host (started content) a n → IsRebooted also host (started content) b m → One host has once n m a b
-  one_start calls also calm calm_too n m a b enough enough_too first second =
-      one_boot host has once calls also calm calm_too (started content) (started content) n m a b (alike_itself (Spells host.drives) (one_text host.drives) host.site (ok host has once) content) refl (λ drive block out. refl) enough enough_too first second
+  one_start : (script : Script) (calls also : Outcomes) → NoneFailed calls → NoneFailed also → (n m : Kept) (a b : Answer) → IsSatisfied a → IsSatisfied b → IsRebooted calls host (started content) a n → IsRebooted also host (started content) b m → One host has once (MayBoot script) n m a b
+  one_start script calls also calm calm_too n m a b enough enough_too first second =
+      one_boot host has once calls also calm calm_too (started content) (started content) n m a b (alike_itself (Spells host.drives) (one_text host.drives) host.site (ok host has once) content) refl (λ drive block out. refl) enough enough_too (MayBoot script) first second
 
 pub one_course : OneCourse
-one_course = λ host content has once script w v start end from to calm calm_too a b s r k j sated sated_too first second.
+one_course = λ host content has once script w v start end from to calm calm_too a b s r k j sated sated_too first boots second.
     let up = from_rose host content has once end s k w first.answer first.booted first.by first.kept script a first.runs in
     let up_too = from_rose host content has once to r j v second.answer second.booted second.by second.kept script b second.runs in
     let here = drives_calm start start first.booted end (no_more_itself start) up calm in
     let there = drives_calm from from second.booted to (no_more_itself from) up_too calm_too in
     let left = calm_within start first.booted end end (calmly_rose start first.booted first.rose) (rose_itself end) calm in
     let left_too = calm_within from second.booted to to (calmly_rose from second.booted second.rose) (rose_itself to) calm_too in
-    let both = one_start host content has once (drive_failures start first.booted) (drive_failures from second.booted) here there first.kept second.kept first.answer second.answer
+    let both = one_start host content has once script (drive_failures start first.booted) (drive_failures from second.booted) here there first.kept second.kept first.answer second.answer
     (satisfied_from host content has once end s k w first.answer first.booted first.by first.kept script a sated first.runs) (satisfied_from host content has once to r j v second.answer second.booted second.by second.kept script b sated_too second.runs)
     first.boots second.boots in
-    one_from host content has once end to s r k j w v first.answer first.booted second.booted first.by second.by first.kept second.kept both.1 script a b left left_too sated sated_too first.runs
+    one_from host content has once end to s r k j w v first.answer first.booted second.booted first.by second.by first.kept second.kept script both.1 boots a b left left_too sated sated_too first.runs
     (subst (λ (x : Answer). RunsFrom host v to x second.booted second.by second.kept script b r j) (sym both.0) second.runs)

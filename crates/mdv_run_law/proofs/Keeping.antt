@@ -92,7 +92,7 @@ said_accepted (end.Lost active listed) said = absurd said
 said_accepted end.Spent said = absurd said
 said_accepted end.Memory said = absurd said
 
-first_of : {X : Type 0} (xs : List X) → 0 < length xs → (x : X) × Contains xs x
+pub first_of : {X : Type 0} (xs : List X) → 0 < length xs → (x : X) × Contains xs x
 first_of [] some = absurd (omega (arith, some))
 first_of (x ∷ xs) some = (x, contains_first x xs)
 
@@ -158,18 +158,22 @@ module _ (host : Host) (has : IsOfTable host) (once : AreOnce host.drives.slices
   abbrev pub Settled : Kept → Type 0
   Settled kept = (o : Opened) → kept.memory.opened ≡ Some o → IsHeld o kept.content
 
-  -- the same is in memory, its entries in their form, and in each block that no replica may have
-  pub record Same (k j : Kept) : Type 0 where
+  -- The same is in memory, its entries in their form, and in each block that no replica may have; and as long as a boot may come it finds the same.
+  pub record Same (may : Type 0) (k j : Kept) : Type 0 where
     pub memory : IsSameMemory k.memory j.memory
     pub beside : (drive block : ℕ) → site_area host.site drive block ≡ false → k.content drive block ≡ j.content drive block
-    pub alike : Alike k.content j.content
+    pub alike : may → Alike k.content j.content
     pub formed : AreInForm k.memory.entries
     pub one : Settled k
     pub other : Settled j
 
   -- what a line comes to: the same answer, and after a reply the same is kept
-  abbrev pub One : Kept → Kept → Answer → Answer → Type 0
-  One n m a b = (a ≡ b) × (IsSaid a → Same n m)
+  abbrev pub One : Type 0 → Kept → Kept → Answer → Answer → Type 0
+  One may n m a b = (a ≡ b) × (IsSaid a → Same may n m)
+
+  -- where less may come
+  pub same_weaker : (may then : Type 0) (k j : Kept) → (then → may) → Same may k j → Same then k j
+  same_weaker may then k j to same = record { memory = same.memory; beside = same.beside; alike = λ wanted. same.alike (to wanted); formed = same.formed; one = same.one; other = same.other }
 
   some_same : {A : Type 0} (a b : A) → Some a ≡ Some b → a ≡ b
   some_same a b is = cc (is)
@@ -212,11 +216,11 @@ module _ (host : Host) (has : IsOfTable host) (once : AreOnce host.drives.slices
   pub there_settled : (kept next : Kept) → Settled kept → next.memory.opened ≡ kept.memory.opened → ((drive block : ℕ) → site_area host.site drive block ≡ true → next.content drive block ≡ kept.content drive block) → Settled next
   there_settled kept next settled opened same o is = held_kept o kept.content next.content same (settled o (sym opened ∙ is))
 
-  pub stays_same : (k j n m : Kept) → Same k j → Stays k n → Stays j m → Same n m
-  stays_same k j n m same one other = record {
+  pub stays_same : (may : Type 0) (k j n m : Kept) → Same may k j → Stays k n → Stays j m → Same may n m
+  stays_same may k j n m same one other = record {
     memory = same_through n.memory k.memory j.memory m.memory one.memory other.memory same.memory;
     beside = λ drive block out. one.content drive block ∙ same.beside drive block out ∙ sym (other.content drive block);
-    alike = alike_beside (Spells host.drives) (one_text host.drives) host.site ok k.content j.content n.content m.content (λ drive block within. one.content drive block) (λ drive block within. other.content drive block) same.alike;
+    alike = λ wanted. alike_beside (Spells host.drives) (one_text host.drives) host.site ok k.content j.content n.content m.content (λ drive block within. one.content drive block) (λ drive block within. other.content drive block) (same.alike wanted);
     formed = formed_as n.memory k.memory (ap (λ (m : Memory). m.entries) one.memory) same.formed;
     one = there_settled k n same.one (ap (λ (m : Memory). m.opened) one.memory) (λ drive block within. one.content drive block);
     other = there_settled j m same.other (ap (λ (m : Memory). m.opened) other.memory) (λ drive block within. other.content drive block);
@@ -449,32 +453,32 @@ module _ (host : Host) (has : IsOfTable host) (once : AreOnce host.drives.slices
     alike_end end.Spent one two said = absurd said
     alike_end end.Memory one two said = absurd said
 
-    same_end : (e : BootEnd) → is_memory e ≡ false → Booted calls k n e → Booted also j m e → IsSaid (answered_by e) → Same n m
-    same_end e so one two said = record {
+    same_end : (may : Type 0) (e : BootEnd) → is_memory e ≡ false → Booted calls k n e → Booted also j m e → IsSaid (answered_by e) → Same may n m
+    same_end may e so one two said = record {
       memory = same_through n.memory (booted_with (opened_by e) one.up one.clean k.memory.begun) (booted_with (opened_by e) two.up two.clean j.memory.begun) m.memory (one.memory said) (two.memory said)
           (booted_same host calls also calm calm_too e so (opened_by e) one.up two.up one.clean two.clean k.memory.begun j.memory.begun begun one.up_by two.up_by);
       beside = λ drive block out. out_behind calls calm k n e one said drive block out ∙ beside drive block out ∙ sym (out_behind also calm_too j m e two said drive block out);
-      alike = alike_end e one two said;
+      alike = λ wanted. alike_end e one two said;
       formed = formed_as n.memory (booted_with (opened_by e) one.up one.clean k.memory.begun) (ap (λ (x : Memory). x.entries) (one.memory said)) none_formed;
       one = settled_behind calls calm k n e one said;
       other = settled_behind also calm_too j m e two said;
     }
 
-    pub one_boot : IsRebooted calls host k a n → IsRebooted also host j b m → One n m a b
-    one_boot first second =
+    pub one_boot : (may : Type 0) → IsRebooted calls host k a n → IsRebooted also host j b m → One may n m a b
+    one_boot may first second =
         let one = booted calls calm k n a sated first in
         let two = booted also calm_too j m b sated_too second in
         let surveys = one_survey host.drives host.site ok once_there brought k.content j.content alike one.1.survey two.1.survey one.1.all two.1.all in
         let ends : second.end ≡ first.end =
         sym (one_end calls also calm calm_too _ _ host.site one.1.survey two.1.survey surveys.replicas surveys.newest first.end second.end one.0 two.0 one.1.by two.1.by) in (
           first.answer_is ∙ ap answered_by (sym ends) ∙ sym second.answer_is,
-          λ said. same_end first.end one.0 one.1 (subst (λ (e : BootEnd). Booted also j m e) ends two.1) (subst IsSaid first.answer_is said),
+          λ said. same_end may first.end one.0 one.1 (subst (λ (e : BootEnd). Booted also j m e) ends two.1) (subst IsSaid first.answer_is said),
         )
 
   -- a line `boot`
-  pub boot_same : (calls also : Outcomes) → NoneFailed calls → NoneFailed also → (k j n m : Kept) (a b : Answer) → Same k j → IsSatisfied a → IsSatisfied b → IsRebooted calls host k a n → IsRebooted also host j b m → One n m a b
-  boot_same calls also calm calm_too k j n m a b same sated sated_too first second =
-      one_boot calls also calm calm_too k j n m a b same.alike same.memory.begun same.beside sated sated_too first second
+  pub boot_same : (may then : Type 0) → may → (calls also : Outcomes) → NoneFailed calls → NoneFailed also → (k j n m : Kept) (a b : Answer) → Same may k j → IsSatisfied a → IsSatisfied b → IsRebooted calls host k a n → IsRebooted also host j b m → One then n m a b
+  boot_same may then wanted calls also calm calm_too k j n m a b same sated sated_too first second =
+      one_boot calls also calm calm_too k j n m a b (same.alike wanted) same.memory.begun same.beside sated sated_too then first second
 
   -- a write puts the same blocks
   module _ (place : DriveBlock) (block : List ℕ) (beside_site : site_area host.site place.drive (place.block + 0) ≡ false) where
@@ -487,14 +491,14 @@ module _ (host : Host) (has : IsOfTable host) (once : AreOnce host.drives.slices
       | inr out ↦ put.elsewhere drive b out
     ]
 
-    pub put_same : (k j n m : Kept) → Same k j → n.memory ≡ k.memory → m.memory ≡ j.memory → ArePut place (block ∷ []) k.content n.content → ArePut place (block ∷ []) j.content m.content → Same n m
-    put_same k j n m same memory memory_too put put_too = record {
+    pub put_same : (may : Type 0) (k j n m : Kept) → Same may k j → n.memory ≡ k.memory → m.memory ≡ j.memory → ArePut place (block ∷ []) k.content n.content → ArePut place (block ∷ []) j.content m.content → Same may n m
+    put_same may k j n m same memory memory_too put put_too = record {
       memory = same_through n.memory k.memory j.memory m.memory memory memory_too same.memory;
       beside = λ drive b out. elim (both_ways (covers place.drive place.block 1 drive b)) [
         | inl here ↦ there n put (put_at place.drive place.block drive b here) ∙ sym (there m put_too (put_at place.drive place.block drive b here))
         | inr away ↦ put.elsewhere drive b away ∙ same.beside drive b out ∙ sym (put_too.elsewhere drive b away)
       ];
-      alike = alike_beside (Spells host.drives) (one_text host.drives) host.site ok k.content j.content n.content m.content (put_kept k.content n.content put) (put_kept j.content m.content put_too) same.alike;
+      alike = λ wanted. alike_beside (Spells host.drives) (one_text host.drives) host.site ok k.content j.content n.content m.content (put_kept k.content n.content put) (put_kept j.content m.content put_too) (same.alike wanted);
       formed = formed_as n.memory k.memory (ap (λ (x : Memory). x.entries) memory) same.formed;
       one = there_settled k n same.one (ap (λ (x : Memory). x.opened) memory) (put_kept k.content n.content put);
       other = there_settled j m same.other (ap (λ (x : Memory). x.opened) memory_too) (put_kept j.content m.content put_too);

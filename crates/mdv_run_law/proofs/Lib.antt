@@ -1,9 +1,14 @@
+pub mod Since
 mod Asked
 pub mod Looked
 pub mod Coming
 pub mod Deeds
 pub mod Made
 pub mod Owning
+pub mod Struck
+pub mod Gone
+pub mod Dropped
+pub mod Fair
 pub mod Turning
 pub mod Lining
 pub mod Booting
@@ -20,5 +25,6 @@ pub mod Ending
 pub mod Written
 pub mod Meaning
 pub mod Keeping
+pub mod Shifting
 pub mod Carrying
 pub mod Course

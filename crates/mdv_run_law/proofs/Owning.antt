@@ -1,11 +1,13 @@
 -- Whose databases a history of runs has: the host's own, each with the word of one of them.
-use Rattle.std.proofs.Common.{◌≡◌, inl, inr, ℕ, Bool, true, false, cond, ◌||◌, List, [], ◌∷◌, ◌++◌, Contains, sym, ◌∙◌, subst, arith}
+use Rattle.std.proofs.Common.{◌≡◌, inl, inr, ℕ, Bool, true, false, cond, ◌||◌, List, [], ◌∷◌, ◌++◌, Contains, if◌then◌else◌, sym, ◌∙◌, subst, arith}
 use Rattle.std.proofs.lemmas.List.Elements.{Contains-append_cases, Contains-append_left, Contains-append_right}
 use Rattle.std.specs.Str.{bytes_eq}
 use Rattle.mdv_base.specs.declared.refusal.Refusal.TheVariants.{IoFault}
-use Rattle.mdv_run_law.specs.Below.{Acknowledges, AreOwn, Ask, Command, Crashes, AddPlaces, Created, Deed, Event, Geometry, History, Host, Identity, IsOfRun, Key, Line, Local, MakeStripe, Print, Read, Script, Stops, Write, asked_by_line, at_end, history_after, history_after_all, is_front_of, issuable, issuable_front, issued_by, key_of, left_in, line, new_history, ok_line, refusal_line, replies_in, spent, too_long, Deletes, AddListed, DropPlaces}
+use Rattle.mdv_run_law.specs.Below.{Acknowledges, AreOwn, Ask, Command, Crashes, AddPlaces, Change, Changed, Created, Deed, Deleted, Event, Geometry, History, Host, Identity, IsOfRun, Key, Line, Local, MakeStripe, Print, Read, Script, Stops, Write, asked_by_line, at_end, history_after, history_after_all, is_front_of, issuable, issuable_front, issued_by, key_of, left_in, line, new_history, ok_line, refusal_line, replies_in, spent, too_long, Deletes, AddListed, DropPlaces}
 use Rattle.mdv_engine_law.specs.Line.{deeds}
-use Rattle.mdv_store_law.specs.Log.{Issue, OfCreation}
+use Rattle.mdv_store_law.specs.Changes.{FirstPlace}
+use Rattle.mdv_store_law.specs.Log.{Issue, OfChange, OfCreation, OfEnd, OfPlaces}
+use Rattle.mdv_store_law.proofs.Issues.{issue_weaker}
 use Rattle.mdv_store_law.specs.Machine.{AreAll}
 use Rattle.mdv_volumes.specs.Happening.{IsIssue, begins}
 use Rattle.mdv_volumes.specs.History.{Boots, Creation, OfDatabase, OfVolume, Reads, Shows}
@@ -96,16 +98,26 @@ module _ (host : Host) where
   its_none : its []
   its_none other has = absurd (omega (arith, has.1))
 
-  its_one : (deed : Deed) → ((other : Key) → deed ≡ Created other → other ≡ key_of host) → its (deed ∷ [])
-  its_one deed same other has = elim (first_or_behind deed (Created other) [] has) [ inl here ↦ same other here | inr none ↦ its_none other none ]
+  its_more_one : (deed : Deed) (asked : List Deed) → ((other : Key) → deed ≡ Created other → other ≡ key_of host) → its asked → its (deed ∷ asked)
+  its_more_one deed asked same rest other has = elim (first_or_behind deed (Created other) asked has) [ inl here ↦ same other here | inr behind ↦ rest other behind ]
+
+  its_made : (change : Change) → its (Created (key_of host) ∷ Changed (key_of host) change ∷ [])
+  its_made change = its_more_one (Created (key_of host)) (Changed (key_of host) change ∷ []) (λ other same. cc (same)) (its_more_one (Changed (key_of host) change) [] (λ other same. absurd (cc (same))) its_none)
+
+  -- of a line by which places go, too
+  its_dropped : (force : Bool) (change : Change) → its (Changed (key_of host) change ∷ (if force then Changed (key_of host) FirstPlace ∷ Deleted (key_of host) ∷ [] else []))
+  its_dropped true change =
+      its_more_one (Changed (key_of host) change) (Changed (key_of host) FirstPlace ∷ Deleted (key_of host) ∷ []) (λ other same. absurd (cc (same)))
+      (its_more_one (Changed (key_of host) FirstPlace) (Deleted (key_of host) ∷ []) (λ other same. absurd (cc (same))) (its_more_one (Deleted (key_of host)) [] (λ other same. absurd (cc (same))) its_none))
+  its_dropped false change = its_more_one (Changed (key_of host) change) [] (λ other same. absurd (cc (same))) its_none
 
   its_command : (command : Command) → its (deeds (asked_by_line host (words.Exec command)))
-  its_command (AddPlaces slices force count blocks) = its_one _ (λ other same. cc (same))
-  its_command (AddListed number force) = its_one _ (λ other same. cc (same))
-  its_command (DropPlaces slices force) = its_none
-  its_command (MakeStripe volume slice) = its_one _ (λ other same. absurd (cc (same)))
+  its_command (AddPlaces slices force count blocks) = its_made _
+  its_command (AddListed number force) = its_made _
+  its_command (DropPlaces slices force) = its_dropped force _
+  its_command (MakeStripe volume slice) = its_more_one _ [] (λ other same. absurd (cc (same))) its_none
   its_command (Read volume at count) = its_none
-  its_command (Write volume at block) = its_one _ (λ other same. absurd (cc (same)))
+  its_command (Write volume at block) = its_more_one _ [] (λ other same. absurd (cc (same))) its_none
   its_command (Print names) = its_none
 
   its_line : (spelled : Line) → its (deeds (asked_by_line host spelled))
@@ -145,35 +157,61 @@ module _ (host : Host) where
   its_begun (line text more) (reply ∷ replies) front begun are =
       subst its (sym are.4) (its_more (issuable are.0 reply) are.2 (its_issuable text reply are.0 are.1) (its_begun more replies front are.2 are.3))
 
+  -- a creation that is issued has the run's word
+  abbrev pub HasItsWord : Issue → Type 0
+  HasItsWord (OfCreation identity) = identity.fresh ≡ host.fresh
+  HasItsWord (OfChange change) = Unit {0}
+  HasItsWord (OfPlaces places) = Unit {0}
+  HasItsWord OfEnd = Unit {0}
+
+  word_of_run : (asks : List Deed) (i : Issue) → IsOfRun host asks i → HasItsWord i
+  word_of_run asks (OfCreation identity) is = is
+  word_of_run asks (OfChange change) is = tt
+  word_of_run asks (OfPlaces places) is = tt
+  word_of_run asks OfEnd is = tt
+
+  word_issued : (asks : List Deed) (es : List Event) → AreAll (IsIssue (IsOfRun host asks)) es → AreAll (IsIssue HasItsWord) es
+  word_issued asks [] are = tt
+  word_issued asks (Creation key identity ∷ es) are = (are.0, word_issued asks es are.1)
+  word_issued asks (OfDatabase key identity e ∷ es) are = (issue_weaker (IsOfRun host asks) HasItsWord (word_of_run asks) e are.0, word_issued asks es are.1)
+  word_issued asks (OfVolume key volume e ∷ es) are = (tt, word_issued asks es are.1)
+  word_issued asks (Reads key volume at blocks ∷ es) are = (tt, word_issued asks es are.1)
+  word_issued asks (Acknowledges place key volume at blocks ∷ es) are = (tt, word_issued asks es are.1)
+  word_issued asks (Shows place key volume at blocks ∷ es) are = (tt, word_issued asks es are.1)
+  word_issued asks (Deletes place key ∷ es) are = (tt, word_issued asks es are.1)
+  word_issued asks (Boots key up ∷ es) are = (tt, word_issued asks es are.1)
+  word_issued asks (Stops ∷ es) are = absurd are.0
+  word_issued asks (Crashes ∷ es) are = absurd are.0
+
   abbrev AreIssued : List Event → Type 0
-  AreIssued = AreAll (IsIssue (IsOfRun host))
+  AreIssued = AreAll (IsIssue HasItsWord)
 
   both_issued : (es first rest : List Event) → es ≡ first ++ rest → AreIssued first → AreIssued rest → AreIssued es
-  both_issued es first rest is one two = subst AreIssued (sym is) (all_both (IsIssue (IsOfRun host)) first rest one two)
+  both_issued es first rest is one two = subst AreIssued (sym is) (all_both (IsIssue HasItsWord) first rest one two)
 
   -- each creation that the events of a run's lines issue has its word
   work_issued : (front : List ℕ) (down : Context) (script : Script) (es : List Event) → InWork host front down script es → AreIssued es
-  work_issued front down at_end es work = work.issues
-  work_issued front down (spent lines bytes) es work = work.issues
-  work_issued front down (too_long more) es work = work.issues
+  work_issued front down at_end es work = word_issued [] es work.issues
+  work_issued front down (spent lines bytes) es work = word_issued [] es work.issues
+  work_issued front down (too_long more) es work = word_issued [] es work.issues
   work_issued front down (line text more) es (inl none) = subst AreIssued (sym none.1) tt
-  work_issued front down (line text more) es (inr work) = work.1.does.issues
+  work_issued front down (line text more) es (inr work) = word_issued (issuable_front work.1.ask front) es work.1.does.issues
 
   pub come_issued : (front : List ℕ) (down : Context) (script : Script) (replies : List (List ℕ)) (es : List Event) → ComeOf host (InWork host front) down script replies es → AreIssued es
   come_issued front down script [] es come = work_issued front down script es come
-  come_issued front down at_end (reply ∷ replies) es come = come.issues
-  come_issued front down (spent lines bytes) (reply ∷ replies) es come = come.issues
-  come_issued front down (too_long more) (reply ∷ replies) es come = both_issued es come.0 come.1 come.2 come.3.issues (come_issued front down more replies come.1 come.4)
-  come_issued front down (line text more) (reply ∷ replies) es come = both_issued es come.0 come.1 come.2 come.4.does.issues (come_issued front come.3 more replies come.1 come.6)
+  come_issued front down at_end (reply ∷ replies) es come = word_issued [] es come.issues
+  come_issued front down (spent lines bytes) (reply ∷ replies) es come = word_issued [] es come.issues
+  come_issued front down (too_long more) (reply ∷ replies) es come = both_issued es come.0 come.1 come.2 (word_issued [] come.0 come.3.issues) (come_issued front down more replies come.1 come.4)
+  come_issued front down (line text more) (reply ∷ replies) es come = both_issued es come.0 come.1 come.2 (word_issued (issuable come.4.ask reply) come.0 come.4.does.issues) (come_issued front come.3 more replies come.1 come.6)
 
   pub run_issued : (script : Script) (bytes : List ℕ) (es : List Event) → AreOfRun host script bytes es → AreIssued es
-  run_issued script bytes es run = both_issued es run.boot run.lines run.both run.idle.issues (come_issued (left_in bytes) _ script (replies_in bytes) run.lines run.come)
+  run_issued script bytes es run = both_issued es run.boot run.lines run.both (word_issued [] run.boot run.idle.issues) (come_issued (left_in bytes) _ script (replies_in bytes) run.lines run.come)
 
   -- so the databases that a run makes are the host's, with the run's word
-  pub run_makes : (script : Script) (bytes : List ℕ) (es : List Event) → AreOfRun host script bytes es → AreAll (Makes (IsOurs (IsOfRun host) (key_of host))) es
+  pub run_makes : (script : Script) (bytes : List ℕ) (es : List Event) → AreOfRun host script bytes es → AreAll (Makes (IsOurs HasItsWord (key_of host))) es
   run_makes script bytes es run =
       let answers = run_answers host script bytes es run in
-      all_issue (IsOfRun host) (key_of host) es (run_issued script bytes es run)
+      all_issue HasItsWord (key_of host) es (run_issued script bytes es run)
       (λ other has. its_begun script (replies_in bytes) (left_in bytes) answers.asked answers.are_asked other (part_contains (issued_by es) answers.asked (Created other) answers.begins has))
 
 -- a database of the host's that one of these runs made
@@ -190,7 +228,7 @@ module _ (drives : Geometry) (name : List ℕ) where
 
   one_makes : (run : Ran) (before : List Ran) (es : List Event) → OfHost name run (AreOfRun (host_of drives name run.fresh) run.script run.bytes es) (es ≡ []) → AreAll (Makes (IsOfRuns name (run ∷ before))) es
   one_makes run before es (inl own) =
-      all_make_weaker (IsOurs (IsOfRun (host_of drives name run.fresh)) (Local name)) (IsOfRuns name (run ∷ before)) (λ key identity is. (is.0, record { run = run; one_of = contains_first run before; of_host = own.0; word = sym is.1 })) es
+      all_make_weaker (IsOurs (HasItsWord (host_of drives name run.fresh)) (Local name)) (IsOfRuns name (run ∷ before)) (λ key identity is. (is.0, record { run = run; one_of = contains_first run before; of_host = own.0; word = sym is.1 })) es
       (run_makes (host_of drives name run.fresh) run.script run.bytes es own.1)
   one_makes run before es (inr other) = subst (AreAll (Makes (IsOfRuns name (run ∷ before)))) (sym other.1) tt
 

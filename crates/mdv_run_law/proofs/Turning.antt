@@ -3,7 +3,9 @@ use Rattle.std.proofs.Common.{◌≡◌, ◌⊎◌, inl, inr, ℕ, Bool, true, f
 use Rattle.std.specs.Str.{bytes_eq}
 use Rattle.std.proofs.lemmas.Slice.Eq.{bytes_eq-Decides}
 use Rattle.mdv_base.specs.declared.refusal.Refusal.TheVariants.{IoFault}
-use Rattle.mdv_run_law.specs.Below.{Drives, Script, too_long, line, Tale, Said, StaysHome, left_in, replies_in, Boot, IsLine, Deed, Event, Host, key_of, Ask, Nothing, Memory, IsFront, IsReply, Acks, AcksBy, AcksFront, AcksIn, is_front_of, issuable, issuable_front, issuable_in, issuable_of, ok_line, refusal_line, BootBegins, Does, Knows, TurnMoment, Turned}
+use Rattle.mdv_engine_law.specs.Standing.{HasMet}
+use Rattle.mdv_shelf.specs.Moments.{IsSince}
+use Rattle.mdv_run_law.specs.Below.{AddListed, AddPlaces, Command, DropPlaces, History, MakeStripe, Print, Read, Write, asked_by, Drives, Script, too_long, line, Tale, Said, StaysHome, left_in, replies_in, Boot, IsLine, Deed, Event, Host, key_of, Ask, Nothing, Memory, IsFront, IsReply, Acks, AcksBy, AcksFront, AcksIn, is_front_of, issuable, issuable_front, issuable_in, issuable_of, ok_line, refusal_line, BootBegins, Does, Knows, TurnMoment, Turned}
 use Rattle.mdv_run_law.specs.Standing.{AsksBy, AreIdle, AreOfLine, ComeOf, context_of, HasEntries, InWork, IsWanting, NothingLeft, AreReplies, behind, LinesMoment, RanTo}
 use Rattle.mdv_run_law.proofs.Coming.{behind_none, no_ok, in_work_none, come_line, come_long}
 use Rattle.mdv_shelf.proofs.Moments.{some_is}
@@ -19,32 +21,56 @@ reply_replies bytes is = record {
 pub only_reply : (bytes : List ℕ) → IsReply bytes → replies_in bytes ≡ bytes ∷ []
 only_reply bytes is = ap (λ (s : Said). s.replies) is.alone
 
+-- no boot begins with the line
+abbrev pub MeetsNone : Host → Ask → Tale → Type 0
+MeetsNone host ask t = (h : History) → HasMet host ask h t → ⊥
+
+-- so each history goes on
+pub went_on : {A : Type 0} (host : Host) (ask : Ask) (t : Tale) → MeetsNone host ask t → (h : History) → HasMet host ask h t ⊎ A → A
+went_on host ask t none h (inl met) = absurd (none h met)
+went_on host ask t none h (inr went) = went
+
+-- as where nothing is asked, or a command
+pub nothing_met : (host : Host) (t : Tale) → MeetsNone host Nothing t
+nothing_met host t h met = met
+
+pub command_met : (host : Host) (command : Command) (t : Tale) → MeetsNone host (asked_by host command) t
+command_met host (AddPlaces slices force count blocks) t h met = met
+command_met host (AddListed number force) t h met = met
+command_met host (DropPlaces slices force) t h met = met
+command_met host (MakeStripe volume slice) t h met = met
+command_met host (Read volume at count) t h met = met
+command_met host (Write volume at block) t h met = met
+command_met host (Print names) t h met = met
+
 -- one turn, told by the script before it
 module _ (host : Host) (script : Script) (ask : Ask) (old : Memory) (t : Tale) where
-  pub turn_lines : (m : Tale) (moment : TurnMoment host ask old t m) → ((es : List Event) → Does host (issuable_of ask moment.bytes) moment.done es → ComeOf host (InWork host (left_in moment.bytes)) (context_of old) script (replies_in moment.bytes) es)
+  pub turn_lines : MeetsNone host ask t → (m : Tale) → IsSince t m → (moment : TurnMoment host ask old t m) → ((es : List Event) → Does host (issuable_of ask moment.bytes) moment.done es → ComeOf host (InWork host (left_in moment.bytes)) (context_of old) script (replies_in moment.bytes) es)
       → LinesMoment host script old t m
-  turn_lines m moment come = record {
+  turn_lines none m since moment come = record {
     bytes = moment.bytes;
     is_told = moment.is_told;
+    since = since;
     home = moment.home;
     goes = λ h known.
-        let went = moment.goes h known in
-        record { es = went.es; course = went.course; come = come went.es went.come; stands = went.stands; after = tt };
+        let went = went_on host ask t none h (moment.goes h known) in
+        inr (record { es = went.es; course = went.course; come = come went.es went.come; stands = went.stands; after = tt });
   }
 
-  pub turn_ran : (new : Memory) (left : Script) (u : Tale) (turned : Turned host ask old new t u) → StaysHome host t u
+  pub turn_ran : MeetsNone host ask t → (new : Memory) (left : Script) (u : Tale) → IsSince t u → (turned : Turned host ask old new t u) → StaysHome host t u
       → (Knows host old t → (es : List Event) → Does host (issuable ask turned.bytes) turned.done es → ComeOf host (NothingLeft (context_of new)) (context_of old) script (replies_in turned.bytes) es)
       → behind script (replies_in turned.bytes) ≡ left → RanTo host script old new left t u
-  turn_ran new left u turned home come left_is = record {
+  turn_ran none new left u since turned home come left_is = record {
     bytes = turned.bytes;
     is_told = turned.is_told;
     replies = reply_replies turned.bytes turned.reply;
     left_is = left_is;
+    since = since;
     home = home;
     knows = turned.knows;
     goes = λ h known.
-        let went = turned.goes h known in
-        record { es = went.es; course = went.course; come = come known.knows went.es went.come; stands = went.stands; after = went.after };
+        let went = went_on host ask t none h (turned.goes h known) in
+        inr (record { es = went.es; course = went.course; come = come known.knows went.es went.come; stands = went.stands; after = went.after });
   }
 
 -- A line that isn't `boot`, or whose reply begins as the one that memory was wanting.
@@ -78,9 +104,9 @@ module _ (host : Host) (text : List ℕ) (ask : Ask) (more : Script) where
       subst (λ (s : Said). ComeOf host (InWork host s.left) (context_of old) (line text more) s.replies es) (sym one) (come_line host (InWork host []) (context_of old) None text more bytes es here (in_work_none host None more))
 
   -- A turn of a line that is no boot, or that memory was wanting to read.
-  pub line_moment : (old : Memory) (t m : Tale) (moment : TurnMoment host ask old t m) → AsksBy host text moment.bytes ask → IsNoBoot text moment.bytes → LinesMoment host (line text more) old t m
-  line_moment old t m moment asks other =
-      turn_lines host (line text more) ask old t m moment
+  pub line_moment : (old : Memory) (t m : Tale) → MeetsNone host ask t → IsSince t m → (moment : TurnMoment host ask old t m) → AsksBy host text moment.bytes ask → IsNoBoot text moment.bytes → LinesMoment host (line text more) old t m
+  line_moment old t m none since moment asks other =
+      turn_lines host (line text more) ask old t none m since moment
       (λ es does. front_come old moment.bytes asks moment.front moment.done moment.acks es does (λ boot ok. absurd (never_boots text moment.bytes other boot ok)))
 
   pub reply_come : (old new : Memory) (bytes : List ℕ) → AsksBy host text bytes ask → (is : IsReply bytes) (done : List Deed) → AcksBy ask bytes done → (es : List Event) → Does host (issuable ask bytes) done es → (IsLine text Boot → bytes ≡ ok_line → (up : Drives) × BootBegins (key_of host) up es)
@@ -98,9 +124,9 @@ module _ (host : Host) (text : List ℕ) (ask : Ask) (more : Script) where
       subst (λ (l : List (List ℕ)). ComeOf host (NothingLeft (context_of new)) (context_of old) (line text more) l es) (sym (only_reply bytes is)) (come_line host (NothingLeft (context_of new)) (context_of old) (context_of new) text more bytes es here (refl, refl))
 
   -- And one whose reply was told whole. What it leaves in memory may be known only where the drive is.
-  pub line_ran : (old new : Memory) (t u : Tale) (turned : Turned host ask old new t u) → StaysHome host t u → AsksBy host text turned.bytes ask → IsNoBoot text turned.bytes → (Knows host old t → HasEntries text turned.bytes (Some old.entries) new.entries) → RanTo host (line text more) old new more t u
-  line_ran old new t u turned home asks other leaves =
-      turn_ran host (line text more) ask old t new more u turned home
+  pub line_ran : (old new : Memory) (t u : Tale) → MeetsNone host ask t → IsSince t u → (turned : Turned host ask old new t u) → StaysHome host t u → AsksBy host text turned.bytes ask → IsNoBoot text turned.bytes → (Knows host old t → HasEntries text turned.bytes (Some old.entries) new.entries) → RanTo host (line text more) old new more t u
+  line_ran old new t u none since turned home asks other leaves =
+      turn_ran host (line text more) ask old t none new more u since turned home
       (λ knows es does. reply_come old new turned.bytes asks turned.reply turned.done turned.acks es does (λ boot ok. absurd (never_boots text turned.bytes other boot ok)) (leaves knows))
       (ap (behind (line text more)) (only_reply turned.bytes turned.reply) ∙ behind_none more)
 
@@ -136,12 +162,12 @@ module _ (host : Host) (more : Script) (old : Memory) where
     by (inl none) quiet = subst (λ (s : Said). ComeOf host (InWork host s.left) (context_of old) (too_long more) s.replies es) (sym none) quiet
     by (inr one) quiet = subst (λ (s : Said). ComeOf host (InWork host s.left) (context_of old) (too_long more) s.replies es) (sym one) (come_long host (InWork host []) (context_of old) more bytes es quiet (in_work_none host (context_of old) more))
 
-  pub long_moment : (t m : Tale) → TurnMoment host Nothing old t m → LinesMoment host (too_long more) old t m
-  long_moment t m moment = turn_lines host (too_long more) Nothing old t m moment (long_come moment.bytes moment.front moment.done moment.acks)
+  pub long_moment : (t m : Tale) → IsSince t m → TurnMoment host Nothing old t m → LinesMoment host (too_long more) old t m
+  long_moment t m since moment = turn_lines host (too_long more) Nothing old t (nothing_met host t) m since moment (long_come moment.bytes moment.front moment.done moment.acks)
 
-  pub long_ran : (t u : Tale) → Turned host Nothing old old t u → StaysHome host t u → RanTo host (too_long more) old old more t u
-  long_ran t u turned home =
-      turn_ran host (too_long more) Nothing old t old more u turned home
+  pub long_ran : (t u : Tale) → IsSince t u → Turned host Nothing old old t u → StaysHome host t u → RanTo host (too_long more) old old more t u
+  long_ran t u since turned home =
+      turn_ran host (too_long more) Nothing old t (nothing_met host t) old more u since turned home
       (λ knows es does. subst (λ (l : List (List ℕ)). ComeOf host (NothingLeft (context_of old)) (context_of old) (too_long more) l es) (sym (only_reply turned.bytes turned.reply))
       (come_long host (NothingLeft (context_of old)) (context_of old) more turned.bytes es (idle (issuable Nothing turned.bytes) turned.done (none_issuable_by turned.bytes) turned.acks es does) (refl, refl)))
       (ap (behind (too_long more)) (only_reply turned.bytes turned.reply) ∙ behind_none more)

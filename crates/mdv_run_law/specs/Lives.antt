@@ -1,17 +1,25 @@
 -- Lives: any number of runs on the same drives, each but the first begun on what the one before left, or a crash in it.
 use Rattle.std.specs.Prelude.{◌≡◌, ◌≢◌, ◌⊎◌, ◌<◌, ℕ, List, [], ◌∷◌, ◌++◌, reverse, None, Some, Contains, true}
-use Rattle.mdv_run_law.specs.Below.{Acknowledges, Among, AreMade, BootedTo, Change, Changed, Crashes, Created, Deed, Drives, Event, Geometry, Happening, HasNoReplica, HasNoTableOn, Host, Identity, Image, IsKnown, IsNamed, IsSound, Key, Lasts, Local, Map, Memory, Opened, Script, ShowsNoTable, SliceLine, Spells, StandsAt, Stops, Table, Tale, Version, VolId, history_after, history_after_all, last, left_in, log_of, new_history, own_view, readings, replies_in, restarted, site_of}
+use Rattle.mdv_run_law.specs.Below.{Acknowledges, Among, AreMade, BootedTo, Change, Changed, Crashes, Created, Deed, Drives, Event, Geometry, Happening, HasNoReplica, HasNoTableOn, Host, Identity, Image, IsKnown, IsNamed, IsSound, Key, Lasts, Local, Map, Memory, Opened, Script, ShowsNoTable, SliceLine, SliceName, Spells, StandsAt, Stops, Table, Tale, Version, VolId, history_after, history_after_all, last, left_in, log_of, new_history, own_view, readings, replies_in, restarted, site_of, told}
 use Rattle.mdv_store_law.specs.Machine as machine
+use Rattle.mdv_shelf.specs.Moments.{IsSince}
+use Rattle.mdv_store_law.specs.Changes.{OfPlan}
+use Rattle.mdv_store_law.specs.Changes as changes
 use Rattle.mdv_store_law.specs.Log.{changes_of}
 use Rattle.mdv_survey.specs.Choice.{IsChoice}
 use Rattle.mdv_survey.specs.Survey.{IsSurvey, IsSurveyOf, answers_in}
 use Rattle.mdv_survey.specs.declared.choosing.Choice.TheVariants as chosen
 use Rattle.mdv_survey.specs.declared.replica.Survey.{Survey}
+use Rattle.mdv_table.specs.declared.change.Change.{Change as PlanChange}
 use Rattle.mdv_volumes.specs.HistoryLaws.{database_deeds}
 use Rattle.mdv_volumes.specs.Standing.{LeavesNoMore}
 use Rattle.mdv_run_law.specs.Run.{IsOfTable}
 use Rattle.mdv_store_law.specs.Part.{IsPart}
-use Rattle.mdv_run_law.specs.Standing.{RunMoment, AreBegun, AreIdle, AreOfRun, AreTold, IsTold}
+use Rattle.mdv_engine_law.specs.Standing.{MeetsStaleAt}
+use Rattle.mdv_volumes.specs.Happening.{issued_by, told_by}
+use Rattle.mdv_volumes.specs.History.{Creation, Deleted, Deletes}
+use Rattle.mdv_volumes.specs.HistoryLaws.{KeepDatabase}
+use Rattle.mdv_run_law.specs.Standing.{RunMoment, AreBegun, AreIdle, AreOfRun, AreTold, HasMetInRun, IsTold}
 
 -- a host's run, told by the word that its databases' identities have: it sees what is its own of the table of drives
 abbrev pub host_of : Geometry → List ℕ → ℕ → Host
@@ -53,12 +61,6 @@ pub record HasWord (name : List ℕ) (ran : List Ran) (fresh : ℕ) : Type 0 whe
 abbrev pub IsFair : List Ran → Type 0
 IsFair [] = Unit {0}
 IsFair (ran ∷ before) = IsNewWord ran.host ran.fresh before × IsFair before
-
--- a life of sound drives, in which each run of a host had a word of its own
-pub record IsLife (drives : Geometry) (made : Image) (ran : List Ran) (t : Tale) : Type 0 where
-  pub sound : IsSound drives
-  pub life : Life drives made ran t
-  pub fair : IsFair ran
 
 -- what happens between two runs: the one ends, and where there was a crash drives begin anew
 abbrev pub IsBetween : List Event → Type 0
@@ -104,6 +106,31 @@ pub record IsHistoryOf (drives : Geometry) (name : List ℕ) (made : Image) (ran
   pub come : AreOfRuns drives name ran es
   pub stands : StandsAt (host_of drives name 0) (history_after_all new_history es) t
 
+-- None of the boots of a run up to that moment met a stale vote, however the history of the runs before it is told.
+abbrev pub HasMetNone : Geometry → List ℕ → List Ran → ℕ → Script → Tale → Tale → Type 0
+HasMetNone drives name ran fresh script t m =
+    (made : Image) (history : IsHistoryOf drives name made ran t) → HasMetInRun (host_of drives name fresh) script t m (history_after_all new_history history.es) → ⊥
+
+-- nor does one that begins there
+abbrev pub BootMeetsNone : Geometry → List ℕ → List Ran → ℕ → Tale → Type 0
+BootMeetsNone drives name ran fresh t = (made : Image) (history : IsHistoryOf drives name made ran t) → MeetsStaleAt (host_of drives name fresh) (history_after_all new_history history.es) t → ⊥
+
+-- so it is of each run of a life
+abbrev pub HaveMetNone : {drives : Geometry} {made : Image} {ran : List Ran} {t : Tale} → Life drives made ran t → Type 0
+HaveMetNone (new_drives told none) = Unit {0}
+HaveMetNone {drives} (run_on ran name fresh t m next script life one_of moment found) = HaveMetNone life × HasMetNone drives name ran fresh script t m
+
+-- a life of sound drives, in which each run of a host had a word of its own, and no boot met a stale vote
+pub record IsLife (drives : Geometry) (made : Image) (ran : List Ran) (t : Tale) : Type 0 where
+  pub sound : IsSound drives
+  pub life : Life drives made ran t
+  pub fair : IsFair ran
+  pub clean : HaveMetNone life
+
+-- a line of one of the host's runs may have begun an end of its database
+abbrev pub MayHaveEnded : Geometry → List ℕ → List Ran → Type 0
+MayHaveEnded drives name ran = (asked : List Deed) × AreAsked drives name ran asked × Contains asked (Deleted (Local name))
+
 -- over every life there is one
 abbrev pub LivesStand : Type 0
 LivesStand = (drives : Geometry) (name : List ℕ) (made : Image) (ran : List Ran) (t : Tale) → Contains drives.hosts name → IsLife drives made ran t → IsHistoryOf drives name made ran t
@@ -112,9 +139,26 @@ LivesStand = (drives : Geometry) (name : List ℕ) (made : Image) (ran : List Ra
 abbrev pub HostsSee : Type 0
 HostsSee = (drives : Geometry) (name : List ℕ) (made : Image) (ran : List Ran) (t : Tale) (fresh : ℕ) → Contains drives.hosts name → IsLife drives made ran t → IsOfTable (host_of drives name fresh)
 
+-- The events since a creation of the key's database last began, or all, where none did. What was told of it before that is struck: nothing was, where no end of it began.
+pub record IsSinceCreation (key : Key) (es : List Event) : Type 0 where
+  pub first : List Event
+  pub since : List Event
+  pub parts : es ≡ first ++ since
+  pub created : (first ≡ []) ⊎ ((before : List Event) × (identity : Identity) × (first ≡ before ++ Creation key identity ∷ []))
+  pub none : Contains (issued_by since) (Created key) → ⊥
+  pub struck : KeepDatabase key first → database_deeds key (told_by first) ≡ []
+
+-- A deletion of the key's database was told, and no creation of another was begun since.
+pub record IsGone (key : Key) (es : List Event) : Type 0 where
+  pub before : List Event
+  pub later : List Event
+  pub place : ℕ
+  pub parts : es ≡ before ++ Deletes place key ∷ later
+  pub none : Contains (issued_by later) (Created key) → ⊥
+
 -- What a boot of the host that began there has adopted, as one that was answered leaves it in memory: the table is one of a history of these runs and this boot, made by the changes that the
 -- history has for it, the newest first. Lines of these runs asked them, in their order and each once, and what was told of each of these lines is `ok`, or that a call failed, or a
--- front of one of these, as nothing told is; and all that were told ok are among them, in the order in which they were told.
+-- front of one of these, as nothing told is; and all that were told ok since the database was last created are among them, in the order in which they were told: all that ever were, where no line may have begun an end of it.
 pub record HasToldChanges (drives : Geometry) (name : List ℕ) (made : Image) (ran : List Ran) (t : Tale) (fresh : ℕ) (memory : Memory) (u : Tale) (table : Table) : Type 0 where
   pub history : IsHistoryOf drives name made ran t
   pub boot : List Event
@@ -124,10 +168,12 @@ pub record HasToldChanges (drives : Geometry) (name : List ℕ) (made : Image) (
   pub one_of : Contains (log_of (history_after_all new_history (history.es ++ boot)).databases (Local name)).family version
   pub is_table : version.table ≡ table
   pub by : AreMade (own_view drives name) version.changes table
-  pub told : (change : Change) → HaveSaid drives name ran (Changed (Local name) change) → Contains version.changes change
+  pub since : IsSinceCreation (Local name) (history.es ++ boot)
+  pub told_since : IsPart (changes_in (Local name) (told_by since.since)) (reverse version.changes)
+  pub told : (MayHaveEnded drives name ran → ⊥) → (change : PlanChange) → HaveSaid drives name ran (Changed (Local name) (OfPlan change)) → Contains version.changes (OfPlan change)
   pub said : List Deed
   pub are_said : AreSaid drives name ran said
-  pub all_said : IsPart (changes_in (Local name) said) (reverse version.changes)
+  pub all_said : (MayHaveEnded drives name ran → ⊥) → IsPart (changes_in (Local name) said) (reverse version.changes)
   pub asked : List Deed
   pub are_asked : AreAsked drives name ran asked
   pub all_asked : IsPart (reverse version.changes) (changes_in (Local name) asked)
@@ -147,25 +193,63 @@ pub record BootFinds (drives : Geometry) (name : List ℕ) (up : Drives) (conten
 abbrev pub HasReadAll : Geometry → List ℕ → Drives → Survey → Type 0
 HasReadAll drives name up survey = (line : SliceLine) → Contains (site_of (own_view drives name) (Local name)).lines line → answers_in up survey.failed line.at.drive ≡ true
 
--- Once a creation was told ok, some replica shows a table of the host's database, one that a run of the host made, whatever was run and crashed since, so a boot that reads all drives
--- finds a table; no boot finds two databases, whatever it reads; and the table that a boot adopts has every change that was told ok.
+-- As long as no line may have begun an end of the host's database: once a creation was told ok, some replica shows a table of it, one that a run of the host made, whatever was run and crashed since, so a boot that reads all drives
+-- finds a table; and no boot finds two databases, whatever it reads. The table that a boot adopts has every change that was told ok since the last creation behind such an end. Behind a deletion of the last places that was told ok no boot
+-- adopts a database, till another may have been created, if it meets no stale vote.
 pub record DatabaseIsFound : Type 0 where
-  pub found : (drives : Geometry) (name : List ℕ) (made : Image) (ran : List Ran) (t : Tale) → Contains drives.hosts name → IsLife drives made ran t → HaveSaid drives name ran (Created (Local name)) → HasNoTableOn (own_view drives name) (Local name) (last t) → ⊥
-  pub made : (drives : Geometry) (name : List ℕ) (made : Image) (ran : List Ran) (t : Tale) → Contains drives.hosts name → IsLife drives made ran t → HaveSaid drives name ran (Created (Local name)) → ShowsOwn drives name ran (last t)
+  pub found : (drives : Geometry) (name : List ℕ) (made : Image) (ran : List Ran) (t : Tale) → Contains drives.hosts name → IsLife drives made ran t → HaveSaid drives name ran (Created (Local name)) → (MayHaveEnded drives name ran → ⊥) → HasNoTableOn (own_view drives name) (Local name) (last t) → ⊥
+  pub made : (drives : Geometry) (name : List ℕ) (made : Image) (ran : List Ran) (t : Tale) → Contains drives.hosts name → IsLife drives made ran t → HaveSaid drives name ran (Created (Local name)) → (MayHaveEnded drives name ran → ⊥) → ShowsOwn drives name ran (last t)
   pub not_empty : (drives : Geometry) (name : List ℕ) (made : Image) (ran : List Ran) (t : Tale) (up : Drives) (survey : Survey) → Contains drives.hosts name → IsLife drives made ran t
-      → HaveSaid drives name ran (Created (Local name)) → BootFinds drives name up (last t) survey → HasReadAll drives name up survey → survey.newest ≡ None → ⊥
-  pub one : (drives : Geometry) (name : List ℕ) (made : Image) (ran : List Ran) (t : Tale) (up : Drives) (survey : Survey) (a b : Identity) → Contains drives.hosts name → IsLife drives made ran t
+      → HaveSaid drives name ran (Created (Local name)) → (MayHaveEnded drives name ran → ⊥) → BootFinds drives name up (last t) survey → HasReadAll drives name up survey → survey.newest ≡ None → ⊥
+  pub one : (drives : Geometry) (name : List ℕ) (made : Image) (ran : List Ran) (t : Tale) (up : Drives) (survey : Survey) (a b : Identity) → Contains drives.hosts name → IsLife drives made ran t → (MayHaveEnded drives name ran → ⊥)
       → BootFinds drives name up (last t) survey → IsChoice survey (chosen.TwoDatabases a b) → ⊥
   pub table : (drives : Geometry) (name : List ℕ) (made : Image) (ran : List Ran) (t u : Tale) (fresh : ℕ) (memory : Memory) (o : Opened) → Contains drives.hosts name → IsLife drives made ran t → IsNewWord name fresh ran
-      → BootedTo (host_of drives name fresh) memory t u → memory.begun ≡ 0 → memory.opened ≡ Some o → HasToldChanges drives name made ran t fresh memory u o.table
+      → BootMeetsNone drives name ran fresh t → BootedTo (host_of drives name fresh) memory t u → memory.begun ≡ 0 → memory.opened ≡ Some o → HasToldChanges drives name made ran t fresh memory u o.table
+  pub gone : (drives : Geometry) (name : List ℕ) (made : Image) (ran : List Ran) (t u : Tale) (fresh : ℕ) (memory : Memory) → Contains drives.hosts name → (history : IsHistoryOf drives name made ran t) → IsGone (Local name) history.es
+      → IsNewWord name fresh ran → BootMeetsNone drives name ran fresh t → BootedTo (host_of drives name fresh) memory t u → memory.begun ≡ 0 → memory.opened ≡ None
 
 -- Each block of a volume that a boot may find reads as one of the values that a history of these runs has for it. Of a write that was told that is its value,
--- whatever happened since, or one that was issued since it was answered.
+-- whatever happened since, or one that was issued since it was answered, until an end of the database begins.
 pub record BlocksAre (drives : Geometry) (name : List ℕ) (made : Image) (ran : List Ran) (t : Tale) : Type 0 where
   pub history : IsHistoryOf drives name made ran t
   pub reads : (volume : VolId) (v : Map) → IsNamed (own_view drives name) (history_after_all new_history history.es).databases (Local name) volume v
       → (b : ℕ) (x : List ℕ) → b < v.blocks → Among (readings v (last t) b) x → Among ((history_after_all new_history history.es).volumes (Local name) volume b).reads x
-  pub lasts : (es later : List Event) (place : ℕ) (key : Key) (volume : VolId) (at : ℕ) (blocks : List (List ℕ)) → history.es ≡ es ++ Acknowledges place key volume at blocks ∷ later → Lasts new_history es later place key volume at blocks
+  pub lasts : (es later : List Event) (place : ℕ) (key : Key) (volume : VolId) (at : ℕ) (blocks : List (List ℕ)) → history.es ≡ es ++ Acknowledges place key volume at blocks ∷ later → KeepDatabase key later → Lasts new_history es later place key volume at blocks
 
 abbrev pub BlocksHold : Type 0
 BlocksHold = (drives : Geometry) (name : List ℕ) (made : Image) (ran : List Ran) (t : Tale) → Contains drives.hosts name → IsLife drives made ran t → BlocksAre drives name made ran t
+
+-- A change drops places of the slice: the first place alone may be left on any.
+abbrev pub DropsFrom : Change → SliceName → Type 0
+DropsFrom (OfPlan change) slice = ⊥
+DropsFrom (changes.AddPlaces slices count blocks) slice = ⊥
+DropsFrom (changes.AddListed number) slice = ⊥
+DropsFrom (changes.DropPlaces slices) slice = Contains slices slice
+DropsFrom changes.FirstPlace slice = Unit {0}
+
+-- it adds some there: what an entry says may be on any
+abbrev pub AddsTo : Change → SliceName → Type 0
+AddsTo (OfPlan change) slice = ⊥
+AddsTo (changes.AddPlaces slices count blocks) slice = Contains slices slice
+AddsTo (changes.AddListed number) slice = Unit {0}
+AddsTo (changes.DropPlaces slices) slice = ⊥
+AddsTo changes.FirstPlace slice = ⊥
+
+-- one of these deeds drops places of the slice
+abbrev pub MayHaveDropped : Key → List Deed → SliceName → Type 0
+MayHaveDropped key deeds slice = (change : Change) × Contains deeds (Changed key change) × DropsFrom change slice
+
+-- no change among these adds places on a slice from which an earlier one drops some
+abbrev pub AddsNoneAgain : Key → List Deed → Type 0
+AddsNoneAgain key asked = (before behind : List Deed) (change : Change) (slice : SliceName) → asked ≡ before ++ Changed key change ∷ behind → AddsTo change slice → MayHaveDropped key before slice → ⊥
+
+-- So it is of what the lines of these runs may have begun, in order, with those of one more run that began there and came so far, at each moment of it.
+abbrev pub LinesAddNoneAgain : Geometry → List ℕ → List Ran → ℕ → Script → Tale → Tale → Type 0
+LinesAddNoneAgain drives name ran fresh script t m =
+    (earlier : List Deed) → AreAsked drives name ran earlier
+    → AddsNoneAgain (Local name) earlier
+    × ((began : Tale) (bytes : List ℕ) (now : List Deed) → IsSince t began → IsSince began m → told began ≡ told t ++ bytes → AreBegun (host_of drives name fresh) script (replies_in bytes) (left_in bytes) now → AddsNoneAgain (Local name) (earlier ++ now))
+
+-- then no boot of that run meets a stale vote
+abbrev pub FairLinesMeetNone : Type 0
+FairLinesMeetNone = (drives : Geometry) (name : List ℕ) (ran : List Ran) (fresh : ℕ) (script : Script) (t m : Tale) → LinesAddNoneAgain drives name ran fresh script t m → HasMetNone drives name ran fresh script t m

@@ -7,6 +7,7 @@ use Rattle.mdv_shelf.specs.Failing.{AreCalm, Outcomes}
 use Rattle.mdv_home.specs.View.{own_view}
 use Rattle.mdv_name.specs.declared.geometry.Geometry.{Geometry}
 use Rattle.mdv_shelf.specs.Made.{Made, made_between}
+use Rattle.mdv_shelf.specs.Moments.{IsSince}
 use Rattle.mdv_shelf.specs.Settle.{IsSynced}
 use Rattle.mdv_run_law.specs.Below.{Image, IsOpenedAt, Local, Rose, BadLine, LineTooLong, OutOfMemory, Script, key_of, at_end, spent, too_long, line, Part, OnDrive, OnReplies, Tale, told, replies_in, IsSound, Line, IsLine, Answer, Host, site_of, Kept, IsSame, IsSameBeside, ComesTo, IsRebooted, IsTurnedDown, SliceLine, contents, meant, unbooted}
 use Rattle.mdv_shelf.specs.Story.{Effort, Tally, Moment, Story, Mark, marked, AtEach, InTime, tale_of}
@@ -16,15 +17,16 @@ use Rattle.mdv_engine_law.specs.declared.answer.Ended.{Ended}
 use Rattle.mdv_engine_law.specs.declared.answer.Ended.TheVariants as stop
 use Rattle.mdv_engine_law.specs.declared.answer.Outcome.TheVariants as outcome
 pub use Rattle.mdv_engine_law.specs.Answers.{IsMereRefusal, IsSaid}
+use Rattle.mdv_base.specs.declared.refusal.Refusal.TheVariants.{IoFault}
 use Rattle.mdv_engine_law.specs.Answers.{EndsUnwritten, accepted, refusing}
+use Rattle.mdv_engine_law.specs.Refusals.{refusal_of}
 use Rattle.mdv_engine_law.specs.Line.{Memory}
-use Rattle.mdv_engine_law.specs.Awake.{Happening}
-use Rattle.mdv_engine_law.specs.Standing.{IsKnown, IsOfRun, LeavesDone, LineWrites, StandsAt}
-use Rattle.mdv_store_law.specs.Machine as machine
-use Rattle.mdv_volumes.specs.Happening.{IsIssue}
-use Rattle.mdv_volumes.specs.History.{History, history_after}
+use Rattle.mdv_engine_law.specs.Standing.{BootedTo, LeavesDone, LeavesTorn, LineWrites}
+pub use Rattle.mdv_run_law.specs.Standing.{IsNoCommand}
+use Rattle.mdv_run_law.specs.Standing.{RanTo}
 use Rattle.mdv_words.specs.Line.{Boot, Exec}
 use Rattle.mdv_words.specs.declared.command.Command.{Command}
+use Rattle.mdv_words.specs.declared.command.Command.TheVariants.{AddPlaces, DropPlaces}
 use Rattle.mdv_shelf.specs.Area.{KeptOutside, nowhere}
 use Rattle.mdv_shown.specs.Site.{site_area}
 use Rattle.mdv_engine_law.specs.Efforts.{BootCalls, LineCalls, NoCalls, replied_to}
@@ -87,10 +89,6 @@ replies_failed now later = Rose now.replies later.replies
 -- one giving of replies failed
 abbrev pub giving_failed : Counts → Counts → Type 0
 giving_failed now later = RoseOnce now.replies later.replies
-
--- no item that is built: the grammar doesn't have the line, or it isn't carried out yet
-abbrev pub IsNoCommand : List ℕ → Type 0
-IsNoCommand text = (spelled : Line) → IsLine text spelled → ⊥
 
 -- nothing is done, for memory was wanting to read it
 abbrev pub IsUnread : Outcomes → Kept → Answer → Kept → Type 0
@@ -194,9 +192,9 @@ abbrev pub AreSynced : Host → Outcomes → Tale → Type 0
 AreSynced host calls u = (drive : DriveNo) → Contains host.site.drives drive → ((calls drive.0).some → ⊥) → IsSynced drive.0 u
 
 -- What a line with this text leaves that was told `ok`, where its calls came out so and this was in memory: a write its blocks on the disk, with all that the drive was
--- given before; a creation its replica at each of its places, whatever a crash leaves, where it names an entry those that the kept one says; and `boot` each of the host's own drives synced on which no call failed.
+-- given before; replicas that come one at each of their places, whatever a crash leaves, where it names an entry those that the kept one says; those that go nothing there, but on drives on which a call failed; and `boot` each of the host's own drives synced on which no call failed.
 pub record TextLeaves (calls : Outcomes) (host : Host) (memory : Memory) (text : List ℕ) (u : Tale) : Type 0 where
-  pub done : (command : Command) → IsLine text (Exec command) → LeavesDone host memory (meant memory.entries command) u
+  pub done : (command : Command) → IsLine text (Exec command) → LeavesDone calls host memory (meant memory.entries command) u
   pub synced : IsLine text Boot → AreSynced host calls u
 
 -- and the next line of a script
@@ -204,13 +202,22 @@ abbrev pub NextLeaves : Outcomes → Host → Memory → Script → Tale → Typ
 NextLeaves calls host memory (line text rest) u = TextLeaves calls host memory text u
 NextLeaves calls host memory other u = Unit {0}
 
--- each history that is known before is led to one that is known behind, by events of the run: none ends it, and each creation has its word
-abbrev pub Leads : Host → Memory → Memory → Tale → Tale → Type 0
-Leads host old new t u = (h : History) → IsKnown host old h t → machine.Goes history_after (Happening host) (machine.AreAll (IsIssue (IsOfRun host))) (λ g. StandsAt host g u) (λ es after. IsKnown host new after u) h
+-- what a line with this text leaves that a failed call ended: a deletion of all places none of its wipes undone by a crash, but on drives on which a call failed
+abbrev pub TextTorn : Outcomes → Host → Memory → List ℕ → Tale → Type 0
+TextTorn calls host memory text u = (command : Command) → IsLine text (Exec command) → LeavesTorn calls host memory (meant memory.entries command) u
 
--- by such an answer, behind which this is in memory, a line wrote nothing: a refusal for another cause than a failed call, or that of a boot which found nothing
-abbrev pub IsUnwritten : Answer → Memory → Type 0
-IsUnwritten answer next = IsMereRefusal answer ⊎ ((answer ≡ accepted) × (next.opened ≡ None))
+abbrev pub NextTorn : Outcomes → Host → Memory → Script → Tale → Type 0
+NextTorn calls host memory (line text rest) u = TextTorn calls host memory text u
+NextTorn calls host memory other u = Unit {0}
+
+-- the next line is `boot`
+abbrev pub NextBoots : Script → Type 0
+NextBoots (line text more) = IsLine text Boot
+NextBoots other = ⊥
+
+-- By such an answer, behind which this is in memory, a line wrote nothing: a refusal for another cause than a failed call, or, where it is `boot`, that of one which found nothing.
+abbrev pub IsUnwritten : Type 0 → Answer → Memory → Type 0
+IsUnwritten boots answer next = IsMereRefusal answer ⊎ (boots × (answer ≡ accepted) × (next.opened ≡ None))
 
 -- A line that was answered, and whose reply was told whole: by as many calls as it takes, and one, by which no block was written but those that it may write, none where it was
 -- refused for another cause than a failed call, nor by a boot that found nothing; and a write that was told `ok` is on the disk, a creation that was told it has a replica at each of its places, and behind
@@ -220,9 +227,10 @@ pub record LineTold (host : Host) (now : At) (piece : List ℕ) (later : At) : T
   pub comes : NextLine host now.counts now.kept now.script answer later.counts later.kept later.script
   pub calls : NextCalls (drive_failures now.counts later.counts) (replied_to answer (made_between now.effort later.effort)) host now.kept now.script answer later.kept
   pub writes : FromTo (NextWrites host now.kept.memory now.script) now.story later.story
-  pub unwritten : IsUnwritten answer later.kept.memory → FromTo (KeptOutside nowhere) now.story later.story
+  pub unwritten : IsUnwritten (NextBoots now.script) answer later.kept.memory → FromTo (KeptOutside nowhere) now.story later.story
   pub leaves : answer ≡ accepted → FromTo (λ t u. NextLeaves (drive_failures now.counts later.counts) host now.kept.memory now.script u) now.story later.story
-  pub leads : FromTo (Leads host now.kept.memory later.kept.memory) now.story later.story
+  pub torn : answer ≡ refusing IoFault → FromTo (λ t u. NextTorn (drive_failures now.counts later.counts) host now.kept.memory now.script u) now.story later.story
+  pub leads : FromTo (RanTo host now.script now.kept.memory later.kept.memory later.script) now.story later.story
   pub said : IsSaid answer
   pub as_text : piece ≡ text_of answer
   pub as_refused : later.refused ≡ refused_by answer now.refused
@@ -355,7 +363,8 @@ RunsFrom host stretch end (Ends over) later by kept script told status last = (e
 
 -- A whole run, from these counts to those: the boot answers from what the drive's blocks held, by as many calls as that takes, excused by the one that failed until the counts `booted`, and
 -- the script is run from there. They are those of a point of the run, by which the drive's blocks read as the boot left them: the first of the points between two lines, each of which is
--- behind the one before. A boot that found no database, or ended the run without being lost, wrote no block.
+-- behind the one before. A boot that found no database, or ended the run without being lost, wrote no block. One that was answered led each history that the drives stood with
+-- to one that is known with what is in memory.
 pub record IsRun (host : Host) (stretch : Stretch) (start end : Counts) (content : Image) (script : Script) (told : List ℕ) (status : RunStatus) (last : Kept) : Type 0 where
   pub answer : Answer
   pub booted : Counts
@@ -367,10 +376,12 @@ pub record IsRun (host : Host) (stretch : Stretch) (start end : Counts) (content
   pub writes : FromTo (KeptOutside (site_area host.site)) stretch.old by.story
   pub unwritten : EndsUnwritten answer ⊎ ((answer ≡ accepted) × (kept.memory.opened ≡ None)) → FromTo (KeptOutside nowhere) stretch.old by.story
   pub point : IsPoint stretch start.source booted by kept.content
+  pub leads : answer ≡ accepted → FromTo (λ t u. BootedTo host kept.memory t u × IsSince t u) stretch.old by.story
   pub runs : RunsFrom host stretch end answer booted by kept script told status last
 
 -- Of the next line's reply nothing was told by that moment, or a front: of the reply to what it came to, where each drive had failed so often, and its blocks read as
--- the line left them; none was written, where the whole reply was told, and is a refusal for another cause than a failed call.
+-- the line left them; none was written, where the whole reply was told, and is a refusal for another cause than a failed call; and where the whole reply was told the line led to what it came to,
+-- as once it is over: each history that was known before it is known with what is in memory behind it.
 pub record NextFront (host : Host) (now : At) (told : List ℕ) (m : Moment) : Type 0 where
   pub answer : Answer
   pub later : Counts
@@ -382,6 +393,7 @@ pub record NextFront (host : Host) (now : At) (told : List ℕ) (m : Moment) : T
   pub count : ℕ
   pub front : told ≡ take count (text_of answer)
   pub unwritten : told ≡ text_of answer → IsMereRefusal answer → (s : Story) → now.story ≡ Some s → KeptOutside nowhere (tale_of s) m.tale
+  pub led : told ≡ text_of answer → IsSaid answer → (s : Story) → now.story ≡ Some s → RanTo host now.script now.kept.memory next.memory more (tale_of s) m.tale
 
 abbrev pub IsNextFront : Host → At → List ℕ → Moment → Type 0
 IsNextFront host now told m = (told ≡ []) ⊎ NextFront host now told m
@@ -458,9 +470,36 @@ pub record IsOfTable (host : Host) : Type 0 where
 abbrev pub AreOnce : List SliceLine → Type 0
 AreOnce lines = AllPairs (λ (a b : SliceLine). a ≡ b → ⊥) lines
 
--- where nothing failed and memory was never wanting, the drives' blocks and the script settle what is told, the status, and, where the run isn't
--- over for want of places, numbers or memory, or for two databases, what is in memory at the end and in each block that no replica may have
+-- no line of the script boots
+abbrev pub NeverBoots : Script → Type 0
+NeverBoots at_end = Unit {0}
+NeverBoots (spent lines bytes) = Unit {0}
+NeverBoots (too_long more) = NeverBoots more
+NeverBoots (line text more) = (IsLine text Boot → ⊥) × NeverBoots more
+
+-- the command isn't refused
+abbrev pub IsGranted : Host → Memory → Command → Type 0
+IsGranted host memory command = refusal_of (record { host = host; memory = memory }) command ≡ None
+
+-- it changes the places of the database that is open
+abbrev pub ChangesPlaces : Host → Memory → Command → Type 0
+ChangesPlaces host memory (AddPlaces slices force count blocks) = IsGranted host memory (AddPlaces slices force count blocks) × (memory.opened ≡ None → ⊥)
+ChangesPlaces host memory (DropPlaces slices force) = IsGranted host memory (DropPlaces slices force)
+ChangesPlaces host memory other = ⊥
+
+-- and the next line of a script
+abbrev pub NextChanges : Host → Memory → Script → Type 0
+NextChanges host memory (line text more) = (command : Command) × IsLine text (Exec command) × ChangesPlaces host memory (meant memory.entries command)
+NextChanges host memory other = ⊥
+
+-- No line of a run boots behind one that changes the places of an open database: one that is refused changes none.
+abbrev pub BootsFirst : Host → Stretch → ℕ → At → Type 0
+BootsFirst host stretch bytes now = (told : List ℕ) (at : At) → LinesTold host stretch bytes now told at → NextChanges host at.kept.memory at.script → NeverBoots at.script
+
+-- Where nothing failed and memory was never wanting, and no line boots behind a change of places, the drives' blocks and the script settle what is told, the status, and, where the run isn't
+-- over for want of places, numbers or memory, or for two databases, what is in memory at the end and in each block that no replica may have.
 abbrev pub OneCourse : Type 0
 OneCourse =
     (host : Host) (content : Image) → IsOfTable host → AreOnce host.drives.slices → (script : Script) (first second : Stretch) (start end from to : Counts) → IsUndisturbed start end → IsUndisturbed from to
-    → (a b : List ℕ) (s r : RunStatus) (k j : Kept) → IsSated a s → IsSated b r → IsRun host first start end content script a s k → IsRun host second from to content script b r j → (a ≡ b) × (s ≡ r) × ((IsLostStatus s → ⊥) → IsSameEnd host k j)
+    → (a b : List ℕ) (s r : RunStatus) (k j : Kept) → IsSated a s → IsSated b r → (one : IsRun host first start end content script a s k) → BootsFirst host first 0 (behind_boot one.booted one.by one.kept script)
+    → IsRun host second from to content script b r j → (a ≡ b) × (s ≡ r) × ((IsLostStatus s → ⊥) → IsSameEnd host k j)

@@ -1,8 +1,10 @@
 -- How the drive stands with its history at each moment of a run.
-use Rattle.std.specs.Prelude.{◌≡◌, ◌≢◌, ◌⊎◌, ℕ, true, List, [], ◌∷◌, ◌++◌, length, Option, Some, Contains}
+use Rattle.std.specs.Prelude.{◌≡◌, ◌≢◌, ◌⊎◌, ◌<◌, ℕ, true, List, [], ◌∷◌, ◌++◌, length, Option, Some, Contains}
 use Rattle.mdv_run_law.specs.Below.{AcksBy, AcksFront, AreOwn, Ask, Boot, Created, Deed, Does, Drives, Entry, Event, Everywhere, Happening, BootBegins, History, Host, Identity, IsKnown, IsLine, IsRefusal, IsTab, Knows, Line, Memory, Nothing, OutOfMemory, Reached, Script, ShowsNoTable, Spells, StandsAt, StaysHome, Tab, Tale, asked_by_line, at_end, entries_reply, history_after, is_front_of, issuable, issuable_front, key_of, left_in, line, ok_line, refusal_line, replies_in, site_of, spent, told, too_long}
+use Rattle.mdv_engine_law.specs.Standing.{MeetsStaleAt}
+use Rattle.mdv_shelf.specs.Moments.{IsSince}
 use Rattle.mdv_store_law.specs.Machine as machine
-use Rattle.mdv_run_law.specs.Run.{IsNoCommand}
+use Rattle.mdv_volumes.specs.History.{Deleted}
 
 -- What the boot and the lines so far have settled for those to come: the entries that are kept. While the last reply is only just told, nothing needs to be
 -- known of them.
@@ -14,6 +16,10 @@ IsSettled context = (entries : List Entry) × (context ≡ Some entries)
 
 abbrev pub context_of : Memory → Context
 context_of memory = Some memory.entries
+
+-- no item that is built: the grammar doesn't have the line, or it isn't carried out yet
+abbrev pub IsNoCommand : List ℕ → Type 0
+IsNoCommand text = (spelled : Line) → IsLine text spelled → ⊥
 
 -- what a line asks: nothing, where it isn't built
 abbrev pub Asks : Host → List ℕ → Ask → Type 0
@@ -113,36 +119,22 @@ AreBegun host (too_long more) (reply ∷ replies) front begun = AreBegun host mo
 AreBegun host (line text more) [] front begun = (begun ≡ []) ⊎ ((ask : Ask) × AsksBy host text front ask × (begun ≡ issuable_front ask front))
 AreBegun host (line text more) (reply ∷ replies) front begun = (ask : Ask) × AsksBy host text reply ask × (rest : List Deed) × AreBegun host more replies front rest × (begun ≡ issuable ask reply ++ rest)
 
--- the events of a run, of which these bytes were told: those of its boot, and those of the lines so far
-pub record AreOfRun (host : Host) (script : Script) (bytes : List ℕ) (es : List Event) : Type 0 where
+-- the events of a run: those of its boot, and those of the lines that these replies answer, and of what is left then
+pub record AreOfRunBy (host : Host) (Left : Context → Script → List Event → Type 0) (script : Script) (replies : List (List ℕ)) (es : List Event) : Type 0 where
   pub boot : List Event
   pub lines : List Event
   pub both : es ≡ boot ++ lines
   pub idle : AreIdle host boot
   pub booted : (up : Drives) × BootBegins (key_of host) up boot
-  pub come : ComeOf host (InWork host (left_in bytes)) (Some []) script (replies_in bytes) lines
+  pub come : ComeOf host Left (Some []) script replies lines
+
+-- of which these bytes were told: those of its boot, and those of the lines so far
+abbrev pub AreOfRun : Host → Script → List ℕ → List Event → Type 0
+AreOfRun host script bytes es = AreOfRunBy host (InWork host (left_in bytes)) script (replies_in bytes) es
 
 -- from a history by some events of such a kind to one that the drive stands with, of which more is known
 abbrev pub Goes : Host → (List Event → Type 0) → (List Event → History → Type 0) → Tale → History → Type 0
 Goes host Come After m h = machine.Goes history_after (Happening host) Come (λ g. StandsAt host g m) After h
-
--- whatever a crash leaves, a replica of one of the host's databases shows a table
-pub record ShowsMade (host : Host) (t : Tale) : Type 0 where
-  pub identity : Identity
-  pub each : Everywhere (λ image. ShowsNoTable (Spells host.drives) (site_of host.drives (key_of host)) identity image → ⊥) t
-
--- A moment of a run of that script that began at t: nothing happened outside the host's blocks, and the drives stand with each history that it stood with at the start, gone on
--- by the events of the boot and of the lines so far, in their order; each line's events begin what it asks only where it was answered
--- `ok`, or that a call failed, or where no more of its reply was told than a front of one of these, and tell exactly what its reply
--- acknowledges: a deed where it is `ok`, and of a read the values that it tells, each of which its block may have. Blocks of a volume are read and written only
--- where the last boot in the history, if it brought up the volume's drives, has found one value of each, or the volume was made since. Where a creation was told, whatever a crash leaves shows a table of the
--- host's database, if the drives stood with some such history. The histories are of the host's own databases, none of which has the word of this run as it begins.
-pub record RunMoment (host : Host) (script : Script) (t m : Tale) : Type 0 where
-  pub bytes : List ℕ
-  pub is_told : told m ≡ told t ++ bytes
-  pub home : StaysHome host t m
-  pub made : (h : History) → StandsAt host h t → AreOwn host 0 h → IsTold host script (replies_in bytes) (Created (key_of host)) → ShowsMade host m
-  pub stands : (h : History) → StandsAt host h t → AreOwn host 0 h → Goes host (AreOfRun host script bytes) Reached m h
 
 -- what is left of a script behind so many replies
 abbrev pub behind : Script → List (List ℕ) → Script
@@ -158,12 +150,64 @@ pub record AreReplies (bytes : List ℕ) : Type 0 where
   pub replies : (rest : List ℕ) → replies_in (bytes ++ rest) ≡ replies_in bytes ++ replies_in rest
   pub left : (rest : List ℕ) → left_in (bytes ++ rest) ≡ left_in rest
 
+-- none came, and the next line boots
+abbrev pub AtBoot : Context → Script → List Event → Type 0
+AtBoot now at_end es = ⊥
+AtBoot now (spent lines bytes) es = ⊥
+AtBoot now (too_long more) es = ⊥
+AtBoot now (line text more) es = (es ≡ []) × IsLine text Boot
+
+-- A boot met a stale vote that a line asked, between t and m: as it began, behind whole replies, the history had gone on by events of the lines before, and then the drives held what that boot read.
+pub record HasMetBehind (host : Host) (Come : List (List ℕ) → List Event → Type 0) (t m : Tale) (h : History) : Type 0 where
+  pub began : Tale
+  pub since : IsSince t began
+  pub before : IsSince began m
+  pub bytes : List ℕ
+  pub is_told : told began ≡ told t ++ bytes
+  pub replies : AreReplies bytes
+  pub met : Goes host (Come (replies_in bytes)) (λ es after. MeetsStaleAt host after began) began h
+
+-- so it was in a stretch of lines that began with that memory
+abbrev pub HasMetInLines : Host → Script → Memory → Tale → Tale → History → Type 0
+HasMetInLines host script first t m h = HasMetBehind host (λ replies es. ComeOf host AtBoot (context_of first) script replies es) t m h
+
+-- and in a run: its own boot did, or one that a line asked
+abbrev pub HasMetInRun : Host → Script → Tale → Tale → History → Type 0
+HasMetInRun host script t m h = MeetsStaleAt host h t ⊎ HasMetBehind host (λ replies es. AreOfRunBy host AtBoot script replies es) t m h
+
+-- one of the lines may have begun an end of the host's database
+abbrev pub MayEnd : Host → Script → List ℕ → Type 0
+MayEnd host script bytes = (begun : List Deed) × AreBegun host script (replies_in bytes) (left_in bytes) begun × Contains begun (Deleted (key_of host))
+
+-- whatever a crash leaves, a replica of one of the host's databases shows a table
+pub record ShowsMade (host : Host) (t : Tale) : Type 0 where
+  pub identity : Identity
+  pub each : Everywhere (λ image. ShowsNoTable (Spells host.drives) (site_of host.drives (key_of host)) identity image → ⊥) t
+
+-- A moment of a run of that script that began at t: nothing happened outside the host's blocks, and, if none of its boots met a stale vote, the drives stand with each history that it stood with at the start, gone on
+-- by the events of the boot and of the lines so far, in their order; each line's events begin what it asks only where it was answered
+-- `ok`, or that a call failed, or where no more of its reply was told than a front of one of these, and tell exactly what its reply
+-- acknowledges: a deed where it is `ok`, and of a read the values that it tells, each of which its block may have. Blocks of a volume are read and written only
+-- where the last boot in the history, if it brought up the volume's drives, has found one value of each, or the volume was made since. Where a creation was told, and no end of the host's database may have begun in the run, whatever a crash leaves shows a table of
+-- it, if the drives stood with some such history. The histories are of the host's own databases, none of which has the word of this run as it begins.
+pub record RunMoment (host : Host) (script : Script) (t m : Tale) : Type 0 where
+  pub bytes : List ℕ
+  pub is_told : told m ≡ told t ++ bytes
+  pub home : StaysHome host t m
+  pub made : (h : History) → StandsAt host h t → AreOwn host 0 h → IsTold host script (replies_in bytes) (Created (key_of host)) → (MayEnd host script bytes → ⊥) → HasMetInRun host script t m h ⊎ ShowsMade host m
+  pub stands : (h : History) → StandsAt host h t → AreOwn host 0 h → HasMetInRun host script t m h ⊎ Goes host (AreOfRun host script bytes) Reached m h
+
 -- a moment of a stretch of lines that began with that memory; of its line in work come the events that the front of its reply lets come
 pub record LinesMoment (host : Host) (script : Script) (first : Memory) (t m : Tale) : Type 0 where
   pub bytes : List ℕ
   pub is_told : told m ≡ told t ++ bytes
+  pub since : IsSince t m
   pub home : StaysHome host t m
-  pub goes : (h : History) → IsKnown host first h t → Goes host (ComeOf host (InWork host (left_in bytes)) (context_of first) script (replies_in bytes)) Reached m h
+  pub goes : (h : History) → IsKnown host first h t → HasMetInLines host script first t m h ⊎ Goes host (ComeOf host (InWork host (left_in bytes)) (context_of first) script (replies_in bytes)) Reached m h
+
+-- so it was of one that was answered by then: some byte was told since it began
+abbrev pub HasMetInLinesTold : Host → Script → Memory → Tale → Tale → History → Type 0
+HasMetInLinesTold host script first t u h = (met : HasMetInLines host script first t u h) × (length (told met.began) < length (told u))
 
 -- lines and their replies, told whole, that led from one memory to the other, and from one script to what is left of it
 pub record RanTo (host : Host) (script : Script) (first now : Memory) (left : Script) (t u : Tale) : Type 0 where
@@ -171,6 +215,7 @@ pub record RanTo (host : Host) (script : Script) (first now : Memory) (left : Sc
   pub is_told : told u ≡ told t ++ bytes
   pub replies : AreReplies bytes
   pub left_is : behind script (replies_in bytes) ≡ left
+  pub since : IsSince t u
   pub home : StaysHome host t u
   pub knows : Knows host first t → Knows host now u
-  pub goes : (h : History) → IsKnown host first h t → Goes host (ComeOf host (NothingLeft (context_of now)) (context_of first) script (replies_in bytes)) (λ es after. IsKnown host now after u) u h
+  pub goes : (h : History) → IsKnown host first h t → HasMetInLinesTold host script first t u h ⊎ Goes host (ComeOf host (NothingLeft (context_of now)) (context_of first) script (replies_in bytes)) (λ es after. IsKnown host now after u) u h

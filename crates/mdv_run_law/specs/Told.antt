@@ -10,6 +10,7 @@ use Rattle.mdv_run_law.specs.Run.{AreSynced, At, Counts, FromTo, IsNextFront, Is
 use Rattle.mdv_run_law.specs.Standing.{LinesMoment, RanTo}
 use Rattle.mdv_shelf.specs.Area.{KeptOutside, nowhere}
 use Rattle.mdv_shelf.specs.Made.{made_between}
+use Rattle.mdv_shelf.specs.Moments.{IsSince}
 use Rattle.mdv_shelf.specs.Story.{Moment, Story, tale_of}
 use Rattle.mdv_shown.specs.Site.{site_area}
 use Rattle.mdv_words.specs.Line.{Line}
@@ -40,6 +41,7 @@ pub record LinesToldBy (host : Host) (stretch : Stretch) (first : At) (told : Li
 -- where the boot at a run's start, which began at t, has led: each history that the drives stood with is known with what is in memory, and the drives are synced
 pub record HasBroughtUp (host : Host) (calls : Outcomes) (memory : Memory) (t u : Tale) : Type 0 where
   pub booted : BootedTo host memory t u
+  pub since : IsSince t u
   pub synced : AreSynced host calls u
 
 -- and of a run whose boot was answered

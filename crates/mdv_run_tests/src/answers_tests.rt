@@ -228,6 +228,40 @@ const BAD: &[Row] = &[
     ("write d0 0 xy", "refused E1 BadLine"),
 ];
 
+// Behind a write that failed no other database is made until a boot has read what is there.
+const FAILED_WRITES: &[Row] = &[
+    ("metadb -a -f -l 16 c0t0d0s7", "ok"),
+    ("metainit d0 1 1 c0t0d0s0", "ok"),
+    ("write d0 5 ab", "refused E23 IoFault"),
+    ("metadb -d -f c0t0d0s7", "ok"),
+    ("metadb -a -f -l 16 c0t0d0s7", DOWN),
+    ("metadb -a -l 16 c0t0d0s7", DOWN),
+    ("boot", "ok"),
+    ("metadb -a -f -l 16 c0t0d0s7", "ok"),
+    ("metastat -p", "ok"),
+];
+
+// Nor behind one whose block is written anew.
+const WRITTEN_ANEW: &[Row] = &[
+    ("metadb -a -f -l 16 c0t0d0s7", "ok"),
+    ("metainit d0 1 1 c0t0d0s0", "ok"),
+    ("write d0 5 ab", "refused E23 IoFault"),
+    ("write d0 5 cd", "ok"),
+    ("metadb -d -f c0t0d0s7", "ok"),
+    ("metadb -a -f -l 16 c0t0d0s7", DOWN),
+];
+
+// A boot between the write and the deletion has read what is there. A read that failed leaves all as it is.
+const READ_AGAIN: &[Row] = &[
+    ("metadb -a -f -l 16 c0t0d0s7", "ok"),
+    ("metainit d0 1 1 c0t0d0s0", "ok"),
+    ("write d0 5 ab", "refused E23 IoFault"),
+    ("boot", "ok"),
+    ("read d0 5 1", "refused E23 IoFault"),
+    ("metadb -d -f c0t0d0s7", "ok"),
+    ("metadb -a -f -l 16 c0t0d0s7", "ok"),
+];
+
 const ANSWERS: &[Lines] = &[
     Lines {
         table: WIDE,
@@ -282,6 +316,32 @@ const ANSWERS: &[Lines] = &[
         blocks: BLOCKS,
         failing: &[],
         rows: BAD,
+    },
+    // The boot makes 3 calls, the creation 12, the volume 6, and the replies before the write two.
+    Lines {
+        table: WIDE,
+        blocks: WIDE_BLOCKS,
+        failing: &[23],
+        rows: FAILED_WRITES,
+    },
+    Lines {
+        table: WIDE,
+        blocks: WIDE_BLOCKS,
+        failing: &[24],
+        rows: FAILED_WRITES,
+    },
+    Lines {
+        table: WIDE,
+        blocks: WIDE_BLOCKS,
+        failing: &[24],
+        rows: WRITTEN_ANEW,
+    },
+    // The write that fails makes one call, and the boot behind it twelve and one more for the second slot.
+    Lines {
+        table: WIDE,
+        blocks: WIDE_BLOCKS,
+        failing: &[23, 39],
+        rows: READ_AGAIN,
     },
 ];
 
@@ -352,8 +412,8 @@ const LONG: &[(&str, &str, &str)] = &[
     // The least slot counts, of the places that are there and of those that would come.
     (
         "metadb -a -f -l 18 c0t0d0s7\n",
-        "metadb -a -c 2 -l 16 c0t8d0s7\nmetadb -a -l 16 c0t8d0s7\nmetadb -a -c 2 -l 18 c0t8d0s7\n",
-        "refused E17 ReplicaFull 3073 3072\nrefused E1 BadLine\nrefused E1 BadLine\n",
+        "metadb -a -c 2 -l 16 c0t8d0s7\nmetadb -a -c 2 -l 18 c0t7d0s7\nmetadb -a -l 16 c0t8d0s7\n",
+        "refused E17 ReplicaFull 3073 3072\nok\nrefused E17 ReplicaFull 3109 3072\n",
     ),
     // Of places that all go the first one comes behind the others, and of two slices the other's.
     (
@@ -361,10 +421,11 @@ const LONG: &[(&str, &str, &str)] = &[
         "metadb -d c0t7d0s7\nmetadb -d c0t7d0s7 c0t8d0s7\nmetadb -d -f c0t7d0s7 c0t8d0s7\n",
         "refused E17 ReplicaFull 3097 3072\nrefused E3 NeedForce\nrefused E17 ReplicaFull 3085 3072\n",
     ),
+    // Behind a database with volumes another one is made at once.
     (
         "metadb -a -f -l 16 c0t7d0s7 c0t8d0s7\n",
-        "metadb -d c0t7d0s7\nmetadb -d -f c0t7d0s7 c0t8d0s7\n",
-        "refused E1 BadLine\nrefused E1 BadLine\n",
+        "metadb -d c0t7d0s7\nmetadb -d c0t8d0s7\nmetadb -d -f c0t8d0s7\nmetadb -a -f -l 16 c0t7d0s7\nmetastat -p\n",
+        "ok\nrefused E3 NeedForce\nok\nok\nok\n",
     ),
 ];
 

@@ -21,12 +21,18 @@ mod life;
 #[cfg(test)]
 mod life_tests;
 #[cfg(test)]
+mod moves_tests;
+#[cfg(test)]
 mod places_tests;
 mod reading;
 #[cfg(test)]
 mod reading_tests;
 #[cfg(test)]
 mod replicas_tests;
+#[cfg(test)]
+mod roster;
+#[cfg(test)]
+mod roster_tests;
 #[cfg(test)]
 mod scenes_tests;
 #[cfg(test)]

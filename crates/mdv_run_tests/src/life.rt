@@ -279,8 +279,8 @@ pub(crate) fn next(state: u64) -> u64 {
         .wrapping_add(1_442_695_040_888_963_407)
 }
 
-// Choices for so many blocks.
-fn drawn(alloc: Global, seed: u64, count: u64) -> Result<Vec<u32>, AllocError> {
+/// Choices for so many blocks.
+pub(crate) fn drawn(alloc: Global, seed: u64, count: u64) -> Result<Vec<u32>, AllocError> {
     let mut choice = Vec::new(alloc);
     let mut state = seed;
     for _ in 0..count {

@@ -404,7 +404,7 @@ slice c1t0d0s7 16 40 db
 
 const SLICES_BLOCKS: &[u64] = &[40000, 1000, 1000, 64];
 
-// A creation, and why it is refused.
+// A creation, or places that are added once there is a database, and why it is refused.
 const REFUSALS: &[(&str, &str)] = &[
     ("-l 16 c0t1d0s7 c0t2d0s7", "refused E3 NeedForce\n"),
     ("-f -l 16 c0t1d0s7 c1t0d0s7", "refused E6 NoSuchSlice\n"),
@@ -422,13 +422,13 @@ const REFUSALS: &[(&str, &str)] = &[
         "refused E9 TooMany\n",
     ),
     ("-f -c 2 -l 16 c0t1d0s7 c0t2d0s7", "ok\n"),
-    ("-l 16 c0t0d0s7", "refused E1 BadLine\n"),
     ("-l 16 c0t1d0s7", "refused E7 SliceInUse\n"),
     ("-l 16 c0t0d0s7 c0t0d0s7", "refused E7 SliceInUse\n"),
     ("-c 47 -l 16 c0t0d0s7", "refused E9 TooMany\n"),
-    ("-c 46 -l 16 c0t0d0s7", "refused E1 BadLine\n"),
     ("-l 16 c0t0d0s0", "refused E12 WrongKind\n"),
     ("-c 4 c0t0d0s7", "refused E10 TooSmall\n"),
+    ("-c 46 -l 16 c0t0d0s7", "ok\n"),
+    ("-l 16 c0t0d0s7", "refused E9 TooMany\n"),
 ];
 
 #[test]

@@ -1,4 +1,4 @@
-// `metadb -d`, and `metadb -a` by an entry of `tab`: what they are refused for, and that an entry makes what its line would.
+// `metadb -d`, and `metadb -a` while a database is open or by an entry of `tab`: what they do, what they are refused for, and that an entry makes what its line would.
 use crate::ground::PLACES;
 use crate::story::{Act, Story, expect_act};
 use mdv_base::{Block, DriveNo, ZERO_BLOCK};
@@ -7,7 +7,7 @@ use std::process::Abort;
 use std::test::Fail;
 
 // Each refusal in its place: E2, E6, E12, E13 where no place lies on a slice, E3 where all go. A slice that is named
-// twice counts once.
+// twice counts once. Behind a database that was deleted another one is made.
 const DROPS: &[Act] = &[
     Act(
         &[],
@@ -24,18 +24,32 @@ const DROPS: &[Act] = &[
     Act(
         &[],
         "alpha",
-        "metadb -d c0t1d0s7 c0t0d0s7\nmetadb -d c0t0d0s7 c0t0d0s7\nmetadb -d -f c0t0d0s7 c0t1d0s7\n",
-        "refused E3 NeedForce\nrefused E1 BadLine\nrefused E1 BadLine\n",
+        "metadb -d c0t1d0s7 c0t0d0s7\nmetadb -d c0t0d0s7 c0t0d0s7\nmetadb -d -f c0t0d0s7 c0t1d0s7\nmetadb -d -f c0t1d0s7\nmetadb -d c0t1d0s7\n",
+        "refused E3 NeedForce\nok\nrefused E13 WrongState Absent\nok\nrefused E2 NoDatabase\n",
     ),
     Act(
         &[],
         "alpha",
-        "metastat -p\nmetadb -d\nmetadb -d mddb01\nmetadb -d c0t0d0s7 c0t1d0s7\n",
-        "ok\nrefused E1 BadLine\nrefused E1 BadLine\nrefused E3 NeedForce\n",
+        "metastat -p\nmetadb -d\nmetadb -d mddb01\nmetadb -a -f -l 16 c0t2d0s7\nmetadb -d -f c0t2d0s7\nmetadb -a -f -l 16 c0t1d0s7\nmetadb -d c0t1d0s7\n",
+        "refused E2 NoDatabase\nrefused E1 BadLine\nrefused E1 BadLine\nok\nok\nok\nrefused E3 NeedForce\n",
     ),
 ];
 
+// A script's last line needs no newline. Behind a deletion the next boot finds no database, with several replicas on one slice too.
+const LAST_LINES: &[Act] = &[
+    Act(
+        &[],
+        "alpha",
+        "metadb -a -f -c 3 -l 16 c0t0d0s7\nmetadb -d c0t0d0s7",
+        "ok\nrefused E3 NeedForce\n",
+    ),
+    Act(&[], "alpha", "metadb -d -f c0t0d0s7", "ok\n"),
+    Act(&[], "alpha", "", ""),
+    Act(&[], "alpha", "metastat -p\n", "refused E2 NoDatabase\n"),
+];
+
 // Without a drive that has a place not all places go, and the places that stay have to be active, at least half of them.
+// A replica on a drive that is away can be taken away, and made anew once the drive is back.
 const DROPS_DOWN: &[Act] = &[
     Act(
         &[],
@@ -53,17 +67,18 @@ const DROPS_DOWN: &[Act] = &[
         &[2],
         "alpha",
         "metadb -d c0t0d0s7 c0t1d0s7\nmetadb -d c0t0d0s7\nmetadb -d c0t2d0s7\n",
-        "refused E13 WrongState Inactive\nrefused E1 BadLine\nrefused E1 BadLine\n",
+        "refused E13 WrongState Inactive\nok\nok\n",
     ),
     Act(
         &[],
         "alpha",
-        "metadb -d c0t0d0s7 c0t1d0s7\nmetadb -d c0t0d0s7 c0t1d0s7 c0t2d0s7\n",
-        "refused E1 BadLine\nrefused E3 NeedForce\n",
+        "metadb -d c0t0d0s7 c0t1d0s7\nmetadb -a -l 16 c0t2d0s7 c0t0d0s7\nmetadb -d c0t0d0s7 c0t1d0s7 c0t2d0s7\n",
+        "refused E13 WrongState Absent\nok\nrefused E3 NeedForce\n",
     ),
 ];
 
-// The first place fails in the change behind the creation: then not all go, for the first one would be the last.
+// The first place fails in the change behind the creation: then not all go, for the first one would be the last. But it
+// can be taken away itself, and then others.
 const DROPS_FAILED: Act = Act(
     &[],
     "alpha",
@@ -80,8 +95,8 @@ ok
 refused E13 WrongState Inactive
 refused E13 WrongState Inactive
 refused E13 WrongState Inactive
-refused E1 BadLine
-refused E1 BadLine
+ok
+ok
 ",
 );
 
@@ -101,7 +116,7 @@ fn expect<R: Abort + AllocGlobal>(rt: &R, story: &mut Story, acts: &[Act]) -> Re
 
 #[test]
 fn refuses_to_drop_places(rt: HostRuntime) -> Result<(), Fail> {
-    for acts in [DROPS, DROPS_DOWN] {
+    for acts in [DROPS, LAST_LINES, DROPS_DOWN] {
         expect(&rt, &mut begin(&rt)?, acts)?;
     }
     let mut story = begin(&rt)?;
@@ -162,7 +177,7 @@ ok
 refused E7 SliceInUse
 refused E6 NoSuchSlice
 refused E9 TooMany
-refused E1 BadLine
+ok
 refused E1 BadLine
 ok
 ok
@@ -170,7 +185,7 @@ refused E1 BadLine
 refused E1 BadLine
 d10 1 1 c0t1d0s0
 ok
-refused E3 NeedForce
+ok
 refused E13 WrongState Absent
 ",
     ),

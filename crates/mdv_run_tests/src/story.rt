@@ -127,7 +127,8 @@ fn block_of(text: &[u8]) -> Block {
     block
 }
 
-fn status_behind(told: &str) -> RunStatus {
+/// The status of a run that came to its end and told this.
+pub(crate) fn status_behind(told: &str) -> RunStatus {
     if told.contains("refused") {
         RunStatus::SomeRefused
     } else {

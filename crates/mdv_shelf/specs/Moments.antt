@@ -7,6 +7,10 @@ abbrev pub extended : Tale → List Call → Tale
 extended t [] = t
 extended t (c ∷ cs) = Then (extended t cs) c
 
+-- the one tale is the other with more calls, or none
+abbrev pub IsSince : Tale → Tale → Type 0
+IsSince t u = (calls : List Call) × (u ≡ extended t calls)
+
 -- P at each moment of one call. A write and a sync have no moment of their own inside: what a crash
 -- may leave there, it may leave before the call or after it.
 abbrev pub During : (Tale → Type 0) → Tale → Call → Type 0

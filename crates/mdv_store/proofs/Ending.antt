@@ -9,7 +9,7 @@ use Rattle.mdv_store_law.specs.Log.{Writing as WritesLog, Written, log_after}
 use Rattle.mdv_standing.specs.Creating.{AreAllPlaced, IsCreating, first_mark, issued_log}
 use Rattle.mdv_standing.specs.Tracing.{IsCreationBegin, IsRun, IsStart, Traces, formats_at, written_at}
 use Rattle.mdv_standing.proofs.Creating.{may_write_first}
-use Rattle.mdv_store_law.proofs.Logs.{lives_there}
+use Rattle.mdv_store_law.proofs.Fates.{lives_there}
 use Rattle.mdv_standing.proofs.Stretches.{traced_answer, traced_first_write}
 use Rattle.mdv_standing.proofs.Tracing.{adds_begun, adds_none, adds_written, course_one, course_written, more, newest_begun, part_one, run_within, trace_weaker}
 use Rattle.mdv_acts.specs.Acts.{Act, AreDoing, AreDone, blanks_asked, forms_asked}
@@ -256,7 +256,7 @@ module _ (g : Geometry) (all : List Database) (key : Key) (identity : Identity) 
                 newest = newest_written begun first_mark table newest;
                 tellable = record {
                   before = [];
-                  may = record { newest = record { mark = first_mark; table = table; changes = []; is_written = true }; older = []; family = refl; written = refl; later = []; changes = refl; creation = λ none. (refl, refl); untold = tt };
+                  may = record { lives = refl; newest = record { mark = first_mark; table = table; changes = []; is_written = true }; older = []; family = refl; written = refl; later = []; changes = refl; creation = λ none. (refl, refl); untold = tt };
                   newest = refl;
                 };
               };

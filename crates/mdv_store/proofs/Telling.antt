@@ -19,6 +19,7 @@ pub newest_tellable : (g : Geometry) (log : Log) (mark : Mark) (table : Table) (
 newest_tellable g log mark table n next change made is = record {
   before = n.version.changes;
   may = record {
+    lives = refl;
     newest = record { mark = next; table = made; changes = change ∷ n.version.changes; is_written = true };
     older = log.family;
     family = refl;

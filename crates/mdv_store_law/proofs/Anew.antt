@@ -4,10 +4,11 @@ use Rattle.std.proofs.lemmas.List.Elements.{All-cons, All-head, All-nil, All-sam
 use Rattle.mdv_store_law.specs.Anew.{HasNoneAgain, IsAnew, IsFresh}
 use Rattle.mdv_votes.specs.Family.{raised}
 use Rattle.mdv_store_law.specs.Below.{Never, Geometry, Identity, Lists, One, Place, PlanChange, Table, last_of}
-use Rattle.mdv_store_law.specs.Changes.{AddPlaces, Change, DropPlaces, FirstPlace, IsMadeBy, OfPlan}
+use Rattle.mdv_store_law.specs.Changes.{AddListed, AddPlaces, Change, DropPlaces, FirstPlace, IsMadeBy, OfPlan}
 use Rattle.mdv_store_law.specs.Log.{Again, Clearing, Event, Gone, IsAskable, IsCourse, IsIssue, IsMade, Issued, Log, MayHappen, Placing, Told, Version, PlacesStay, Writing, Written, answered, empty_log, log_after, log_after_all, placed_again, since_of}
 use Rattle.mdv_store_law.specs.Machine.{AreAll}
 use Rattle.mdv_store_law.proofs.Families.{contains_behind, contains_cases, contains_first}
+use Rattle.mdv_store_law.proofs.Fates.{never_ends}
 use Rattle.mdv_table.specs.declared.change.Change.TheVariants.{MakeStripe}
 use Rattle.mdv_table.specs.declared.plan.Plan.{Plan}
 
@@ -20,6 +21,7 @@ made_lists g None old next places keeps (inl same) one = ap (λ (t : Table). t.p
 made_lists g None old next places keeps (inr over) one = ap (λ (t : Table). t.plan.lists) over ∙ ap (λ (l : Lists). One (last_of l)) one
 made_lists g (Some (OfPlan change)) old next places keeps made one = plan_lists g change old next made ∙ one
 made_lists g (Some (AddPlaces slices count blocks)) old next places keeps made one = absurd keeps
+made_lists g (Some (AddListed number)) old next places keeps made one = absurd keeps
 made_lists g (Some (DropPlaces slices)) old next places keeps made one = absurd keeps
 made_lists g (Some FirstPlace) old next places keeps made one = absurd keeps
 
@@ -58,7 +60,7 @@ anew_after g log Written anew may is = record { none = anew.none; lives = anew.l
 anew_after g log (Told which before) anew may is = record { none = anew.none; lives = anew.lives; places = anew.places; each = anew.each }
 anew_after g log (Placing places) anew may is = absurd is
 anew_after g log Clearing anew may is = absurd is
-anew_after g log Gone anew may is = absurd is
+anew_after g log Gone anew may is = absurd (never_ends log.fate anew.lives may)
 
 pub anew_after_all : (g : Geometry) (log : Log) (es : List Event) → IsAnew log → IsCourse g log es → AreAll (IsIssue PlacesStay) es → IsAnew (log_after_all log es)
 anew_after_all g log [] anew course are = anew

@@ -13,7 +13,7 @@ issue_weaker Which Any weaker Written is = tt
 issue_weaker Which Any weaker (Told which before) is = tt
 issue_weaker Which Any weaker (Placing places) is = weaker (OfPlaces places) is
 issue_weaker Which Any weaker Clearing is = weaker OfEnd is
-issue_weaker Which Any weaker Gone is = weaker OfEnd is
+issue_weaker Which Any weaker Gone is = tt
 
 -- any change may be
 pub any_asked : (asked : Option Change) → IsAskable ChangesAlone asked
@@ -34,7 +34,7 @@ begun_issued Which (Written ∷ es) alone are = (tt, begun_issued Which es alone
 begun_issued Which (Told which before ∷ es) alone are = (tt, begun_issued Which es alone.1 are)
 begun_issued Which (Placing places ∷ es) alone are = absurd alone.0
 begun_issued Which (Clearing ∷ es) alone are = absurd alone.0
-begun_issued Which (Gone ∷ es) alone are = absurd alone.0
+begun_issued Which (Gone ∷ es) alone are = (tt, begun_issued Which es alone.1 are)
 
 -- where changes alone are issued, they are those that are asked
 pub asked_issued : (Which : Issue → Type 0) (asks told : List (Option Change)) (es : List Event) → Adds ChangesAlone asks told es → AreAll (IsAskable Which) asks → AreAll (IsIssue Which) es

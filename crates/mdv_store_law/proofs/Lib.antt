@@ -1,5 +1,6 @@
 pub mod Again
 pub mod Families
+pub mod Fates
 pub mod Logs
 pub mod Anew
 pub mod Issues

@@ -5,7 +5,9 @@ use Rattle.mdv_store_law.specs.Below.{Mark, Geometry, Table}
 use Rattle.mdv_store_law.specs.Changes.{Change}
 use Rattle.mdv_store_law.specs.Log.{Again, Version, Log, Event, Issued, Writing, Written, Told, Placing, Clearing, Gone, Fate, Lives, Ends, Over, IsNotOver, with_asked, log_after, log_after_all, is_firm, IsFirst, IsNext, Extends, IsUntold, IsTellable, MayHappen, IsCourse, told_by, AreMade, IsHeld, IsLog, empty_log}
 use Rattle.mdv_store_law.specs.Laws.{CoursesAreLogs}
+use Rattle.mdv_store_law.specs.Machine.{AreAll}
 use Rattle.mdv_store_law.proofs.Again.{numbered_answered, numbered_more, placed_numbered}
+use Rattle.mdv_store_law.proofs.Fates.{BeginsNoEnd, lives_there, never_ends, stays_alive}
 use Rattle.mdv_store_law.proofs.Families.{extends_itself, extends_more, extends_asked, made_next, contains_first, contains_behind, extends_written, written_firm, firm_answered, answered_rising, answered_descended, answered_made, answered_held}
 
 -- a table that begins to be written
@@ -56,13 +58,6 @@ empty_is_log g = record {
   numbered = All-nil (λ (a : Again). a.number < 0);
   was_there = λ gone. absurd (gone refl);
 }
-
--- a database that lives isn't over
-pub lives_there : (fate : Fate) → fate ≡ Lives → IsNotOver fate
-lives_there fate lives over = differs (sym lives ∙ over)
-  where
-    differs : Lives ≡ Over → ⊥
-    differs e = cc
 
 pub is_log_after : (g : Geometry) (log : Log) (e : Event) → IsLog g log → MayHappen g log e → IsLog g (log_after log e)
 is_log_after g log (Issued identity) is may = record {
@@ -119,11 +114,8 @@ is_log_after g log Gone is may = record {
   descended = is.descended;
   held = is.held;
   numbered = is.numbered;
-  was_there = λ gone. is.was_there (λ lives. differs (sym lives ∙ may));
+  was_there = λ gone. is.was_there (λ lives. never_ends log.fate lives may);
 }
-  where
-    differs : Lives ≡ Ends → ⊥
-    differs e = cc
 
 pub is_log_after_all : (g : Geometry) (log : Log) (es : List Event) → IsLog g log → IsCourse g log es → IsLog g (log_after_all log es)
 is_log_after_all g log [] is course = is
@@ -136,44 +128,55 @@ courses_are_logs = is_log_after_all
 pub told_firm : (g : Geometry) (log : Log) (told : List Change) → IsLog g log → log.acknowledged ≡ Some told → is_firm log ≡ true
 told_firm g log told is same = let held = is.held told same in written_firm log.family held.by held.one_of held.written
 
--- a firm log stays firm
-pub firm_stays : (g : Geometry) (log : Log) (e : Event) → MayHappen g log e → is_firm log ≡ true → is_firm (log_after log e) ≡ true
-firm_stays g log (Issued identity) may firm = absurd (cc (firm, may))
-firm_stays g log (Writing mark asked before table) may firm = firm
-firm_stays g log Written may firm = firm_answered log.family firm
-firm_stays g log (Told which before) may firm = firm
-firm_stays g log (Placing places) may firm = firm
-firm_stays g log Clearing may firm = firm
-firm_stays g log Gone may firm = firm
+-- a firm log stays firm, unless it is over: then another creation may be issued
+pub firm_stays : (g : Geometry) (log : Log) (e : Event) → MayHappen g log e → IsNotOver log.fate → is_firm log ≡ true → is_firm (log_after log e) ≡ true
+firm_stays g log (Issued identity) (inl loose) there firm = absurd (cc (firm, loose))
+firm_stays g log (Issued identity) (inr over) there firm = absurd (there over)
+firm_stays g log (Writing mark asked before table) may there firm = firm
+firm_stays g log Written may there firm = firm_answered log.family firm
+firm_stays g log (Told which before) may there firm = firm
+firm_stays g log (Placing places) may there firm = firm
+firm_stays g log Clearing may there firm = firm
+firm_stays g log Gone may there firm = firm
 
--- what was told stays so, and more may be
-pub told_stays : (g : Geometry) (log : Log) (es : List Event) (told : List Change) → IsLog g log → IsCourse g log es → log.acknowledged ≡ Some told
+-- so does one that lives, as long as no end of it begins
+pub firm_stays_all : (g : Geometry) (log : Log) (es : List Event) → IsCourse g log es → AreAll BeginsNoEnd es → log.fate ≡ Lives → is_firm log ≡ true → is_firm (log_after_all log es) ≡ true
+firm_stays_all g log [] course none lives firm = firm
+firm_stays_all g log (e ∷ es) course none lives firm =
+    firm_stays_all g (log_after log e) es course.1 none.1 (stays_alive g log e course.0 none.0 lives) (firm_stays g log e course.0 (lives_there log.fate lives) firm)
+
+-- what was told stays so, and more may be, as long as no end of what lives begins
+pub told_stays : (g : Geometry) (log : Log) (es : List Event) (told : List Change) → IsLog g log → IsCourse g log es → AreAll BeginsNoEnd es → log.fate ≡ Lives → log.acknowledged ≡ Some told
     → (later : List Change) × ((log_after_all log es).acknowledged ≡ Some later) × Extends later told
-told_stays g log [] told is course same = (told, same, extends_itself told)
-told_stays g log (Issued identity ∷ es) told is course same = absurd (let firm = told_firm g log told is same in cc (firm, course.0))
-told_stays g log (Writing mark asked before table ∷ es) told is course same =
-    told_stays g (log_after log (Writing mark asked before table)) es told (is_log_after g log (Writing mark asked before table) is course.0) course.1 same
-told_stays g log (Written ∷ es) told is course same = told_stays g (log_after log Written) es told (is_log_after g log Written is course.0) course.1 same
-told_stays g log (Told which before ∷ es) told is course same =
-    let rest = told_stays g (log_after log (Told which before)) es (which ++ before) (is_log_after g log (Told which before) is course.0) course.1 refl in
-    (rest.0, rest.1, extends_more rest.0 (which ++ before) told rest.2 (told_extends log which before course.0 told same))
-told_stays g log (Placing places ∷ es) told is course same = told_stays g (log_after log (Placing places)) es told (is_log_after g log (Placing places) is course.0) course.1 same
-told_stays g log (Clearing ∷ es) told is course same = told_stays g (log_after log Clearing) es told (is_log_after g log Clearing is course.0) course.1 same
-told_stays g log (Gone ∷ es) told is course same = told_stays g (log_after log Gone) es told (is_log_after g log Gone is course.0) course.1 same
+told_stays g log [] told is course none lives same = (told, same, extends_itself told)
+told_stays g log (e ∷ es) told is course none lives same =
+    let here = told_after g log e told is course.0 lives same in
+    let rest = told_stays g (log_after log e) es here.0 (is_log_after g log e is course.0) course.1 none.1 (stays_alive g log e course.0 none.0 lives) here.1 in
+    (rest.0, rest.1, extends_more rest.0 here.0 told rest.2 here.2)
+  where
+    told_after : (g : Geometry) (log : Log) (e : Event) (told : List Change) → IsLog g log → MayHappen g log e → log.fate ≡ Lives → log.acknowledged ≡ Some told
+        → (later : List Change) × ((log_after log e).acknowledged ≡ Some later) × Extends later told
+    told_after g log (Issued identity) told is (inl loose) lives same = absurd (let firm = told_firm g log told is same in cc (firm, loose))
+    told_after g log (Issued identity) told is (inr over) lives same = absurd (lives_there log.fate lives over)
+    told_after g log (Writing mark asked before table) told is may lives same = (told, same, extends_itself told)
+    told_after g log Written told is may lives same = (told, same, extends_itself told)
+    told_after g log (Told which before) told is may lives same = (which ++ before, refl, told_extends log which before may told same)
+    told_after g log (Placing places) told is may lives same = (told, same, extends_itself told)
+    told_after g log Clearing told is may lives same = (told, same, extends_itself told)
+    told_after g log Gone told is may lives same = (told, same, extends_itself told)
 
--- where a creation or a change is told, changes are told in the end
-pub told_acknowledges : (g : Geometry) (log : Log) (es : List Event) → IsLog g log → IsCourse g log es → (told_by es ≡ [] → ⊥) → (later : List Change) × ((log_after_all log es).acknowledged ≡ Some later)
-told_acknowledges g log [] is course some = absurd (some refl)
-told_acknowledges g log (Issued identity ∷ es) is course some = told_acknowledges g (log_after log (Issued identity)) es (is_log_after g log (Issued identity) is course.0) course.1 some
-told_acknowledges g log (Writing mark asked before table ∷ es) is course some =
-    told_acknowledges g (log_after log (Writing mark asked before table)) es (is_log_after g log (Writing mark asked before table) is course.0) course.1 some
-told_acknowledges g log (Written ∷ es) is course some = told_acknowledges g (log_after log Written) es (is_log_after g log Written is course.0) course.1 some
-told_acknowledges g log (Told which before ∷ es) is course some =
-    let rest = told_stays g (log_after log (Told which before)) es (which ++ before) (is_log_after g log (Told which before) is course.0) course.1 refl in
+-- where a creation or a change is told of what lives, changes are told in the end
+pub told_acknowledges : (g : Geometry) (log : Log) (es : List Event) → IsLog g log → IsCourse g log es → AreAll BeginsNoEnd es → log.fate ≡ Lives → (told_by es ≡ [] → ⊥) → (later : List Change) × ((log_after_all log es).acknowledged ≡ Some later)
+told_acknowledges g log [] is course none lives some = absurd (some refl)
+told_acknowledges g log (Issued identity ∷ es) is course none lives some = told_acknowledges g (log_after log (Issued identity)) es (is_log_after g log (Issued identity) is course.0) course.1 none.1 refl some
+told_acknowledges g log (Writing mark asked before table ∷ es) is course none lives some = told_acknowledges g (log_after log (Writing mark asked before table)) es (is_log_after g log (Writing mark asked before table) is course.0) course.1 none.1 refl some
+told_acknowledges g log (Written ∷ es) is course none lives some = told_acknowledges g (log_after log Written) es (is_log_after g log Written is course.0) course.1 none.1 lives some
+told_acknowledges g log (Told which before ∷ es) is course none lives some =
+    let rest = told_stays g (log_after log (Told which before)) es (which ++ before) (is_log_after g log (Told which before) is course.0) course.1 none.1 lives refl in
     (rest.0, rest.1)
-told_acknowledges g log (Placing places ∷ es) is course some = told_acknowledges g (log_after log (Placing places)) es (is_log_after g log (Placing places) is course.0) course.1 some
-told_acknowledges g log (Clearing ∷ es) is course some = told_acknowledges g (log_after log Clearing) es (is_log_after g log Clearing is course.0) course.1 some
-told_acknowledges g log (Gone ∷ es) is course some = told_acknowledges g (log_after log Gone) es (is_log_after g log Gone is course.0) course.1 some
+told_acknowledges g log (Placing places ∷ es) is course none lives some = told_acknowledges g (log_after log (Placing places)) es (is_log_after g log (Placing places) is course.0) course.1 none.1 lives some
+told_acknowledges g log (Clearing ∷ es) is course none lives some = absurd none.0
+told_acknowledges g log (Gone ∷ es) is course none lives some = absurd (never_ends log.fate lives course.0)
 
-pub told_is_acknowledged : (g : Geometry) (log : Log) (es : List Event) → IsLog g log → IsCourse g log es → (told_by es ≡ [] → ⊥) → (log_after_all log es).acknowledged ≡ None → ⊥
-told_is_acknowledged g log es is course some none = let told = told_acknowledges g log es is course some in cc (told.1, none)
+pub told_is_acknowledged : (g : Geometry) (log : Log) (es : List Event) → IsLog g log → IsCourse g log es → AreAll BeginsNoEnd es → log.fate ≡ Lives → (told_by es ≡ [] → ⊥) → (log_after_all log es).acknowledged ≡ None → ⊥
+told_is_acknowledged g log es is course none lives some nothing = let told = told_acknowledges g log es is course none lives some in cc (told.1, nothing)

@@ -3,9 +3,11 @@ use Rattle.std.proofs.Common.{◌≡◌, ◌⊎◌, inl, inr, true, false, List,
 use Rattle.std.proofs.lemmas.List.{append-nil, reverse-append}
 use Rattle.mdv_store_law.specs.Below.{Identity, Geometry, Mark, Table}
 use Rattle.mdv_store_law.specs.Changes.{Change}
-use Rattle.mdv_store_law.specs.Log.{Version, Log, Event, Issued, Writing, Written, Told, Placing, Clearing, Gone, with_asked, answered, log_after, log_after_all, is_firm, IsFirst, IsNext, Extends, IsUntold, IsTellable, IsCourse, asks_of, begun_by, changes_of, tells, told_by, IsLog}
+use Rattle.mdv_store_law.specs.Log.{Version, Log, Event, Issued, Writing, Written, Told, Placing, Clearing, Gone, Lives, with_asked, answered, log_after, log_after_all, is_firm, IsFirst, IsNext, Extends, IsUntold, IsTellable, IsCourse, asks_of, begun_by, changes_of, tells, told_by, IsLog}
+use Rattle.mdv_store_law.specs.Machine.{AreAll}
 use Rattle.mdv_store_law.specs.Part.{IsPart}
 use Rattle.mdv_store_law.proofs.Families.{contains_first, contains_behind, contains_cases, written_firm}
+use Rattle.mdv_store_law.proofs.Fates.{BeginsNoEnd, lives_there, never_ends}
 use Rattle.mdv_store_law.proofs.Logs.{is_log_after}
 use Rattle.mdv_store_law.proofs.Parts.{part_itself, part_more}
 
@@ -107,17 +109,41 @@ module _ (g : Geometry) where
       let here = part_more told (reverse before) (reverse which) (reverse which) (untold_part lg.acknowledged told before can.untold part) (part_itself (reverse which)) in
       subst (λ (l : List Change). IsPart (told ++ reverse which) l) (sym (reverse-append which before)) here
 
-  pub all_told : (lg : Log) (es : List Event) (told : List Change) → IsLog g lg → IsToldPart lg.acknowledged told → IsCourse g lg es → IsToldPart (log_after_all lg es).acknowledged (told ++ changes_of (told_by es))
-  all_told lg [] told is part course = subst (IsToldPart lg.acknowledged) (sym (append-nil told)) part
-  all_told lg (Issued identity ∷ es) told is part course = all_told (log_after lg (Issued identity)) es told (is_log_after g lg (Issued identity) is course.0) (none_firm lg told is course.0 lg.acknowledged refl part) course.1
+  -- What was told, and what these events tell, since a creation was issued: that strikes what was told before.
+  abbrev pub told_since : List Change → List Event → List Change
+  told_since told [] = told
+  told_since told (Issued identity ∷ es) = told_since [] es
+  told_since told (Writing mark asked before table ∷ es) = told_since told es
+  told_since told (Written ∷ es) = told_since told es
+  told_since told (Told which before ∷ es) = told_since (told ++ reverse which) es
+  told_since told (Placing places ∷ es) = told_since told es
+  told_since told (Clearing ∷ es) = told_since told es
+  told_since told (Gone ∷ es) = told_since told es
+
+  pub all_told : (lg : Log) (es : List Event) (told : List Change) → IsLog g lg → IsToldPart lg.acknowledged told → IsCourse g lg es → IsToldPart (log_after_all lg es).acknowledged (told_since told es)
+  all_told lg [] told is part course = part
+  all_told lg (Issued identity ∷ es) told is part course = all_told (log_after lg (Issued identity)) es [] (is_log_after g lg (Issued identity) is course.0) refl course.1
   all_told lg (Writing mark asked before table ∷ es) told is part course = all_told (log_after lg (Writing mark asked before table)) es told (is_log_after g lg (Writing mark asked before table) is course.0) part course.1
   all_told lg (Written ∷ es) told is part course = all_told (log_after lg Written) es told (is_log_after g lg Written is course.0) part course.1
-  all_told lg (Told which before ∷ es) told is part course =
-      let there = all_told (log_after lg (Told which before)) es (told ++ reverse which) (is_log_after g lg (Told which before) is course.0) (told_next lg told which before course.0 part) course.1 in
-      let told_here : changes_of (tells (Told which before) ++ told_by es) ≡ reverse which ++ changes_of (told_by es) =
-      changes_more (tells (Told which before)) (told_by es) ∙ ap (λ (l : List Change). l ++ changes_of (told_by es)) (changes_told which before) in
-      let same : (told ++ reverse which) ++ changes_of (told_by es) ≡ told ++ changes_of (tells (Told which before) ++ told_by es) = append_assoc told (reverse which) (changes_of (told_by es)) ∙ ap (λ (l : List Change). told ++ l) (sym told_here) in
-      subst (IsToldPart (log_after_all (log_after lg (Told which before)) es).acknowledged) same there
+  all_told lg (Told which before ∷ es) told is part course = all_told (log_after lg (Told which before)) es (told ++ reverse which) (is_log_after g lg (Told which before) is course.0) (told_next lg told which before course.0 part) course.1
   all_told lg (Placing places ∷ es) told is part course = all_told (log_after lg (Placing places)) es told (is_log_after g lg (Placing places) is course.0) part course.1
   all_told lg (Clearing ∷ es) told is part course = all_told (log_after lg Clearing) es told (is_log_after g lg Clearing is course.0) part course.1
   all_told lg (Gone ∷ es) told is part course = all_told (log_after lg Gone) es told (is_log_after g lg Gone is course.0) part course.1
+
+  -- as long as no end of what lives begins, nothing is struck
+  pub none_struck : (lg : Log) (es : List Event) (told : List Change) → IsLog g lg → IsToldPart lg.acknowledged told → IsCourse g lg es → AreAll BeginsNoEnd es → lg.fate ≡ Lives → told_since told es ≡ told ++ changes_of (told_by es)
+  none_struck lg [] told is part course none lives = sym (append-nil told)
+  none_struck lg (Issued identity ∷ es) told is part course none lives =
+      let nothing : told ≡ [] = elim course.0 [ inl loose ↦ none_firm lg told is loose lg.acknowledged refl part | inr over ↦ absurd (lives_there lg.fate lives over) ] in
+      none_struck (log_after lg (Issued identity)) es [] (is_log_after g lg (Issued identity) is course.0) refl course.1 none.1 refl ∙ ap (λ (l : List Change). l ++ changes_of (told_by es)) (sym nothing)
+  none_struck lg (Writing mark asked before table ∷ es) told is part course none lives = none_struck (log_after lg (Writing mark asked before table)) es told (is_log_after g lg (Writing mark asked before table) is course.0) part course.1 none.1 refl
+  none_struck lg (Written ∷ es) told is part course none lives = none_struck (log_after lg Written) es told (is_log_after g lg Written is course.0) part course.1 none.1 lives
+  none_struck lg (Told which before ∷ es) told is part course none lives =
+      let next = log_after lg (Told which before) in
+      let there = none_struck next es (told ++ reverse which) (is_log_after g lg (Told which before) is course.0) (told_next lg told which before course.0 part) course.1 none.1 lives in
+      let told_here : changes_of (tells (Told which before) ++ told_by es) ≡ reverse which ++ changes_of (told_by es) =
+      changes_more (tells (Told which before)) (told_by es) ∙ ap (λ (l : List Change). l ++ changes_of (told_by es)) (changes_told which before) in
+      there ∙ append_assoc told (reverse which) (changes_of (told_by es)) ∙ ap (λ (l : List Change). told ++ l) (sym told_here)
+  none_struck lg (Placing places ∷ es) told is part course none lives = none_struck (log_after lg (Placing places)) es told (is_log_after g lg (Placing places) is course.0) part course.1 none.1 lives
+  none_struck lg (Clearing ∷ es) told is part course none lives = absurd none.0
+  none_struck lg (Gone ∷ es) told is part course none lives = absurd (never_ends lg.fate lives course.0)

@@ -7,6 +7,8 @@ pub data Change : Type 0 where
   OfPlan : PlanChange → Change
   -- so many places more on each of these slices, each of so many blocks, one behind another from block 16 on
   AddPlaces : List SliceName → ℕ → ℕ → Change
+  -- as many more as an entry of this number says: it doesn't tell which
+  AddListed : ℕ → Change
   -- none any more on these slices
   DropPlaces : List SliceName → Change
   -- the first place alone
@@ -27,10 +29,11 @@ places_from slice blocks k (suc n) = (record { slice = slice; start = 16 + k * b
 abbrev pub places_on : ℕ → ℕ → SliceName → List Place
 places_on count blocks slice = places_from slice blocks 0 count
 
--- the list that comes: it has more places behind the others, or lacks those of some slices, or is the first place alone
+-- The list that comes: it has more places behind the others, or lacks those of some slices, or is the first place alone. Of a change that doesn't tell its places it isn't known.
 abbrev pub list_after : Change → List Place → List Place
 list_after (OfPlan change) places = places
 list_after (AddPlaces slices count blocks) places = places ++ flat_map (places_on count blocks) slices
+list_after (AddListed number) places = places
 list_after (DropPlaces slices) places = list_less slices places
 list_after FirstPlace places = take 1 places
 
@@ -45,13 +48,22 @@ moved change t = record t { plan = record t.plan { lists = lists_after change t.
 abbrev pub table_after : Geometry → Change → Table → Table
 table_after g (OfPlan change) t = plan_changed g change t
 table_after g (AddPlaces slices count blocks) t = moved (AddPlaces slices count blocks) t
+table_after g (AddListed number) t = t
 table_after g (DropPlaces slices) t = moved (DropPlaces slices) t
 table_after g FirstPlace t = moved FirstPlace t
+
+-- places of some slices were added
+pub record HasAdded (old new : Table) : Type 0 where
+  pub slices : List SliceName
+  pub count : ℕ
+  pub blocks : ℕ
+  pub is : new ≡ moved (AddPlaces slices count blocks) old
 
 -- The change makes the one table of the other. One of volumes only where nothing refuses it; what a list of places must be is said of tables of a geometry.
 abbrev pub IsMadeBy : Geometry → Change → Table → Table → Type 0
 IsMadeBy g (OfPlan change) old new = IsAfter g change old.plan new.plan × (new.status ≡ old.status)
 IsMadeBy g (AddPlaces slices count blocks) old new = new ≡ moved (AddPlaces slices count blocks) old
+IsMadeBy g (AddListed number) old new = HasAdded old new
 IsMadeBy g (DropPlaces slices) old new = new ≡ moved (DropPlaces slices) old
 IsMadeBy g FirstPlace old new = new ≡ moved FirstPlace old
 
@@ -59,5 +71,14 @@ IsMadeBy g FirstPlace old new = new ≡ moved FirstPlace old
 abbrev pub KeepsPlaces : Change → Type 0
 KeepsPlaces (OfPlan change) = Unit {0}
 KeepsPlaces (AddPlaces slices count blocks) = ⊥
+KeepsPlaces (AddListed number) = ⊥
 KeepsPlaces (DropPlaces slices) = ⊥
 KeepsPlaces FirstPlace = ⊥
+
+-- it tells which list comes
+abbrev pub TellsList : Change → Type 0
+TellsList (OfPlan change) = Unit {0}
+TellsList (AddPlaces slices count blocks) = Unit {0}
+TellsList (AddListed number) = ⊥
+TellsList (DropPlaces slices) = Unit {0}
+TellsList FirstPlace = Unit {0}

@@ -156,9 +156,10 @@ abbrev pub IsUntold : Option (List Change) → List Change → Type 0
 IsUntold None before = Unit {0}
 IsUntold (Some told) before = Extends before told
 
--- The newest table's write was answered; its changes are later ones, then these, of which none was told, then those before
+-- The database isn't about to be deleted, and the newest table's write was answered; its changes are later ones, then these, of which none was told, then those before
 -- them. A creation is told once, and before all else.
 pub record IsTellable (log : Log) (which before : List Change) : Type 0 where
+  pub lives : log.fate ≡ Lives
   pub newest : Version
   pub older : List Version
   pub family : log.family ≡ newest ∷ older
@@ -199,9 +200,9 @@ pub record IsClearable (log : Log) : Type 0 where
   pub place : Place
   pub only : newest.table.plan.lists ≡ One (place ∷ [])
 
--- when each event may happen
+-- When each event may happen. A creation is issued where no table of the key was answered, or where what was there is deleted.
 abbrev pub MayHappen : Geometry → Log → Event → Type 0
-MayHappen g log (Issued identity) = is_firm log ≡ false
+MayHappen g log (Issued identity) = (is_firm log ≡ false) ⊎ (log.fate ≡ Over)
 MayHappen g log (Writing mark asked before table) = (IsAbove mark log.family × IsNotOver log.fate) × (IsFirst log.issued log.family asked before table ⊎ IsNext g log.family asked before table)
 MayHappen g log Written = IsBegun log.family
 MayHappen g log (Told which before) = IsTellable log which before
@@ -251,7 +252,7 @@ changes_of [] = []
 changes_of (None ∷ asked) = changes_of asked
 changes_of (Some change ∷ asked) = change ∷ changes_of asked
 
--- what an event issues: a creation, under this identity; a table, for this change; places that are about to be formatted; or the database's end
+-- what an event issues: a creation, under this identity; a table, for this change; places that are about to be formatted; or the database's end, once, as it begins
 pub data Issue : Type 0 where
   OfCreation : Identity → Issue
   OfChange : Change → Issue
@@ -271,7 +272,7 @@ IsIssue Which Written = Unit {0}
 IsIssue Which (Told which before) = Unit {0}
 IsIssue Which (Placing places) = Which (OfPlaces places)
 IsIssue Which Clearing = Which OfEnd
-IsIssue Which Gone = Which OfEnd
+IsIssue Which Gone = Unit {0}
 
 -- The events tell these; they begin only what is asked, creations and changes, in that order and each once; and what they issue is so.
 abbrev pub Adds : (Issue → Type 0) → List (Option Change) → List (Option Change) → List Event → Type 0

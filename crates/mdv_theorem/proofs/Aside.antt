@@ -99,10 +99,10 @@ module _ (case : Case) (o : Opened) (opened : case.memory.opened ≡ Some o) (vo
   refused_aside command r on is = first_holds IsAside order (held case command) r (held_aside command on) is
 
 -- what is done is told by no refusal
-done_untold : (calls : Outcomes) (host : Host) (kept next : Kept) (command : Command) (answer : Answer) (r : Refusal) → Effect calls host kept command answer next → text_of answer ≡ refusal_line r → ⊥
+pub done_untold : (calls : Outcomes) (host : Host) (kept next : Kept) (command : Command) (answer : Answer) (r : Refusal) → Effect calls host kept command answer next → text_of answer ≡ refusal_line r → ⊥
 done_untold calls host kept next (AddPlaces slices force count blocks) answer r effect told = ok_is_none r (sym (ap text_of effect.0) ∙ told)
 done_untold calls host kept next (AddListed number force) answer r effect told = effect
-done_untold calls host kept next (DropPlaces slices force) answer r effect told = effect
+done_untold calls host kept next (DropPlaces slices force) answer r effect told = ok_is_none r (sym (ap text_of effect.0) ∙ told)
 done_untold calls host kept next (MakeStripe volume slice) answer r effect told = ok_is_none r (sym (ap text_of effect.0) ∙ told)
 done_untold calls host kept next (Read volume at count) answer r effect told = values_are_none at _ r (sym (ap text_of effect.3) ∙ told)
 done_untold calls host kept next (Write volume at block) answer r effect told = ok_is_none r (sym (ap text_of effect.3) ∙ told)

@@ -1,9 +1,9 @@
 -- A write of an earlier run that was acknowledged: the block is there at the start, and has its value, or one that was issued later.
-use Rattle.std.proofs.Common.{◌≡◌, ◌⊎◌, inl, inr, ⊎_elim, ℕ, ◌+◌, ◌-◌, ◌<◌, true, Option, None, List, [], ◌∷◌, ◌++◌, length, slice_index_or, Contains, refl, sym, ◌∙◌, ap, subst, arith}
+use Rattle.std.proofs.Common.{◌≡◌, ◌⊎◌, inl, inr, ⊎_elim, ℕ, ◌+◌, ◌-◌, ◌<◌, true, Option, List, [], ◌∷◌, ◌++◌, length, slice_index_or, Contains, sym, ◌∙◌, ap, subst, arith}
 use Rattle.std.proofs.lemmas.List.Elements.{Contains-append_cases, Contains-append_left, Contains-append_right}
 use Rattle.mdv_base.specs.declared.name.Key.{Key}
 use Rattle.mdv_base.specs.declared.name.VolId.{VolId}
-use Rattle.mdv_engine_law.specs.Line.{Ask, deeds, HasNoTableOn}
+use Rattle.mdv_engine_law.specs.Line.{Ask, deeds}
 use Rattle.mdv_engine_law.specs.declared.host.Host.{Host}
 use Rattle.mdv_engine_law.specs.Replies.{issuable, ok_line}
 use Rattle.mdv_map.specs.Logs.{is_among}
@@ -24,7 +24,7 @@ use Rattle.mdv_volumes.specs.Events.{Answers, Begins, Flushes, Issues, VolumeEve
 use Rattle.mdv_volumes.specs.Events as lives
 use Rattle.mdv_volumes.specs.Happening.{HasRange, IsNamed, begins, begun_of, issued_by}
 use Rattle.mdv_volumes.specs.History.{Acknowledges, Boots, Changed, Crashes, Created, Creation, Deed, Deleted, Deletes, Event, OfDatabase, OfVolume, Reads, Saw, Shows, Stops, Wrote, events_at, events_of, history_after_all}
-use Rattle.mdv_volumes.specs.HistoryLaws.{new_history}
+use Rattle.mdv_volumes.specs.HistoryLaws.{KeepDatabase, new_history}
 use Rattle.mdv_volumes.specs.LogLaws.{MayBe}
 use Rattle.mdv_volumes.specs.Tables.{IsMapOf}
 use Rattle.mdv_volumes.proofs.Databases.{volume_key, volume_number}
@@ -33,9 +33,8 @@ use Rattle.mdv_volumes.proofs.Lists.{contains_first}
 use Rattle.mdv_words.specs.declared.command.Command.TheVariants.{Write}
 use Rattle.mdv_theorem.specs.Exchanges.{Exchange, IsAcknowledged, MayBeWritten, exchanges_by}
 use Rattle.mdv_theorem.specs.Words.{IsOrWasWritten}
-use Rattle.mdv_volumes.proofs.Made.{map_stays}
-use Rattle.mdv_table.specs.Plan.{settled}
-use Rattle.mdv_theorem.proofs.Found.{Found, asked_at, deed_told, es, its, its_course, lasting_found, lined, ok_sated, range_found}
+use Rattle.mdv_theorem.proofs.Found.{asked_at, deed_told, es, its, its_course, lined, ok_sated, range_found}
+use Rattle.mdv_theorem.proofs.Ends.{TakeDatabase, lined_ends}
 use Rattle.mdv_theorem.proofs.Lined.{AreLined, AreOfReply, AreReplied, IsLinedAt, host, lined_at, lined_begins}
 use Rattle.mdv_theorem.proofs.Lines.{lets, the_only}
 use Rattle.mdv_theorem.proofs.Places.{IsToldAt, at_among, may_at, told_at}
@@ -167,13 +166,9 @@ module _ (drives : Geometry) (name : List ℕ) (made : Image) (before : List Ran
     abbrev Lies : Table → Type 0
     Lies table = IsMapOf own.drives table volume its_map
 
-    its_tables : AreLasting own.drives Lies (log_of (history_after_all new_history all).databases its_key)
-    its_tables = range_found drives name made before t sound of_table life front (event ∷ rest) volume number 1 stands_so its_range
-
-    -- what its own line issued behind that is the same value
-    own_issue : (at : ℕ) (blocks : List (List ℕ)) → Contains (issued_by its_told.at.later) (Wrote its_key volume at blocks) → deed ≡ Wrote its_key volume at blocks
-    own_issue at blocks has =
-        let issue = Wrote its_key volume at blocks in
+    -- what its own line issued behind that is the same
+    own_issue : (issue : Deed) → Contains (issued_by its_told.at.later) issue → deed ≡ issue
+    own_issue issue has =
         let a = its_told.at.first in
         let b = its_told.at.later in
         let is : issued_by line.own ≡ issued_by a ++ issued_by b = ap issued_by its_told.at.is ∙ all_more begins a (event ∷ b) in
@@ -182,12 +177,22 @@ module _ (drives : Geometry) (name : List ℕ) (made : Image) (before : List Ran
         let asked = asked_at drives name made before t sound of_table life write ok_line (Write volume number old) line.own acknowledged.asks (ok_sated drives name made before t sound of_table life) replied in
         the_only deed issue (subst (λ (a : Ask). Contains (deeds a) issue) asked may.asked)
 
+    -- a line behind it may have taken the database away, or no end of it began
+    keep_or_takes : TakeDatabase between ⊎ KeepDatabase its_key rest
+    keep_or_takes = elim (lined_ends drives name between line.later line.of_between) [
+      | inl takes ↦ inl takes
+      | inr keep ↦ inr (λ has. elim (Contains-append_cases (issued_by its_told.at.later) (issued_by line.later) (Deleted its_key) (subst (λ (l : List Deed). Contains l (Deleted its_key)) (all_more begins its_told.at.later line.later) has)) [
+        | inl own ↦ absurd (let never = own_issue (Deleted its_key) own in cc (never))
+        | inr later ↦ keep later
+      ])
+    ]
+
     later_value : (x : List ℕ) → IsIssued its_key volume number x (issued_by rest) → IsOrWasWritten volume number old between x
     later_value x is =
         let issue = Wrote its_key volume is.at is.blocks in
         elim (Contains-append_cases (issued_by its_told.at.later) (issued_by line.later) issue (subst (λ (l : List Deed). Contains l issue) (all_more begins its_told.at.later line.later) is.deed)) [
           | inl now ↦
-              let same = own_issue is.at is.blocks now in
+              let same = own_issue issue now in
               inl (ap significant (one_issue its_key volume number x is.at is.blocks old (sym (ap blocks_of same)) is.among is.value).1)
           | inr later ↦
               let came = lined_begins drives name between line.later line.of_between issue later in
@@ -195,39 +200,49 @@ module _ (drives : Geometry) (name : List ℕ) (made : Image) (before : List Ran
               inr (inl (came.0, came.2.0, came.1, subst (λ (n : ℕ). MayBeWritten volume n came.2.0 came.0) value.0 came.2.2, ap significant value.1))
         ]
 
-    -- the values that its block may have
-    log_value : (x : List ℕ) → MayBe ((history_after_all new_history all).volumes its_key volume) number x → IsOrWasWritten volume number old between x
-    log_value x may =
-        let here : number + 0 ≡ number = omega arith in
-        let lasts = (its drives name made before t sound of_table life).lasts front rest its_told.place its_key volume number (old ∷ []) stands_so in
-        let so : MayBe ((history_after_all new_history (front ++ event ∷ rest)).volumes its_key volume) (number + 0) x =
-        subst (λ (l : List Event). MayBe ((history_after_all new_history l).volumes its_key volume) (number + 0) x) stands_so (subst (λ (n : ℕ). MayBe ((history_after_all new_history all).volumes its_key volume) n x) (sym here) may) in
-        elim (lasts.lasts 0 x (omega arith) so) [
-          | inl same ↦ inl (ap significant same)
-          | inr later ↦ later_value x (issued_deed its_key volume number x rest (subst (λ (n : ℕ). Among (issued_to n (events_of its_key volume rest)) x) here later))
-        ]
+    -- where none did
+    module _ (keep : KeepDatabase its_key rest) where
+      its_tables : AreLasting own.drives Lies (log_of (history_after_all new_history all).databases its_key)
+      its_tables = range_found drives name made before t sound of_table life front (event ∷ rest) volume number 1 stands_so its_range keep
 
-    its_blocks : number < its_map.blocks
-    its_blocks = let within = its_range.within in omega (arith, within)
+      -- the values that its block may have
+      log_value : (x : List ℕ) → MayBe ((history_after_all new_history all).volumes its_key volume) number x → IsOrWasWritten volume number old between x
+      log_value x may =
+          let here : number + 0 ≡ number = omega arith in
+          let lasts = (its drives name made before t sound of_table life).lasts front rest its_told.place its_key volume number (old ∷ []) stands_so keep in
+          let so : MayBe ((history_after_all new_history (front ++ event ∷ rest)).volumes its_key volume) (number + 0) x =
+          subst (λ (l : List Event). MayBe ((history_after_all new_history l).volumes its_key volume) (number + 0) x) stands_so (subst (λ (n : ℕ). MayBe ((history_after_all new_history all).volumes its_key volume) n x) (sym here) may) in
+          elim (lasts.lasts 0 x (omega arith) so) [
+            | inl same ↦ inl (ap significant same)
+            | inr later ↦ later_value x (issued_deed its_key volume number x rest (subst (λ (n : ℕ). Among (issued_to n (events_of its_key volume rest)) x) here later))
+          ]
 
-    -- a table that a boot may find has it
-    its_named : IsNamed own.drives (history_after_all new_history all).databases its_key volume its_map
-    its_named =
-        let some = some_lasts own.drives Lies (log_of (history_after_all new_history all).databases its_key) its_tables in
-        record { version = some.0; found = some.1; map = some.2 }
+      its_blocks : number < its_map.blocks
+      its_blocks = let within = its_range.within in omega (arith, within)
 
-    read_value : (x : List ℕ) → Among (readings its_map (last t) number) x → IsOrWasWritten volume number old between x
-    read_value x among = log_value x (inl ((its drives name made before t sound of_table life).reads volume its_map its_named number x its_blocks among))
+      -- a table that a boot may find has it
+      its_named : IsNamed own.drives (history_after_all new_history all).databases its_key volume its_map
+      its_named =
+          let some = some_lasts own.drives Lies (log_of (history_after_all new_history all).databases its_key) its_tables in
+          record { version = some.0; found = some.1; map = some.2 }
 
-  -- An acknowledged write of an earlier run: each table that is found has the volume with the block, which has the write's value, or one that a line behind it may have written.
-  pub write_left : (first between : List Exchange) (write : Exchange) (volume : VolId) (number : ℕ) (old : List ℕ) → exchanges_by name before ≡ first ++ write ∷ between → IsAcknowledged volume number old write
-      → (HasNoTableOn own.drives its_key (last t) → ⊥)
-      × (v : Map) × ((table : Table) → Found drives name t table → IsMapOf own.drives table volume v) × (number < v.blocks) × ((x : List ℕ) → Among (readings v (last t) number) x → IsOrWasWritten volume number old between x)
-  write_left first between write volume number old stood acknowledged =
-      let found = lasting_found drives name made before t sound of_table life (Lies first between write volume number old stood acknowledged) (λ table lies. map_stays own.drives volume (its_map first between write volume number old stood acknowledged) None table (settled table) (inr refl) lies) (its_tables first between write volume number old stood acknowledged) in (
-        found.0,
-        its_map first between write volume number old stood acknowledged,
-        found.1,
-        its_blocks first between write volume number old stood acknowledged,
-        read_value first between write volume number old stood acknowledged,
-      )
+      read_value : (x : List ℕ) → Among (readings its_map (last t) number) x → IsOrWasWritten volume number old between x
+      read_value x among = log_value x (inl ((its drives name made before t sound of_table life).reads volume its_map its_named number x its_blocks among))
+
+  -- An acknowledged write of an earlier run: each table that a boot may find has the volume with the block, which has the write's value, or one that a line behind it may have written; or one may have taken the database away.
+  pub record WriteLeft (between : List Exchange) (volume : VolId) (number : ℕ) (old : List ℕ) : Type 0 where
+    pub map : Map
+    pub lasts : AreLasting own.drives (λ table. IsMapOf own.drives table volume map) (log_of (history_after_all new_history all).databases its_key)
+    pub within : number < map.blocks
+    pub values : (x : List ℕ) → Among (readings map (last t) number) x → IsOrWasWritten volume number old between x
+
+  pub write_left : (first between : List Exchange) (write : Exchange) (volume : VolId) (number : ℕ) (old : List ℕ) → exchanges_by name before ≡ first ++ write ∷ between → IsAcknowledged volume number old write → TakeDatabase between ⊎ WriteLeft between volume number old
+  write_left first between write volume number old stood acknowledged = elim (keep_or_takes first between write volume number old stood acknowledged) [
+    | inl takes ↦ inl takes
+    | inr keep ↦ inr (record {
+      map = its_map first between write volume number old stood acknowledged;
+      lasts = its_tables first between write volume number old stood acknowledged keep;
+      within = its_blocks first between write volume number old stood acknowledged keep;
+      values = read_value first between write volume number old stood acknowledged keep;
+    })
+  ]

@@ -8,7 +8,7 @@ use Rattle.mdv_name.specs.SliceIndex.{HasSlice, slice_at}
 use Rattle.mdv_name.specs.declared.geometry.Geometry.{Geometry}
 use Rattle.mdv_name.specs.declared.slice_lines.SliceAt.{SliceAt}
 use Rattle.mdv_name.proofs.Finding.{slice_at-some}
-use Rattle.mdv_store_law.specs.Changes.{AddPlaces, Change, DropPlaces, FirstPlace, OfPlan, moved}
+use Rattle.mdv_store_law.specs.Changes.{AddListed, AddPlaces, Change, DropPlaces, FirstPlace, OfPlan, moved}
 use Rattle.mdv_store_law.specs.Log.{AreMade, IsMade, IsSameOrSettled}
 use Rattle.mdv_table.specs.Change.{IsAfter, blocks_at}
 use Rattle.mdv_table.specs.Slices.{IsSound}
@@ -91,6 +91,8 @@ module _ (g : Geometry) where
       ])
   made_has (AddPlaces slices count blocks ∷ changes) table volume slice (old, new, made, after, more) has =
       moved_has (AddPlaces slices count blocks) old new table after more (made_has changes old volume slice made (behind_move (AddPlaces slices count blocks) (MakeStripe volume slice) changes (λ same. absurd (cc (same))) has))
+  made_has (AddListed number ∷ changes) table volume slice (old, new, made, after, more) has =
+      moved_has (AddPlaces after.slices after.count after.blocks) old new table after.is more (made_has changes old volume slice made (behind_move (AddListed number) (MakeStripe volume slice) changes (λ same. absurd (cc (same))) has))
   made_has (DropPlaces slices ∷ changes) table volume slice (old, new, made, after, more) has =
       moved_has (DropPlaces slices) old new table after more (made_has changes old volume slice made (behind_move (DropPlaces slices) (MakeStripe volume slice) changes (λ same. absurd (cc (same))) has))
   made_has (FirstPlace ∷ changes) table volume slice (old, new, made, after, more) has =
@@ -125,6 +127,8 @@ module _ (g : Geometry) where
       ]
   made_by (AddPlaces slices count blocks ∷ changes) table volume of (old, new, made, after, more) has =
       made_behind (AddPlaces slices count blocks) changes volume of (made_by changes old volume of made (had_volume (AddPlaces slices count blocks) old new table volume of after more has))
+  made_by (AddListed number ∷ changes) table volume of (old, new, made, after, more) has =
+      made_behind (AddListed number) changes volume of (made_by changes old volume of made (had_volume (AddPlaces after.slices after.count after.blocks) old new table volume of after.is more has))
   made_by (DropPlaces slices ∷ changes) table volume of (old, new, made, after, more) has =
       made_behind (DropPlaces slices) changes volume of (made_by changes old volume of made (had_volume (DropPlaces slices) old new table volume of after more has))
   made_by (FirstPlace ∷ changes) table volume of (old, new, made, after, more) has =

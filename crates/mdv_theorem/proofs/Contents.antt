@@ -1,19 +1,20 @@
 -- What lines of a run leave in a block of a volume: what was there, or what one of them wrote; and what a reply to a read tells of it.
-use Rattle.std.proofs.Common.{◌≡◌, ◌⊎◌, inl, inr, ℕ, zero, suc, ◌+◌, ◌<◌, false, List, [], ◌∷◌, length, map, slice_index_or, Contains, Some, refl, sym, ◌∙◌, ap, subst, arith}
+use Rattle.std.proofs.Common.{◌≡◌, ◌⊎◌, inl, inr, ℕ, zero, suc, ◌+◌, ◌<◌, Bool, true, false, List, [], ◌∷◌, length, map, slice_index_or, Contains, Some, refl, sym, ◌∙◌, ap, subst, arith}
 use Rattle.std.specs.List.{range_with_len}
 use Rattle.std.proofs.lemmas.Bool.{cases_eq}
 use Rattle.mdv_base.specs.declared.name.VolId.{VolId}
 use Rattle.mdv_base.specs.declared.refusal.Refusal.TheVariants.{IoFault}
 use Rattle.mdv_engine_law.specs.Answers.{accepted, refusing}
-use Rattle.mdv_engine_law.specs.Commands.{Effect}
+use Rattle.mdv_engine_law.specs.Commands as came
+use Rattle.mdv_engine_law.specs.Commands.{CameTo, ComesTo, Effect}
 use Rattle.mdv_shelf.specs.Failing.{Outcomes}
-use Rattle.mdv_engine_law.specs.Line.{AreBlocksAt, IsRebooted, Kept, Memory, Stays, blocks_of}
+use Rattle.mdv_engine_law.specs.Line.{AreBlocksAt, ArePut, MayBePut, IsRebooted, Kept, Memory, Stays, blocks_of}
 use Rattle.mdv_engine_law.specs.Replies.{ok_line, refusal_line, text_of}
 use Rattle.mdv_engine_law.specs.declared.answer.Answer.{Answer}
 use Rattle.mdv_engine_law.specs.declared.host.Host.{Host}
 use Rattle.mdv_engine_law.proofs.Beside.{lies_plain}
 use Rattle.mdv_map.specs.Maps.{DriveBlock, run_map}
-use Rattle.mdv_run_law.specs.Run.{IsAnswered, IsSaid}
+use Rattle.mdv_run_law.specs.Run.{IsAnswered, IsSaid, TextWrites}
 use Rattle.mdv_run_law.proofs.Extents.{lies_beside, one_place, SeesOwn}
 use Rattle.mdv_run_law.proofs.Placing.{opened_twice, put_at}
 use Rattle.mdv_shelf.specs.Tale.{covers}
@@ -27,15 +28,20 @@ use Rattle.mdv_volumes.specs.Tables.{IsMapOf}
 use Rattle.mdv_volumes.proofs.Lists.{contains_behind, contains_first}
 use Rattle.mdv_volumes.proofs.Tables.{tables_lie}
 use Rattle.mdv_words.specs.Line as words
-use Rattle.mdv_words.specs.Line.{IsLine}
+use Rattle.mdv_words.proofs.Lines.{one_line}
+use Rattle.mdv_words.specs.Line.{IsLine, Line}
 use Rattle.mdv_words.specs.declared.command.Command.TheVariants.{Read, Write}
 use Rattle.mdv_theorem.specs.Exchanges.{Exchange, IsAcknowledged, IsSameBlock, IsTold, MayBeWritten, MayHaveBegun, TellsBlock}
-use Rattle.mdv_theorem.proofs.Steps.{Steps, no_step, one_step, skipped, told_once, sure_first}
-use Rattle.mdv_theorem.proofs.Tables.{never_clean, IsCarried, Keeps, Offers, OpenLine, ShutLine, booted, created, falls, granted_done, idle, keeps_line, keeps_steps, map_carried, off, open_line, rests, shut_line, up, writes, HasComeUp, adopted, empty, has_come_up}
+use Rattle.mdv_theorem.proofs.Steps.{Between, Steps, no_step, one_step, skipped, told_once}
+use Rattle.mdv_theorem.proofs.Ends.{TakeDatabase}
+use Rattle.mdv_theorem.proofs.Kept.{keeps_or_takes}
+use Rattle.mdv_theorem.proofs.Tables.{IsCarried, Keeps, WroteThere, granted_done, keeps_idle, map_carried, open_keeps, text_kept}
 use Rattle.mdv_theorem.proofs.Telling.{is_fault, ok_is_none, one_number}
+use Rattle.mdv_shelf.specs.Everywhere.{Image}
+use Rattle.mdv_store.specs.Booting.{boot_area, has_written}
 use Rattle.mdv_store.specs.Opened.{Opened}
 use Rattle.mdv_shown.specs.Site.{site_area}
-use Rattle.mdv_theorem.proofs.Sure.{IsSure, sure_plan}
+use Rattle.mdv_theorem.proofs.Sure.{sure_plan}
 
 -- a write that was told ok, or that a call failed, may have begun
 may_have_begun : (one : Exchange) (answer : Answer) → IsTold one (text_of answer) → (answer ≡ accepted) ⊎ (answer ≡ refusing IoFault) → MayHaveBegun one
@@ -44,7 +50,14 @@ may_have_begun one answer told (inr fault) refusal refused =
     let same = told_once one (refusal_line IoFault) (refusal_line refusal) (subst (λ (a : Answer). IsTold one (text_of a)) fault told) refused in
     is_fault refusal (sym (one_number IoFault refusal same))
 
-module _ (host : Host) (sound : IsSound host.drives) (sees : SeesOwn host) (volume : VolId) (drive first count b : ℕ) (within : b < count) where
+-- its blocks are none of a replica's
+pub lies_out : (host : Host) (sound : IsSound host.drives) (sees : SeesOwn host) (volume : VolId) (drive first count b : ℕ) → b < count → (t : Table) → IsPlanOf host.drives t.plan → IsMapOf host.drives t volume (run_map drive first count) → site_area host.site drive (first + b) ≡ false
+lies_out host sound sees volume drive first count b within t is_plan lies = lies_beside host sound sees drive first count (lies_plain host sound t is_plan volume drive first count lies) (first + b) (omega arith) (omega (arith, within))
+
+may_be_put : (from : DriveBlock) (blocks : List (List ℕ)) (old new : Image) → ArePut from blocks old new → MayBePut from blocks old new
+may_be_put from blocks old new put = record { here = λ k less. inr (put.here k less); elsewhere = put.elsewhere }
+
+module _ (host : Host) (sound : IsSound host.drives) (sees : SeesOwn host) (volume : VolId) (drive first count b : ℕ) (within : b < count) (out : site_area host.site drive (first + b) ≡ false) where
   -- the volume lies there
   abbrev Lies : Table → Type 0
   Lies t = IsMapOf host.drives t volume (run_map drive first count)
@@ -54,10 +67,6 @@ module _ (host : Host) (sound : IsSound host.drives) (sees : SeesOwn host) (volu
 
   abbrev IsKept : Kept → Kept → Type 0
   IsKept kept next = next.content drive (first + b) ≡ kept.content drive (first + b)
-
-  -- its blocks are none of a replica's
-  lies_out : (t : Table) → IsPlanOf host.drives t.plan → Lies t → site_area host.site drive (first + b) ≡ false
-  lies_out t is_plan lies = lies_beside host sound sees drive first count (lies_plain host sound t is_plan volume drive first count lies) (first + b) (omega arith) (omega (arith, within))
 
   -- the line may have written the block
   record IsWritten (one : Exchange) (next : Kept) : Type 0 where
@@ -95,62 +104,88 @@ module _ (host : Host) (sound : IsSound host.drives) (sees : SeesOwn host) (volu
       | inr differ ↦ absurd (never_other (λ same. differ (sym (ap (λ (w : VolId). w.0) same))))
     ]
 
-  open_left : (calls : Outcomes) (one : Exchange) (answer : Answer) (kept next : Kept) (o : Opened) → IsPlanOf host.drives o.table.plan → Lies o.table → kept.memory.opened ≡ Some o → IsTold one (text_of answer)
-      → OpenLine host calls one.text answer o kept next → IsLeft one kept next
-  open_left calls one answer kept next o is_plan lies opened told (rests later now grew beside) = inl (beside drive (first + b) (lies_out o.table is_plan lies))
-  open_left calls one answer kept next o is_plan lies opened told (falls so none down same) = inl (same drive (first + b))
-  open_left calls one answer kept next o is_plan lies opened told (writes other at block spelled memory place there put came) = elim (both_ways (covers place.drive place.block 1 drive (first + b))) [
+  -- of an open table
+  put_left : (one : Exchange) (answer : Answer) (from : Between host) (next : Kept) → Keeps host Lies from → IsTold one (text_of answer) → (other : VolId) (at : ℕ) (block : List ℕ) → IsLine one.text (words.Exec (Write other at block)) → (place : DriveBlock) → AreBlocksAt host from.kept.memory other at 1 place
+      → MayBePut place (block ∷ []) from.kept.content next.content → (answer ≡ accepted) ⊎ (answer ≡ refusing IoFault) → IsLeft one from.kept next
+  put_left one answer from next keeps told other at block spelled place there put came = elim (both_ways (covers place.drive place.block 1 drive (first + b))) [
     | inl here ↦
+        let o = there.lies.0 in
+        let opened = there.lies.1 in
+        let is_plan = sure_plan host from.kept o from.sure opened in
+        let lies = open_keeps host Lies from o keeps opened in
         let at_it = put_at place.drive place.block drive (first + b) here in
-        let same = its_volume o is_plan lies kept.memory opened other at place there at_it.0 at_it.1 in
-        let number = same_number o is_plan lies kept.memory opened other at place there at_it.0 at_it.1 same in
+        let same = its_volume o is_plan lies from.kept.memory opened other at place there at_it.0 at_it.1 in
+        let number = same_number o is_plan lies from.kept.memory opened other at place there at_it.0 at_it.1 same in
         let spot = put.here 0 (omega arith) in
         elim spot [
-          | inl old ↦ inl ((λ i. next.content (at_it.0 i) (at_it.1 i)) ∙ old ∙ sym (λ i. kept.content (at_it.0 i) (at_it.1 i)))
+          | inl old ↦ inl ((λ i. next.content (at_it.0 i) (at_it.1 i)) ∙ old ∙ sym (λ i. from.kept.content (at_it.0 i) (at_it.1 i)))
           | inr new ↦ inr (record {
             new = block;
             may = record { asks = subst (λ (n : ℕ). IsLine one.text (words.Exec (Write volume n block))) number (subst (λ (w : VolId). IsLine one.text (words.Exec (Write w at block))) same spelled); begun = may_have_begun one answer told came };
             reads = (λ i. next.content (at_it.0 i) (at_it.1 i)) ∙ new;
           })
         ]
-    | inr out ↦ inl (put.elsewhere drive (first + b) out)
+    | inr away ↦ inl (put.elsewhere drive (first + b) away)
   ]
 
-  -- what a boot leaves: a table that it adopts has the volume there
-  pub first_left : (calls : Outcomes) (answer : Answer) (kept next : Kept) → Offers host Lies kept.content → IsSure host next → IsRebooted calls host kept answer next → IsSaid answer → next.content drive (first + b) ≡ kept.content drive (first + b)
-  first_left calls answer kept next offers after boots said = by (has_come_up host sound sees calls kept next answer boots said) where
-    by : HasComeUp host calls kept next → next.content drive (first + b) ≡ kept.content drive (first + b)
-    by (adopted later now adopts beside) = beside drive (first + b) (lies_out later.table (sure_plan host next later after now) (offers.each later.table adopts))
-    by (empty none shows same) = same drive (first + b)
+  -- what a write leaves
+  write_left : (calls : Outcomes) (one : Exchange) (answer : Answer) (from : Between host) (next : Kept) → Keeps host Lies from → IsSaid answer → IsTold one (text_of answer) → (other : VolId) (at : ℕ) (block : List ℕ) → IsLine one.text (words.Exec (Write other at block))
+      → CameTo calls host from.kept (Write other at block) answer next → IsLeft one from.kept next
+  write_left calls one answer from next keeps said told other at block spelled (came.refused quiet r why left) = inl (left.1.content drive (first + b))
+  write_left calls one answer from next keeps said told other at block spelled (came.wanting quiet is wants) = absurd wants
+  write_left calls one answer from next keeps said told other at block spelled (came.done free (calm, place, there, ok, memory, put)) =
+      put_left one answer from next keeps told other at block spelled place there (may_be_put place (block ∷ []) from.kept.content next.content put) (inl ok)
+  write_left calls one answer from next keeps said told other at block spelled (came.faulted free is (place, failed, there, memory, put)) = put_left one answer from next keeps told other at block spelled place there put (inr is)
+  write_left calls one answer from next keeps said told other at block spelled (came.over end free over gives) = absurd (let never : ⊥ = subst IsSaid over said in never)
 
-  line_left : (calls : Outcomes) (one : Exchange) (answer : Answer) (kept next : Kept) → IsSure host kept → IsSure host next → Keeps host Lies kept → IsAnswered calls host kept one.text answer next → IsSaid answer → IsTold one (text_of answer) → IsLeft one kept next
-  line_left calls one answer kept next sure after (up o opened has) comes said told =
-      open_left calls one answer kept next o (sure_plan host kept o sure opened) has opened told (open_line host sound sees calls one.text answer kept next o opened sure after comes said)
-  line_left calls one answer kept next sure after (off none down offers) comes said told = by (shut_line host sound sees calls one.text answer kept next none comes said) where
-    by : ShutLine host calls answer kept next → IsLeft one kept next
-    by (idle still_none clean same) = inl (same drive (first + b))
-    by (booted boots) = inl (first_left calls answer kept next offers after boots said)
-    by (created clean bare) = absurd (never_clean kept.memory.clean down clean)
+  -- what a line leaves
+  line_left : (calls : Outcomes) (one : Exchange) (answer : Answer) (from mid : Between host) → Keeps host Lies from → IsAnswered calls host from.kept one.text answer mid.kept → IsSaid answer → IsTold one (text_of answer)
+      → TextWrites host from.kept.memory one.text from.sure.tale mid.sure.tale → IsLeft one from.kept mid.kept
+  line_left calls one answer from mid keeps comes said told writes = elim (text_kept host sees from.kept from.sure one.text from.sure.tale mid.sure.tale drive (first + b) out writes) [
+    | inl kept ↦ inl (sym (mid.sure.reads drive (first + b)) ∙ kept.last ∙ from.sure.reads drive (first + b))
+    | inr wrote ↦ by wrote comes
+  ] where
+    by : (w : WroteThere host from.kept.memory one.text from.sure.tale mid.sure.tale) → IsAnswered calls host from.kept one.text answer mid.kept → IsLeft one from.kept mid.kept
+    by w (inl (none, quiet, refused)) = absurd (none (words.Exec (Write w.volume w.at w.block)) w.spelled)
+    by w (inr (inl (spelled, is, does))) =
+        write_left calls one answer from mid.kept keeps said told w.volume w.at w.block w.spelled (subst (λ (l : Line). ComesTo calls host from.kept l answer mid.kept) (one_line one.text spelled (words.Exec (Write w.volume w.at w.block)) is w.spelled) does)
+    by w (inr (inr (quiet, refused))) = inl (refused.1.content drive (first + b))
+
+  -- what a boot leaves: it writes but replicas
+  pub first_left : (calls : Outcomes) (answer : Answer) (kept next : Kept) → IsRebooted calls host kept answer next → next.content drive (first + b) ≡ kept.content drive (first + b)
+  first_left calls answer kept next boots = boots.beside drive (first + b) (by (has_written boots.end)) where
+    by : (written : Bool) → boot_area host.site written drive (first + b) ≡ false
+    by true = out
+    by false = refl
 
   -- one of these lines may have written what is there
   abbrev pub WasWritten : List Exchange → Kept → Type 0
   WasWritten es last = (one : Exchange) × (new : List ℕ) × Contains es one × MayBeWritten volume b new one × (last.content drive (first + b) ≡ new)
 
-  -- The block reads as it did, or as one of the lines may have written it.
-  pub content_steps : (Failed : ℕ → Type 0) (kept last : Kept) (es : List Exchange) → Keeps host Lies kept → Steps host Failed kept es last → (last.content drive (first + b) ≡ kept.content drive (first + b)) ⊎ WasWritten es last
-  content_steps Failed kept last es keeps (no_step there sure) = inl refl
-  content_steps Failed kept last es keeps (skipped from mid end rest sure same steps) =
-      by (content_steps Failed mid last es (keeps_steps host sound sees Lies carried Failed from mid [] keeps (skipped from mid mid [] sure same (no_step mid (sure_first host Failed mid last es steps)))) steps) where
-        by : IsKept mid last ⊎ WasWritten es last → IsKept from last ⊎ WasWritten es last
-        by (inl kept_on) = inl (kept_on ∙ same.content drive (first + b))
-        by (inr written) = inr written
-  content_steps Failed kept last es keeps (one_step calls from mid end one answer rest sure unfailed comes said told steps) =
-      let after = sure_first host Failed mid last rest steps in
-      by (line_left calls one answer from mid sure after keeps comes said told) (content_steps Failed mid last rest (keeps_line host sound sees Lies carried calls one.text answer from mid sure after keeps comes said) steps) where
-        by : IsLeft one from mid → IsKept mid last ⊎ WasWritten rest last → IsKept from last ⊎ WasWritten (one ∷ rest) last
-        by here (inr written) = inr (written.0, written.1, contains_behind one written.0 rest written.2, written.3, written.4)
-        by (inl here) (inl kept_on) = inl (kept_on ∙ here)
-        by (inr here) (inl kept_on) = inr (one, here.new, contains_first one rest, here.may, kept_on ∙ here.reads)
+  -- or it is what was there
+  abbrev pub IsStill : List Exchange → Kept → Kept → Type 0
+  IsStill es kept last = (last.content drive (first + b) ≡ kept.content drive (first + b)) ⊎ WasWritten es last
+
+  line_more : (one : Exchange) (rest : List Exchange) (from mid last : Kept) → IsLeft one from mid → IsStill rest mid last → IsStill (one ∷ rest) from last
+  line_more one rest from mid last here (inr written) = inr (written.0, written.1, contains_behind one written.0 rest written.2, written.3, written.4)
+  line_more one rest from mid last (inl here) (inl kept_on) = inl (kept_on ∙ here)
+  line_more one rest from mid last (inr here) (inl kept_on) = inr (one, here.new, contains_first one rest, here.may, kept_on ∙ here.reads)
+
+  -- The block reads as it did, or as one of the lines may have written it, unless one of them may have taken the database away.
+  pub content_steps : (Failed : ℕ → Type 0) (from last : Between host) (es : List Exchange) → Keeps host Lies from → Steps host Failed from es last → TakeDatabase es ⊎ IsStill es from.kept last.kept
+  content_steps Failed from last es keeps (no_step at) = inr (inl refl)
+  content_steps Failed from last es keeps (skipped at mid end rest same idled steps) = elim (content_steps Failed mid last es (keeps_idle host Lies carried from mid idled keeps) steps) [
+    | inl takes ↦ inl takes
+    | inr (inl kept_on) ↦ inr (inl (kept_on ∙ same.content drive (first + b)))
+    | inr (inr written) ↦ inr (inr written)
+  ]
+  content_steps Failed from last es keeps (one_step calls at mid end one answer rest unfailed comes said told writes led steps) = elim (keeps_or_takes host Lies carried one from mid led keeps) [
+    | inl takes ↦ inl (one, contains_first one rest, takes)
+    | inr now ↦ elim (content_steps Failed mid last rest now steps) [
+      | inl takes ↦ inl (takes.0, contains_behind one takes.0 rest takes.1, takes.2)
+      | inr still ↦ inr (line_more one rest from.kept mid.kept last.kept (line_left calls one answer from mid keeps comes said told writes) still)
+    ]
+  ]
 
 -- lists of blocks with the same values have the same at each place
 same_at : (a b : List (List ℕ)) (k : ℕ) → map significant a ≡ map significant b → IsSameBlock (slice_index_or a k []) (slice_index_or b k [])

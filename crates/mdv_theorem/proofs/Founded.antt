@@ -1,151 +1,128 @@
--- A database that a line of an earlier run was told to have made: each table that a boot may find since lists the places on its slices.
-use Rattle.std.proofs.Common.{◌≡◌, ◌⊎◌, inl, inr, ℕ, ◌+◌, Bool, true, List, [], ◌∷◌, ◌++◌, length, take, Some, Contains, refl, sym, ◌∙◌, ap, subst, if◌then◌else◌}
-use Rattle.std.proofs.lemmas.List.Elements.{Contains-append_cases}
+-- A database that a line was told to have made: the lists of places that a boot may find since lie on slices that the lines behind it may have come to.
+use Rattle.std.proofs.Common.{◌≡◌, ◌⊎◌, inl, inr, ℕ, ◌+◌, Bool, List, [], ◌∷◌, ◌++◌, length, append_assoc, Some, None, Contains, refl, sym, ◌∙◌, ap, subst, if◌then◌else◌}
+use Rattle.std.proofs.lemmas.List.{append-nil, append_cancel_left, append_cancel_right}
+use Rattle.std.proofs.lemmas.List.Elements.{Contains-append_left, Contains-append_right}
 use Rattle.std.proofs.lemmas.Slice.Eq.{bytes_eq-Decides}
 use Rattle.std.specs.Str.{bytes_eq}
 use Rattle.mdv_base.specs.declared.drive.SliceName.{SliceName}
-use Rattle.mdv_base.specs.declared.name.Key.TheVariants.{Local}
-use Rattle.mdv_base.specs.declared.place.Place.{Place}
 use Rattle.mdv_engine_law.specs.Line.{Kept}
-use Rattle.mdv_engine_law.specs.Replies.{IsPlainAnswer, ok_line, text_of}
-use Rattle.mdv_engine_law.specs.Standing.{StandsAt}
+use Rattle.mdv_engine_law.specs.Replies.{ok_line, text_of}
 use Rattle.mdv_engine_law.specs.declared.answer.Answer.{Answer}
 use Rattle.mdv_engine_law.specs.declared.host.Host.{Host}
-use Rattle.mdv_engine_law.proofs.Plain.{nothing_answers}
 use Rattle.mdv_name.specs.declared.geometry.Geometry.{Geometry}
 use Rattle.mdv_port.specs.Script.{Script, line}
-use Rattle.mdv_run_law.proofs.Course.{said_reply}
-use Rattle.mdv_run_law.proofs.Owning.{IsOfRuns, runs_own}
-use Rattle.mdv_run_law.specs.Lives.{IsLife, IsNewWord, Ran, as_it_was, host_of}
-use Rattle.mdv_run_law.specs.Run.{At, Counts, IsAnswered, IsSaid, LineTold, IsNextFront, LinesTold, NextFront, NextLine, Stretch, drive_failures, no_line, one_more}
-use Rattle.mdv_run_law.specs.Standing.{RunMoment}
+use Rattle.mdv_run_law.specs.Lives.{HasMetNone, IsNewWord, MayBeFound, Ran, host_of}
+use Rattle.mdv_run_law.specs.Run.{At, Counts, IsAnswered, IsNextFront, LineTold, LinesTold, NextLine, Stretch, behind_boot, drive_failures, no_line, one_more}
+use Rattle.mdv_run_law.specs.Standing.{AreOfRun, RunMoment, context_of}
 use Rattle.mdv_run_law.specs.Told.{IsToldBy}
+use Rattle.mdv_run_law.proofs.Coming.{in_work_none}
+use Rattle.mdv_run_law.proofs.Living.{ends}
 use Rattle.mdv_shelf.proofs.Blocks.{both_ways}
 use Rattle.mdv_shelf.specs.Everywhere.{Image}
-use Rattle.mdv_shelf.specs.Story.{Moment, tale_of}
-use Rattle.mdv_shelf.specs.Tale.{Tale, last}
-use Rattle.mdv_status.specs.Telling.{Said as SaidBytes, replies_in}
-use Rattle.mdv_store.specs.Opened.{Opened}
+use Rattle.mdv_shelf.specs.Moments.{IsSince}
+use Rattle.mdv_shelf.specs.Story.{Moment, Story, tale_of}
+use Rattle.mdv_shelf.specs.Tale.{Tale}
+use Rattle.mdv_shelf.specs.Tale as tale
+use Rattle.mdv_status.specs.Telling.{replies_in}
 use Rattle.mdv_store_law.specs.Laws.{restarted}
-use Rattle.mdv_survey.specs.Choice.{is_of, same_identity}
-use Rattle.mdv_store.proofs.Adoptions.{same_identity_self}
-use Rattle.mdv_base.specs.declared.mark.Identity.{Identity}
 use Rattle.mdv_table.specs.Slices.{IsSound}
-use Rattle.mdv_table.specs.declared.table.Table.{Table}
-use Rattle.mdv_table.specs.declared.volume.Volume.{Volume}
-use Rattle.mdv_volumes.proofs.Found.{AreLasting}
-use Rattle.mdv_volumes.proofs.Owners.{AreEach}
-use Rattle.mdv_volumes.specs.Databases.{log_of}
-use Rattle.mdv_volumes.specs.History.{History}
+use Rattle.mdv_volumes.specs.History.{History, history_after_all}
 use Rattle.mdv_words.specs.declared.command.Command.TheVariants.{AddPlaces}
 use Rattle.mdv_theorem.specs.Exchanges.{Asks, Exchange, IsTold, exchanges, exchanges_by, exchanges_of}
-use Rattle.mdv_theorem.specs.Running.{IsMomentOf, Lived, Running, Runs, no_run, run_on}
-use Rattle.mdv_theorem.proofs.Counting.{AreMadeOn}
-use Rattle.mdv_theorem.proofs.Creating.{IsShownBy, made_there, shown_there}
-use Rattle.mdv_theorem.proofs.Found.{created_written, is_log, its, its_course, now}
-use Rattle.mdv_theorem.proofs.Given.{Given}
-use Rattle.mdv_theorem.proofs.Later.{Lasts, lasts_between, lasts_run, lasts_work, open_lasts}
-use Rattle.mdv_theorem.proofs.Left.{line_goes, lines_go, replies_behind, said_or_over, script_plain}
-use Rattle.mdv_theorem.proofs.Lined.{runs_keep}
+use Rattle.mdv_theorem.specs.Running.{HaveMetNone, IsMomentOf, Lived, Running, Runs, no_run, run_on}
+use Rattle.mdv_theorem.specs.Words.{IsMadeOn, KeepsDatabase, spread}
+use Rattle.mdv_theorem.proofs.Agreeing.{own_sound}
+use Rattle.mdv_theorem.proofs.Along.{LieAt, open_lies}
+use Rattle.mdv_theorem.proofs.Behind.{RunLies, lined_lies, tail_lies}
+use Rattle.mdv_theorem.proofs.Clean.{its_start, met_none, start, start_own, start_stands}
+use Rattle.mdv_theorem.proofs.Come.{HasCome, HasMetNothing}
+use Rattle.mdv_theorem.proofs.Creating.{made_there}
+use Rattle.mdv_theorem.proofs.Fronts.{IsWhole, front_says, none_or_all, none_told, whole_come, whole_run}
+use Rattle.mdv_theorem.proofs.Lain.{LieBehind, behind_more, other_behind, own_behind}
+use Rattle.mdv_theorem.proofs.Left.{lines_here, lines_say, replies_behind}
+use Rattle.mdv_theorem.proofs.Lined.{AreLined, come_lined, said_of}
 use Rattle.mdv_theorem.proofs.Lines.{never_in}
-use Rattle.mdv_theorem.proofs.Living.{lived_life}
-use Rattle.mdv_theorem.proofs.Opened.{known_there, point}
-use Rattle.mdv_theorem.proofs.Over.{lines_of, own_told}
-use Rattle.mdv_theorem.proofs.Parting.{cut}
+use Rattle.mdv_theorem.proofs.Lists.{ListsLie}
+use Rattle.mdv_theorem.proofs.Parting.{Parts, cut_has, in_first, in_second, parts}
 use Rattle.mdv_theorem.proofs.Reread.{Came, came}
-use Rattle.mdv_theorem.proofs.Replying.{none_or_whole}
-use Rattle.mdv_theorem.proofs.Seeing.{ListsThese}
-use Rattle.mdv_theorem.proofs.Sharing.{alike_from_new, shown_version}
-use Rattle.mdv_theorem.proofs.Staying.{its_sound}
-use Rattle.mdv_theorem.proofs.Steps.{take_none, unreplied}
-
--- each table that a boot may find lists these places, which were made on the slices
-pub record WasMade (drives : Geometry) (name : List ℕ) (before : List Ran) (slices : List SliceName) (t : Tale) : Type 0 where
-  pub places : List Place
-  pub made : AreMadeOn (host_of drives name 0).site.lines slices places
-  pub history : History
-  pub stands : StandsAt (host_of drives name 0) history t
-  pub its : AreEach (IsOfRuns name before) history.databases
-  pub lasting : AreLasting (host_of drives name 0).drives (ListsThese places) (log_of history.databases (Local name))
-
--- and so it lasts
-record IsFounded (drives : Geometry) (name : List ℕ) (slices : List SliceName) (ran : List Ran) (t : Tale) : Type 0 where
-  places : List Place
-  made : AreMadeOn (host_of drives name 0).site.lines slices places
-  table : Table
-  lists : ListsThese places table
-  lasts : Lasts drives name table ran t
+use Rattle.mdv_theorem.proofs.Steps.{unreplied}
+use Rattle.mdv_theorem.proofs.Sure.{IsSureAt, since_last, sure_on}
+use Rattle.mdv_theorem.proofs.Tail.{rest_told}
+use Rattle.mdv_theorem.proofs.Refused.{AreRefused}
+use Rattle.mdv_theorem.proofs.Unmade.{none_open}
 
 -- the line that was told is the first of those that are left, or none is left
-record IsFirst (host : Host) (stretch : Stretch) (n : ℕ) (from to : At) (left : List ℕ) : Type 1 where
+record IsFirst (host : Host) (stretch : Stretch) (n : ℕ) (from to : At) (left : List ℕ) (all : List Exchange) : Type 1 where
   mid : At
   piece : List ℕ
   behind : List ℕ
-  parts : left ≡ piece ++ behind
+  is_left : left ≡ piece ++ behind
   line_told : LineTold host from piece mid
   after : LinesTold host stretch (n + length piece) mid behind to
+  says : all ≡ said_of from.script (text_of line_told.answer) ++ lines_here host stretch (n + length piece) mid to behind after
 
-first_line : (host : Host) (stretch : Stretch) (n : ℕ) (from to : At) (left : List ℕ) → LinesTold host stretch n from left to → ((left ≡ []) × (to ≡ from)) ⊎ IsFirst host stretch n from to left
+first_line : (host : Host) (stretch : Stretch) (n : ℕ) (from to : At) (left : List ℕ) (lines : LinesTold host stretch n from left to) → ((left ≡ []) × (to ≡ from)) ⊎ IsFirst host stretch n from to left (lines_here host stretch n from to left lines)
 first_line host stretch n from to left (no_line bytes at) = inl (refl, refl)
-first_line host stretch n from to left (one_more bytes at mid end piece behind some line_told shown lines) = inr (record { mid = mid; piece = piece; behind = behind; parts = refl; line_told = line_told; after = lines })
+first_line host stretch n from to left (one_more bytes at mid end piece behind some line_told shown lines) = inr (record { mid = mid; piece = piece; behind = behind; is_left = refl; line_told = line_told; after = lines; says = refl })
 
-module _ (given : Given) (drives : Geometry) (name : List ℕ) (sound : IsSound drives) (of_table : Contains drives.hosts name) (image : Image) (made : Exchange) (slices : List SliceName) (force : Bool) (count blocks : ℕ) (asks : Asks made (AddPlaces slices force count blocks)) (told : IsTold made ok_line) where
-  abbrev own : Host
-  own = host_of drives name 0
+-- what is known at a place is known behind the lines that were told since
+pub lines_sure : (host : Host) (script : Script) (h : History) (t m : Tale) (none : HasMetNothing host script h t m) (stretch : Stretch) (n : ℕ) (now last : At) (front : List ℕ) → LinesTold host stretch n now front last → ((u : Story) → last.story ≡ Some u → IsSince (tale_of u) m) → IsSureAt host script h t now → IsSureAt host script h t last
+lines_sure host script h t m none stretch n now last front (no_line bytes at) since sure = sure
+lines_sure host script h t m none stretch n now last front (one_more bytes at mid end piece left some line_told shown more) since sure =
+    let on = sure_on host script h t m none now mid piece line_told sure (λ v is. since_last host stretch (n + length piece) mid last left m more since v is) in
+    lines_sure host script h t m none stretch (n + length piece) mid last left more since on.next
 
-  -- Where a replica shows what was made, all tables of it list its places.
-  from_shown : (ran : List Ran) (t : Tale) → IsLife drives image ran t → Contains (exchanges_by name ran) made → (places : List Place) → AreMadeOn own.site.lines slices places → (o : Opened) → ListsThese places o.table → o.table.plan.volumes ≡ [] → IsShownBy own.drives (Local name) o (last t)
-      → IsFounded drives name slices ran t
-  from_shown ran t life has places made_on o lists bare shown =
-      let r = shown.replica in
-      let h = now drives name image ran t sound of_table life in
-      let is = its drives name image ran t sound of_table life in
-      let same : is_of o.identity r ≡ true = subst (λ (i : Identity). same_identity r.head.master.identity i ≡ true) shown.own.of_identity (same_identity_self r.head.master.identity) in
-      let version = shown_version own.drives (Local name) h.databases t is.history.stands.databases is.history.stands.anew o.identity r same shown.own shown.slot o.mark o.table shown.newest in
-      let alike = alike_from_new own.drives (Local name) is.history.es (its_course drives name image ran t sound of_table life) (runs_keep drives name ran is.history.es is.history.come) in
-      record {
-        places = places;
-        made = made_on;
-        table = o.table;
-        lists = lists;
-        lasts = record {
-          history = h;
-          stands = is.history.stands;
-          its = runs_own drives name ran is.history.es is.history.come;
-          lasting = record {
-            is_log = is_log drives name image ran t sound of_table life;
-            firm = created_written drives name image ran t sound of_table life made slices force count blocks has asks told;
-            all = λ v may. (
-              (λ volume map lies. absurd (never_in lies.of (subst (λ (l : List Volume). Contains l lies.of) bare lies.has.0))),
-              λ one_list one. alike.same v version.version may.0 version.one_of ∙ ap (λ (x : Table). x.plan.lists) version.is_table ∙ one,
-            );
-          };
-        };
-      }
+module _ (drives : Geometry) (name : List ℕ) (sound : IsSound drives) (of_table : Contains drives.hosts name) (made : Exchange) (slices : List SliceName) (force : Bool) (count blocks : ℕ) (asks : Asks made (AddPlaces slices force count blocks)) (told : IsTold made ok_line) where
+  abbrev from : List SliceName
+  from = spread count slices
 
-  -- a run of the host, that was told to have made it
-  module _ (its_run : Ran) (before : List Ran) (stretch : Stretch) (start : Counts) (t m : Moment) (host_is : its_run.host ≡ name) (life : Lived drives image before t.tale) (after : IsLife drives image (its_run ∷ before) m.tale) (has_all : Contains (exchanges_by name (its_run ∷ before)) made)
-      (new_word : IsNewWord name its_run.fresh before) (tells : IsToldBy (host_of drives name its_run.fresh) stretch start its_run.script t m) (moment : IsMomentOf stretch t m) (front rest : List Exchange) (parts : exchanges_of its_run.script tells.bytes ≡ front ++ made ∷ rest) where
-    abbrev script : Script
-    script = its_run.script
-
+  -- A run of the host, that was told to have made it.
+  module _ (before : List Ran) (script : Script) (run : Running drives name before script) (front rest : List Exchange) (are : exchanges_of script run.tells.bytes ≡ front ++ made ∷ rest) (first : AreRefused (exchanges_by name before ++ front)) where
     abbrev host : Host
-    host = host_of drives name its_run.fresh
-
-    abbrev run : Running drives name before script
-    run = record { made = image; fresh = its_run.fresh; stretch = stretch; start = start; t = t; m = m; life = life; new_word = new_word; tells = tells; moment = moment }
+    host = host_of drives name run.fresh
 
     its_own : IsSound host.drives
-    its_own = its_sound drives name before script sound of_table run
+    its_own = own_sound drives name run.fresh sound
 
-    abbrev at : Came drives name before script sound of_table run front rest made ok_line told m tells.bytes
-    at = came drives name before script sound of_table run front rest made ok_line told m tells parts
+    abbrev h : History
+    h = start run of_table
+
+    abbrev none : HasMetNothing host script h run.t.tale run.m.tale
+    none = met_none run of_table
+
+    abbrev at : Came drives name before script sound of_table run front rest made ok_line told run.m run.tells.bytes
+    at = came drives name before script sound of_table run front rest made ok_line told run.m run.tells run.clean are
 
     abbrev here : At
     here = at.place.at
 
+    abbrev booted : At
+    booted = behind_boot at.by.booted at.by.by at.by.kept script
+
     abbrev bytes : List ℕ
     bytes = at.by.lines.rest
+
+    since_end : (u : Story) → at.by.lines.at.story ≡ Some u → IsSince (tale_of u) run.m.tale
+    since_end u is = (at.by.lines.work u is).moment.since
+
+    sure : IsSureAt host script h run.t.tale here
+    sure =
+        lines_sure host script h run.t.tale run.m.tale none run.stretch 0 booted here at.place.front at.place.lines
+        (λ u is. since_last host run.stretch (0 + length at.place.front) here at.by.lines.at at.place.left run.m.tale at.place.more since_end u is) at.first_sure
+
+    -- nothing was open there
+    front_is : lines_here host run.stretch 0 booted here at.place.front at.place.lines ≡ front
+    front_is =
+        let lines = lines_here host run.stretch 0 booted here at.place.front at.place.lines in
+        let said = lines_say host run.stretch 0 booted here at.place.front (at.place.left ++ bytes) at.place.lines in
+        let all : exchanges_of script run.tells.bytes ≡ exchanges_of script (at.place.front ++ (at.place.left ++ bytes)) =
+        ap (exchanges_of script) (at.by.lines.parts ∙ ap (λ (l : List ℕ). l ++ bytes) at.place.parts ∙ append_assoc at.place.front at.place.left bytes) in
+        append_cancel_right lines front (made ∷ rest) (ap (λ (l : List Exchange). lines ++ l) (sym at.place.asked) ∙ sym said ∙ sym all ∙ are)
+
+    closed : here.kept.memory.opened ≡ None
+    closed =
+        none_open drives name of_table before script run at.by at.place.front here at.place.lines (0 + length at.place.front) at.place.left at.place.more
+        (subst (λ (l : List Exchange). AreRefused (exchanges_by name before ++ l)) (sym front_is) first)
 
     -- its reply
     told_of : (answer : Answer) (replies : List (List ℕ)) → replies_in (at.place.left ++ bytes) ≡ text_of answer ∷ replies → IsTold made (text_of answer)
@@ -158,107 +135,164 @@ module _ (given : Given) (drives : Geometry) (name : List ℕ) (sound : IsSound 
     comes_of : (later : Counts) (next : Kept) (more : Script) (answer : Answer) → NextLine host here.counts here.kept here.script answer later next more → IsAnswered (drive_failures here.counts later) host here.kept made.text answer next
     comes_of later next more answer comes = (subst (λ (s : Script). NextLine host here.counts here.kept s answer later next more) at.place.is_next.1 comes).2
 
-    -- the run went on behind it: what was open there lasts
-    by_line : IsFirst host stretch (0 + length at.place.front) here at.by.lines.at at.place.left → IsFounded drives name slices (its_run ∷ before) m.tale
-    by_line first =
-        let answer = first.line_told.answer in
-        let is = ap (λ (l : List ℕ). replies_in (l ++ bytes)) first.parts ∙ replies_behind host stretch here first.mid first.piece first.behind bytes first.line_told in
-        let there = made_there host its_own refl (drive_failures here.counts first.mid.counts) here.kept first.mid.kept made answer (comes_of first.mid.counts first.mid.kept first.mid.script answer first.line_told.comes) first.line_told.said
-        (told_of answer (replies_in (first.behind ++ bytes)) is) slices force count blocks asks told in
-        let story = point given drives name before script sound of_table run front rest rest made ok_line told m tells.bytes at parts in
-        let known = known_there given drives name before script sound of_table run front rest rest made ok_line told m tells.bytes at parts in
-        let gone = line_goes drives name sound of_table given its_run.fresh before here first.mid first.piece first.line_told story.0 story.1 in
-        let k = gone.known known in
-        let lasting = open_lasts drives name there.o.table its_run.fresh before first.mid.kept.memory k.history (tale_of gone.u) there.o k.known k.words there.opened refl in
-        let far = lines_go drives name sound of_table given its_run.fresh before stretch _ first.mid at.by.lines.at first.behind first.after gone.u gone.is in
+    -- what is said of it, and of the lines behind it
+    rest_of : (reply : List ℕ) (behind : List Exchange) → exchanges_of here.script (at.place.left ++ bytes) ≡ said_of here.script reply ++ behind → rest ≡ behind
+    rest_of reply behind says =
+        let all : made ∷ rest ≡ record { text = made.text; reply = Some reply } ∷ behind = sym at.place.asked ∙ says ∙ ap (λ (s : Script). said_of s reply ++ behind) at.place.is_next.1 in
+        cc (all)
+
+    -- Where lines were told behind it, or none yet.
+    pub record MadeAt : Type 1 where
+      pub n : ℕ
+      pub mid : At
+      pub behind : List ℕ
+      pub after : LinesTold host run.stretch n mid behind at.by.lines.at
+      pub lie : LieAt drives name from run.fresh script h run.t.tale run.m.tale none [] mid
+      pub says : rest ≡ lines_here host run.stretch n mid at.by.lines.at behind after ++ exchanges_of at.by.lines.at.script bytes
+
+    abbrev Lies : Type 0
+    Lies = RunLies drives name from host script run.tells.bytes h rest run.m.tale
+
+    abbrev First : Type 1
+    First = IsFirst host run.stretch (0 + length at.place.front) here at.by.lines.at at.place.left (lines_here host run.stretch (0 + length at.place.front) here at.by.lines.at at.place.left at.place.more)
+
+    line_made : First → MadeAt
+    line_made f =
+        let answer = f.line_told.answer in
+        let is = ap (λ (l : List ℕ). replies_in (l ++ bytes)) f.is_left ∙ replies_behind host run.stretch here f.mid f.piece f.behind bytes f.line_told in
+        let there = made_there host its_own refl (drive_failures here.counts f.mid.counts) here.kept f.mid.kept made answer (comes_of f.mid.counts f.mid.kept f.mid.script answer f.line_told.comes) f.line_told.said
+        (told_of answer (replies_in (f.behind ++ bytes)) is) slices force count blocks asks told closed in
+        let n = (0 + length at.place.front) + length f.piece in
+        let on = sure_on host script h run.t.tale run.m.tale none here f.mid f.piece f.line_told sure (λ v is_v. since_last host run.stretch n f.mid at.by.lines.at f.behind run.m.tale f.after since_end v is_v) in
+        let lie = open_lies drives name from run.fresh [] f.mid.kept.memory (history_after_all h on.next.come.es) (tale_of on.next.story) there.o on.next.come.known there.opened there.places there.lists there.lie in
+        let said = lines_say host run.stretch (0 + length at.place.front) here at.by.lines.at at.place.left bytes at.place.more in
+        let others = lines_here host run.stretch n f.mid at.by.lines.at f.behind f.after in
+        let work = exchanges_of at.by.lines.at.script bytes in
         record {
-          places = there.places;
-          made = there.made;
-          table = there.o.table;
-          lists = there.lists;
-          lasts = lasts_work drives name there.o.table its_run its_run.fresh before at.by.lines.at.script at.by.lines.at.kept.memory (tale_of far.u) m.tale host_is refl (at.by.lines.work far.u far.is).moment (far.lasts there.o.table lasting);
+          n = n;
+          mid = f.mid;
+          behind = f.behind;
+          after = f.after;
+          lie = record { sure = on.next; lie = lie };
+          says = rest_of (text_of answer) (others ++ work) (said ∙ ap (λ (l : List Exchange). l ++ work) f.says ∙ append_assoc (said_of here.script (text_of answer)) others work);
         }
 
-    -- it was the line in work, whose whole reply was told: the drives' blocks read as it left them
-    module _ (none_left : at.place.left ≡ []) where
-      asked : exchanges_of here.script bytes ≡ made ∷ rest
-      asked = (λ i. exchanges_of here.script (sym none_left i ++ bytes)) ∙ at.place.asked
+    by_line : KeepsDatabase rest → MadeAt → Lies
+    by_line keeps a =
+        let others = lines_here host run.stretch a.n a.mid at.by.lines.at a.behind a.after in
+        let work = exchanges_of at.by.lines.at.script bytes in
+        let all = tail_lies drives name from run.fresh script run.stretch run.start h run.t.tale run.tells.bytes run.m at.by none (start_stands run of_table) (start_own run of_table) run.moment.begins.0 run.moment.begins.1 run.moment.begins.2 run.tells.is_told
+        a.n a.mid a.behind a.after [] a.lie (λ one has. keeps one (subst (λ (l : List Exchange). Contains l one) (sym a.says) (Contains-append_left others work one has)))
+        (λ one has. keeps one (subst (λ (l : List Exchange). Contains l one) (sym a.says) (Contains-append_right others work one has))) in
+        subst (λ (l : List Exchange). RunLies drives name from host script run.tells.bytes h l run.m.tale) (sym a.says) all
+
+    -- It was the line in work, whose whole reply was told.
+    module _ (none_left : at.place.left ≡ []) (same : at.by.lines.at ≡ here) (keeps : KeepsDatabase rest) where
+      left_is : exchanges_of here.script (at.place.left ++ bytes) ≡ exchanges_of here.script bytes
+      left_is = ap (λ (l : List ℕ). exchanges_of here.script (l ++ bytes)) none_left
 
       quiet_never : replies_in bytes ≡ [] → ⊥
-      quiet_never none = unreplied here.script [] rest made ok_line (ap (exchanges here.script) (sym none) ∙ asked) told
+      quiet_never nothing = unreplied here.script [] rest made ok_line (ap (exchanges here.script) (sym nothing) ∙ sym left_is ∙ at.place.asked) told
 
-      whole_front : (f : NextFront host here bytes m) → IsSaid f.answer → bytes ≡ text_of f.answer → replies_in bytes ≡ text_of f.answer ∷ [] → IsFounded drives name slices (its_run ∷ before) m.tale
-      whole_front f said whole alone =
-          let comes = comes_of f.later f.next f.more f.answer f.comes in
-          let told_it = told_of f.answer [] ((λ i. replies_in (none_left i ++ bytes)) ∙ alone) in
-          let calls = drive_failures here.counts f.later in
-          let there = made_there host its_own refl calls here.kept f.next made f.answer comes said told_it slices force count blocks asks told in
-          let shown = shown_there host its_own refl calls here.kept f.next made f.answer comes said told_it slices force count blocks asks told in
-          let same : f.next.content ≡ last m.tale = λ i drive block. sym (f.shows drive block) i in
-          from_shown (its_run ∷ before) m.tale after has_all there.places there.made there.o there.lists there.bare (subst (IsShownBy own.drives (Local name) there.o) same shown)
+      more_told : tale.told run.m.tale ≡ tale.told (tale_of sure.story) ++ bytes
+      more_told =
+          let its : at.by.lines.at.story ≡ Some sure.story = ap (λ (a : At). a.story) same ∙ sure.is in
+          rest_told host run.stretch run.start run.t.tale script run.tells.bytes run.m at.by run.tells.is_told run.moment.begins.0 run.moment.begins.1 run.moment.begins.2 sure.story its
 
-      by_front : NextFront host here bytes m → IsFounded drives name slices (its_run ∷ before) m.tale
-      by_front f = by (said_or_over f.answer) where
-        plain : IsPlainAnswer f.answer
-        plain = script_plain host here.counts f.later here.kept f.next here.script f.more f.answer f.comes
+      by_whole : IsWhole host here bytes run.m → Lies
+      by_whole w =
+          let answer = w.front.answer in
+          let last = w.front.next.memory in
+          let behind = exchanges w.front.more [] in
+          let there = made_there host its_own refl (drive_failures here.counts w.front.later) here.kept w.front.next made answer (comes_of w.front.later w.front.next w.front.more answer w.front.comes) w.said
+          (told_of answer [] ((λ i. replies_in (none_left i ++ bytes)) ∙ w.alone)) slices force count blocks asks told closed in
+          let came_so : HasCome host script h run.t.tale last w.front.more run.m.tale = whole_come host here bytes run.m script h run.t.tale none w sure more_told in
+          let is : rest ≡ behind = rest_of (text_of answer) behind (left_is ∙ front_says host here bytes run.m here.script w w.front.comes) in
+          let lie = open_lies drives name from run.fresh [] last (history_after_all h came_so.es) run.m.tale there.o came_so.known there.opened there.places there.lists there.lie in
+          let lined : AreLined drives name behind [] = come_lined drives name run.fresh [] (context_of last) w.front.more [] [] (in_work_none host (context_of last) w.front.more) in
+          let all = lined_lies drives name from [] behind (history_after_all h came_so.es) [] tt (subst KeepsDatabase is keeps) (none_told w.front.more) lined lie in
+          let bytes_is : came_so.bytes ≡ run.tells.bytes = append_cancel_left (tale.told run.t.tale) came_so.bytes run.tells.bytes (sym came_so.is_told ∙ run.tells.is_told) in
+          record {
+            es = came_so.es;
+            course = came_so.course;
+            come = subst (λ (l : List ℕ). AreOfRun host script l came_so.es) bytes_is (whole_run host here bytes run.m script h run.t.tale none w sure more_told);
+            stands = came_so.known.stands;
+            lie = subst (λ (l : List Exchange). ListsLie drives name from l (history_after_all h came_so.es)) (sym is) all;
+          }
 
-        by : IsSaid f.answer ⊎ (text_of f.answer ≡ []) → IsFounded drives name slices (its_run ∷ before) m.tale
-        by (inr over) = absurd (quiet_never (ap replies_in (f.front ∙ ap (take f.count) over ∙ take_none f.count) ∙ nothing_answers))
-        by (inl said) = elim (none_or_whole f.answer plain said f.count) [
-          | inl none ↦ absurd (quiet_never (ap replies_in f.front ∙ ap (λ (b : SaidBytes). b.replies) none))
-          | inr whole ↦ whole_front f said (f.front ∙ whole) (ap replies_in (f.front ∙ whole) ∙ ap (λ (b : SaidBytes). b.replies) (said_reply f.answer plain said).alone)
-        ]
-
-      by_work : at.by.lines.at ≡ here → IsFounded drives name slices (its_run ∷ before) m.tale
-      by_work same = elim (subst (λ (a : At). IsNextFront host a bytes m) same at.by.lines.front) [
-        | inl none ↦ absurd (quiet_never (ap replies_in none ∙ nothing_answers))
-        | inr f ↦ by_front f
+      by_work : Lies
+      by_work = elim (none_or_all host here bytes run.m (subst (λ (a : At). IsNextFront host a bytes run.m) same at.by.lines.front)) [
+        | inl nothing ↦ absurd (quiet_never nothing)
+        | inr w ↦ by_whole w
       ]
 
-    own_founded : IsFounded drives name slices (its_run ∷ before) m.tale
-    own_founded = elim (first_line host stretch (0 + length at.place.front) here at.by.lines.at at.place.left at.place.more) [
-      | inl none ↦ by_work none.0 none.1
-      | inr first ↦ by_line first
+    run_lies : KeepsDatabase rest → Lies
+    run_lies keeps = elim (first_line host run.stretch (0 + length at.place.front) here at.by.lines.at at.place.left at.place.more) [
+      | inl over ↦ by_work over.0 over.1 keeps
+      | inr f ↦ by_line keeps (line_made f)
     ]
 
-  -- or one of another host, which has no line of it
-  any_founded : (before : List Ran) (other : List ℕ) (fresh : ℕ) (stretch : Stretch) (start : Counts) (script : Script) (t m : Moment) → Lived drives image before t.tale → IsNewWord other fresh before → (stands : RunMoment (host_of drives other fresh) script t.tale m.tale)
-      → IsLife drives image (record { host = other; fresh = fresh; script = script; bytes = stands.bytes } ∷ before) m.tale → Contains (exchanges_by name (record { host = other; fresh = fresh; script = script; bytes = stands.bytes } ∷ before)) made
-      → IsToldBy (host_of drives other fresh) stretch start script t m → IsMomentOf stretch t m → Contains (lines_of drives name sound of_table given (record { host = other; fresh = fresh; script = script; bytes = stands.bytes })) made
-      → IsFounded drives name slices (record { host = other; fresh = fresh; script = script; bytes = stands.bytes } ∷ before) m.tale
-  any_founded before other fresh stretch start script t m life new_word stands after has_all tells moment has = elim (both_ways (bytes_eq other name)) [
-    | inl does ↦
-        let same = (bytes_eq-Decides other name).0 does in
-        let its_told = own_told drives name sound of_table given other fresh stretch start script t m does stands tells in
-        let here = subst (λ (b : Bool). Contains (if b then exchanges_of script stands.bytes else []) made) does has in
-        let c = cut (exchanges_of script its_told.0.bytes) made (subst (λ (l : List ℕ). Contains (exchanges_of script l) made) (sym its_told.1) here) in
-        own_founded (record { host = other; fresh = fresh; script = script; bytes = stands.bytes }) before stretch start t m same life after has_all (subst (λ (n : List ℕ). IsNewWord n fresh before) same new_word) its_told.0 moment c.front c.rest c.is
-    | inr never ↦ absurd (never_in made (subst (λ (b : Bool). Contains (if b then exchanges_of script stands.bytes else []) made) never has))
-  ]
+  -- Over runs, of any hosts.
+  module _ (image : Image) where
+    abbrev Behind : List Exchange → List Ran → Tale → Type 0
+    Behind lines ran t = LieBehind drives name of_table image from lines ran t
 
-  module _ (told_first : List ℕ) (live : (before : List Ran) (t : Tale) → Runs drives [] (restarted image told_first) before t → Lived drives image before t) where
-    runs_founded : (ran : List Ran) (t : Tale) → Runs drives [] (restarted image told_first) ran t → Contains (exchanges_by name ran) made → IsFounded drives name slices ran t
-    runs_founded ran t no_run has = absurd (never_in made has)
-    runs_founded ran t (run_on before other fresh stretch start old m next script runs other_of new_word stands tells moment found) has =
-        let here : Ran = record { host = other; fresh = fresh; script = script; bytes = stands.bytes } in
-        elim (Contains-append_cases (exchanges_by name before) (lines_of drives name sound of_table given here) made has) [
-          | inl earlier ↦
-              let was = runs_founded before old.tale runs earlier in
-              record { places = was.places; made = was.made; table = was.table; lists = was.lists; lasts = lasts_between drives name was.table (here ∷ before) m.tale next found (lasts_run drives name was.table here before old.tale m.tale new_word stands was.lasts) }
-          | inr its_line ↦
-              let now_on : Runs drives [] (restarted image told_first) (here ∷ before) m.tale = run_on before other fresh stretch start old m m.tale script runs other_of new_word stands tells moment as_it_was in
-              let was = any_founded before other fresh stretch start script old m (live before old.tale runs) new_word stands (lived_life drives image (here ∷ before) m.tale (live (here ∷ before) m.tale now_on)) has tells moment its_line in
-              record { places = was.places; made = was.made; table = was.table; lists = was.lists; lasts = lasts_between drives name was.table (here ∷ before) m.tale next found was.lasts }
-        ]
+    module _ (before : List Ran) (fresh : ℕ) (stretch : Stretch) (counts : Counts) (old m : Moment) (next : Tale) (script : Script) (life : Lived drives image before old.tale) (moment : IsMomentOf stretch old m) (found : MayBeFound m.tale next)
+        (earlier : (front rest : List Exchange) → exchanges_by name before ≡ front ++ made ∷ rest → AreRefused front → KeepsDatabase rest → Behind rest before old.tale) where
+      -- behind one of the host, whose word is new
+      abbrev BehindRun : List ℕ → Type 0
+      BehindRun other =
+          IsNewWord other fresh before → (stands : RunMoment (host_of drives other fresh) script old.tale m.tale) → IsToldBy (host_of drives other fresh) stretch counts script old m → HasMetNone drives other before fresh script old.tale m.tale
+          → (front rest : List Exchange) → exchanges_by name before ++ exchanges_of script stands.bytes ≡ front ++ made ∷ rest → AreRefused front → KeepsDatabase rest
+          → Behind rest (record { host = other; fresh = fresh; script = script; bytes = stands.bytes } ∷ before) next
 
-  pub made_before : (before : List Ran) (t : Tale) → Lived drives image before t → Contains (exchanges_by name before) made → WasMade drives name before slices t
-  made_before before t life has =
-      let is = runs_founded life.told (λ ran u runs. record { fair = life.fair; told = life.told; new = life.new; runs = runs }) before t life.runs has in
-      record {
-        places = is.places;
-        made = is.made;
-        history = is.lasts.history;
-        stands = is.lasts.stands;
-        its = is.lasts.its;
-        lasting = record { is_log = is.lasts.lasting.is_log; firm = is.lasts.lasting.firm; all = λ v may. (is.lasts.lasting.all v may).1 is.places is.lists };
-      }
+      own_lies : BehindRun name
+      own_lies new_word stands tells clean front rest is refused keeps = by (parts (exchanges_by name before) (exchanges_of script stands.bytes) front rest made is) where
+        here : Ran
+        here = record { host = name; fresh = fresh; script = script; bytes = stands.bytes }
+
+        same_bytes : tells.bytes ≡ stands.bytes
+        same_bytes = append_cancel_left (tale.told old.tale) tells.bytes stands.bytes (sym tells.is_told ∙ stands.is_told)
+
+        by : Parts (exchanges_by name before) (exchanges_of script stands.bytes) front rest made → Behind rest (here ∷ before) next
+        by (in_first since first behind) =
+            let lines = exchanges_of script stands.bytes in
+            let was = earlier front since first refused (λ one has. keeps one (subst (λ (l : List Exchange). Contains l one) (sym behind) (Contains-append_left since lines one has))) in
+            subst (λ (l : List Exchange). Behind l (here ∷ before) next) (sym behind)
+            (own_behind drives name of_table image from since before fresh script stretch counts old m next new_word stands tells moment clean found
+            (λ one has. keeps one (subst (λ (l : List Exchange). Contains l one) (sym behind) (Contains-append_right since lines one has))) was)
+        by (in_second since until behind) =
+            let run : Running drives name before script = record { made = image; fresh = fresh; stretch = stretch; start = counts; t = old; m = m; life = life; new_word = new_word; clean = clean; tells = tells; moment = moment } in
+            let lies = run_lies before script run since rest (ap (exchanges_of script) same_bytes ∙ behind) (subst AreRefused until refused) keeps in
+            behind_more drives name of_table image from rest before here old.tale next (its_start run of_table) lies.es lies.course (inl (refl, subst (λ (l : List ℕ). AreOfRun (host_of drives name fresh) script l lies.es) same_bytes lies.come)) lies.lie
+            (ends drives name image of_table (history_after_all (start run of_table) lies.es) m.tale next found lies.stands)
+
+      -- or one of any host
+      any_lies : (other : List ℕ) → IsNewWord other fresh before → (stands : RunMoment (host_of drives other fresh) script old.tale m.tale) → IsToldBy (host_of drives other fresh) stretch counts script old m → HasMetNone drives other before fresh script old.tale m.tale
+          → (front rest : List Exchange) → exchanges_by name (record { host = other; fresh = fresh; script = script; bytes = stands.bytes } ∷ before) ≡ front ++ made ∷ rest → AreRefused front → KeepsDatabase rest
+          → Behind rest (record { host = other; fresh = fresh; script = script; bytes = stands.bytes } ∷ before) next
+      any_lies other new_word stands tells clean front rest is refused keeps = elim (both_ways (bytes_eq other name)) [
+        | inl does ↦
+            let same : other ≡ name = (bytes_eq-Decides other name).0 does in
+            let here = subst (λ (b : Bool). exchanges_by name before ++ (if b then exchanges_of script stands.bytes else []) ≡ front ++ made ∷ rest) does is in
+            subst BehindRun (sym same) own_lies new_word stands tells clean front rest here refused keeps
+        | inr never ↦
+            let earlier_is = subst (λ (b : Bool). exchanges_by name before ++ (if b then exchanges_of script stands.bytes else []) ≡ front ++ made ∷ rest) never is in
+            other_behind drives name of_table image from rest before other fresh script old.tale m.tale next (λ same. (let does = (bytes_eq-Decides other name).1 same in cc (does, never))) stands found
+            (earlier front rest (sym (append-nil (exchanges_by name before)) ∙ earlier_is) refused keeps)
+      ]
+
+    module _ (first_told : List ℕ) (live : (ran : List Ran) (t : Tale) (runs : Runs drives [] (restarted image first_told) ran t) → HaveMetNone runs → Lived drives image ran t) where
+      runs_lie : (ran : List Ran) (t : Tale) (runs : Runs drives [] (restarted image first_told) ran t) → HaveMetNone runs → (front rest : List Exchange) → exchanges_by name ran ≡ front ++ made ∷ rest → AreRefused front → KeepsDatabase rest → Behind rest ran t
+      runs_lie ran t no_run clean front rest is refused keeps = absurd (never_in made (subst (λ (l : List Exchange). Contains l made) (sym is) (cut_has front rest made)))
+      runs_lie ran t (run_on before other fresh stretch counts old m next script runs other_of new_word stands tells moment found) clean front rest is refused keeps =
+          any_lies before fresh stretch counts old m next script (live before old.tale runs clean.0) moment found (λ f r p first k. runs_lie before old.tale runs clean.0 f r p first k) other new_word stands tells clean.1 front rest is refused keeps
+
+    lies_behind : (ran : List Ran) (t : Tale) → Lived drives image ran t → (front rest : List Exchange) → exchanges_by name ran ≡ front ++ made ∷ rest → AreRefused front → KeepsDatabase rest → Behind rest ran t
+    lies_behind ran t life = runs_lie life.told (λ other u runs clean. record { fair = life.fair; told = life.told; new = life.new; runs = runs; clean = clean }) ran t life.runs life.clean
+
+-- So it is behind runs whose lines made the database.
+pub made_behind : (drives : Geometry) (name : List ℕ) (of_table : Contains drives.hosts name) (image : Image) (ran : List Ran) (t : Tale) → Lived drives image ran t → (lines : List Exchange) (made : IsMadeOn lines) → exchanges_by name ran ≡ lines
+    → LieBehind drives name of_table image (spread made.count made.slices) made.behind ran t
+made_behind drives name of_table image ran t life lines made same =
+    lies_behind drives name life.fair of_table made.made made.slices made.by.force made.count made.by.blocks made.by.asks made.by.told image ran t life made.before made.behind (same ∙ made.parts) made.by.first made.stays

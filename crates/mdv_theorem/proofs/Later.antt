@@ -1,194 +1,211 @@
--- What a host had open at any line stays found: over what the run did since, and over any runs of any hosts, each table that a boot may find has its volumes where they lay.
-use Rattle.std.proofs.Common.{◌≡◌, inl, inr, ℕ, List, [], ◌∷◌, Option, Some, None, refl, sym, ◌∙◌, ap, subst}
+-- What a host had open at any line stays found: over what the run did since, and over any runs of any hosts, each table that a boot may find has its volumes where they lay, unless a line since may have taken the database away.
+use Rattle.std.proofs.Common.{◌≡◌, ◌⊎◌, inl, inr, ℕ, List, [], ◌∷◌, ◌++◌, Bool, if◌then◌else◌, Some, refl, sym, ◌∙◌, subst}
+use Rattle.std.proofs.lemmas.List.Elements.{Contains-append_left, Contains-append_right}
 use Rattle.std.proofs.lemmas.Slice.Eq.{bytes_eq-Decides}
 use Rattle.std.specs.Str.{bytes_eq}
-use Rattle.mdv_base.specs.declared.mark.Identity.{Identity}
-use Rattle.mdv_base.specs.declared.name.Key.{Key}
 use Rattle.mdv_base.specs.declared.name.Key.TheVariants.{Local}
-use Rattle.mdv_base.specs.declared.place.Place.{Place}
 use Rattle.mdv_engine_law.specs.Awake.{Happening}
-use Rattle.mdv_engine_law.specs.Line.{Memory, contents}
-use Rattle.mdv_engine_law.specs.Standing.{AreOwn, BootedTo, IsKnown, IsOfRun, StandsAt}
+use Rattle.mdv_engine_law.specs.Line.{Memory}
+use Rattle.mdv_engine_law.specs.Standing.{IsKnown, Reached, StandsAt}
 use Rattle.mdv_engine_law.specs.declared.host.Host.{Host}
-use Rattle.mdv_engine_law.proofs.Going.{may_course}
-use Rattle.mdv_home.proofs.Viewing.{view_is_own}
+use Rattle.mdv_engine_law.proofs.Going.{both_courses, may_course}
 use Rattle.mdv_name.specs.declared.geometry.Geometry.{Geometry}
-use Rattle.mdv_port.specs.Script.{Script}
-use Rattle.mdv_run_law.specs.Lives.{IsNewWord, MayBeFound, Ran, as_it_was, crashed, host_of}
-use Rattle.mdv_run_law.specs.Run.{Leads}
-use Rattle.mdv_run_law.specs.Standing.{LinesMoment, RunMoment, context_of}
+use Rattle.mdv_run_law.specs.Lives.{HasMetNone, IsBetween, IsHistoryOf, IsNewWord, MayBeFound, OfHost, Ran, as_it_was, crashed, host_of}
+use Rattle.mdv_run_law.specs.Standing.{AreOfRun, Goes, HasMetInRun, RunMoment}
 use Rattle.mdv_run_law.proofs.Elsewhere.{stands_elsewhere}
-use Rattle.mdv_run_law.proofs.Owning.{IsOfRuns, IsOurs, all_make_weaker, come_issued, owned_after, run_issued, run_makes}
+use Rattle.mdv_run_law.proofs.Owning.{none_own}
+use Rattle.mdv_shelf.specs.Everywhere.{Image}
 use Rattle.mdv_shelf.specs.Tale.{Tale}
 use Rattle.mdv_shelf.proofs.Blocks.{both_ways}
-use Rattle.mdv_status.specs.Telling.{left_in, replies_in}
 use Rattle.mdv_store.specs.Opened.{Opened}
-use Rattle.mdv_store_law.specs.Changes.{Change}
-use Rattle.mdv_store_law.specs.Log.{IsAskable, IsMade, IsRising, Log, PlacesStay, Version}
-use Rattle.mdv_store_law.specs.Machine.{AreAll}
+use Rattle.mdv_store_law.specs.Log.{IsRising, Log, Version}
 use Rattle.mdv_store_law.specs.Machine as machine
-use Rattle.mdv_table.specs.Slices.{IsSound}
-use Rattle.mdv_table.specs.Plan.{settled}
-use Rattle.mdv_table.specs.declared.plan.Lists.TheVariants.{One}
+use Rattle.mdv_store_law.proofs.Machine.{after_more, course_more}
 use Rattle.mdv_table.specs.declared.table.Table.{Table}
-use Rattle.mdv_volumes.specs.Databases.{Database, log_of}
+use Rattle.mdv_volumes.specs.Databases.{log_of}
 use Rattle.mdv_volumes.specs.Happening as happening
-use Rattle.mdv_volumes.specs.Happening.{IsIssue}
 use Rattle.mdv_volumes.specs.History.{Crashes, Event, History, Stops, history_after, history_after_all}
-use Rattle.mdv_volumes.specs.HistoryLaws.{log_events_of}
+use Rattle.mdv_volumes.specs.HistoryLaws.{KeepDatabase, log_events_of, new_history}
 use Rattle.mdv_volumes.specs.Tables.{IsMapOf}
-use Rattle.mdv_volumes.proofs.Found.{AreLasting, lasting_where, newest_found}
+use Rattle.mdv_volumes.proofs.Ending.{none_begins}
+use Rattle.mdv_volumes.proofs.Found.{AreLasting, lasting_all, newest_found}
 use Rattle.mdv_volumes.proofs.Keys.{databases_live}
-use Rattle.mdv_volumes.proofs.Listed.{issues_ask}
-use Rattle.mdv_store_law.proofs.Anew.{made_lists}
 use Rattle.mdv_volumes.proofs.Made.{map_stays}
-use Rattle.mdv_volumes.proofs.Owners.{AreEach}
 use Rattle.mdv_volumes.proofs.Restarts.{restarts_go}
-use Rattle.mdv_theorem.specs.Running.{Runs, no_run, run_on}
-use Rattle.mdv_theorem.proofs.Owned.{HaveWords, IsInRun, lines_make, more_runs, own_new, with_run, words_on}
+use Rattle.mdv_theorem.specs.Exchanges.{Exchange, exchanges_of}
+use Rattle.mdv_theorem.specs.Running.{HaveMetNone, Runs, no_run, run_on}
+use Rattle.mdv_theorem.proofs.Ends.{TakeDatabase, lined_ends}
+use Rattle.mdv_theorem.proofs.Lined.{run_lined}
 use Rattle.mdv_theorem.proofs.Sure.{open_lasting, open_newest}
-use Rattle.mdv_theorem.proofs.Tables.{Grows, Offers, lasting_offers}
+use Rattle.mdv_theorem.proofs.Tables.{Grows}
+
+-- the lines of a run that are the host's
+abbrev pub run_lines : List ℕ → Ran → List Exchange
+run_lines name ran = if bytes_eq ran.host name then exchanges_of ran.script ran.bytes else []
+
+-- those of runs, in their order
+abbrev pub lines_since : (drives : Geometry) (name : List ℕ) (first : List Ran) (from : Tale) (ran : List Ran) (t : Tale) → Runs drives first from ran t → List Exchange
+lines_since drives name first from ran t no_run = []
+lines_since drives name first from ran t (run_on before other fresh stretch start old m next script runs of_table new_word stands tells moment found) =
+    lines_since drives name first from before old.tale runs ++ run_lines name (record { host = other; fresh = fresh; script = script; bytes = stands.bytes })
+
+-- one of more lines
+pub take_before : (lines more : List Exchange) → TakeDatabase lines → TakeDatabase (lines ++ more)
+take_before lines more takes = (takes.0, Contains-append_left lines more takes.0 takes.1, takes.2)
+
+pub take_behind : (lines more : List Exchange) → TakeDatabase more → TakeDatabase (lines ++ more)
+take_behind lines more takes = (takes.0, Contains-append_right lines more takes.0 takes.1, takes.2)
 
 module _ (drives : Geometry) (name : List ℕ) (table : Table) where
   abbrev own : Host
   own = host_of drives name 0
 
-  -- it has its volumes, and its places, where these are one list
+  -- it has its volumes
   abbrev pub Has : Table → Type 0
-  Has other = Grows own.drives table other × ((places : List Place) → table.plan.lists ≡ One places → other.plan.lists ≡ One places)
+  Has other = Grows own.drives table other
 
   -- each table that a boot may find by the history has its volumes
   abbrev pub IsLasting : History → Type 0
   IsLasting h = AreLasting own.drives Has (log_of h.databases (Local name))
 
-  -- the drives stand with a history by which it is so, whose databases these runs made
+  -- the drives stand behind runs with a history by which it is so
   pub record Lasts (ran : List Ran) (t : Tale) : Type 0 where
-    pub history : History
-    pub stands : StandsAt own history t
-    pub its : AreEach (IsOfRuns name ran) history.databases
-    pub lasting : IsLasting history
+    pub held : Image
+    pub of : IsHistoryOf drives name held ran t
+    pub lasting : IsLasting (history_after_all new_history of.es)
 
-  -- and more is known of it, while a run with this word is under way behind those
-  pub record LastsKnown (fresh : ℕ) (before : List Ran) (memory : Memory) (t : Tale) : Type 0 where
-    pub history : History
-    pub known : IsKnown (host_of drives name fresh) memory history t
-    pub words : HaveWords (IsInRun name fresh before) history.databases
-    pub lasting : IsLasting history
+  -- so they do at a moment of one more run
+  pub record LastsNow (one : Ran) (before : List Ran) (m : Tale) : Type 0 where
+    pub held : Image
+    pub start : Tale
+    pub of : IsHistoryOf drives name held before start
+    pub run : List Event
+    pub course : machine.IsCourse history_after (Happening own) (history_after_all new_history of.es) run
+    pub of_run : OfHost name one (AreOfRun (host_of drives name one.fresh) one.script one.bytes run) (run ≡ [])
+    pub stands : StandsAt own (history_after_all (history_after_all new_history of.es) run) m
+    pub lasting : IsLasting (history_after_all (history_after_all new_history of.es) run)
 
-  grows_stay : (asked : Option Change) (old next : Table) → IsAskable PlacesStay asked → IsMade own.drives asked old next → Has old → Has next
-  grows_stay asked old next stay made has = ((λ volume v lies. map_stays own.drives volume v asked old next made (has.0 volume v lies)), λ places one. made_lists own.drives asked old next places stay made (has.1 places one))
-
-  -- whatever a run does
-  lasting_on : (fresh : ℕ) (h : History) (es : List Event) → machine.IsCourse history_after (Happening own) h es → AreAll (IsIssue (IsOfRun (host_of drives name fresh))) es → IsLasting h → IsLasting (history_after_all h es)
-  lasting_on fresh h es course issues are =
+  -- as long as no end of the database begins
+  pub lasting_on : (h : History) (es : List Event) → machine.IsCourse history_after (Happening own) h es → KeepDatabase (Local name) es → IsLasting h → IsLasting (history_after_all h es)
+  lasting_on h es course keep are =
       let may = may_course own h es course in
-      let stay = issues_ask (IsOfRun (host_of drives name fresh)) PlacesStay (λ change is. is) (Local name) es issues in
       subst (λ (lg : Log). AreLasting own.drives Has lg) (sym (databases_live.is (Local name) own.drives h es may))
-      (lasting_where own.drives Has PlacesStay grows_stay (log_of h.databases (Local name)) (log_events_of (Local name) es) (databases_live.may (Local name) own.drives h es may) stay are)
+      (lasting_all own.drives Has (λ asked old next made has volume v lies. map_stays own.drives volume v asked old next made (has volume v lies)) (log_of h.databases (Local name)) (log_events_of (Local name) es)
+      (databases_live.may (Local name) own.drives h es may) (none_begins (Local name) es keep) are)
 
   -- what is open is the newest table, whose write was answered
-  pub open_lasts : (fresh : ℕ) (before : List Ran) (memory : Memory) (h : History) (t : Tale) (o : Opened) → IsKnown (host_of drives name fresh) memory h t → HaveWords (IsInRun name fresh before) h.databases → memory.opened ≡ Some o → o.table ≡ table
-      → LastsKnown fresh before memory t
-  open_lasts fresh before memory h t o known words opened same = record {
-    history = h;
-    known = known;
-    words = words;
-    lasting = open_lasting (host_of drives name fresh) memory h t o known opened Has ((λ volume v lies. subst (λ (b : Table). IsMapOf own.drives b volume v) (sym same) lies), λ places one. ap (λ (b : Table). b.plan.lists) same ∙ one);
-  }
+  pub open_lasts : (fresh : ℕ) (memory : Memory) (h : History) (t : Tale) (o : Opened) → IsKnown (host_of drives name fresh) memory h t → memory.opened ≡ Some o → o.table ≡ table → IsLasting h
+  open_lasts fresh memory h t o known opened same = open_lasting (host_of drives name fresh) memory h t o known opened Has (λ volume v lies. subst (λ (b : Table). IsMapOf own.drives b volume v) (sym same) lies)
 
   -- so what is open then has the volumes
-  pub open_has : (fresh : ℕ) (before : List Ran) (memory : Memory) (t : Tale) (o : Opened) (is : LastsKnown fresh before memory t) → memory.opened ≡ Some o → Has o.table
-  open_has fresh before memory t o is opened =
-      let there = (open_newest (host_of drives name fresh) memory is.history t o is.known opened).newest in
-      let found = newest_found there.version there.older (subst IsRising there.family is.lasting.is_log.rising) in
-      subst Has there.same (is.lasting.all there.version (subst (λ (f : List Version). happening.MayBeFound f there.version) (sym there.family) found))
+  pub open_has : (fresh : ℕ) (memory : Memory) (h : History) (t : Tale) (o : Opened) → IsKnown (host_of drives name fresh) memory h t → IsLasting h → memory.opened ≡ Some o → Has o.table
+  open_has fresh memory h t o known is opened =
+      let there = (open_newest (host_of drives name fresh) memory h t o known opened).newest in
+      let found = newest_found there.version there.older (subst IsRising there.family is.is_log.rising) in
+      subst Has there.same (is.all there.version (subst (λ (f : List Version). happening.MayBeFound f there.version) (sym there.family) found))
 
-  -- the boot at a run's start leads on
-  pub lasts_boot : (fresh : ℕ) (before : List Ran) (memory : Memory) (t u : Tale) → IsNewWord name fresh before → memory.begun ≡ 0 → BootedTo (host_of drives name fresh) memory t u → Lasts before t → LastsKnown fresh before memory u
-  lasts_boot fresh before memory t u new_word begun booted is =
-      let host = host_of drives name fresh in
-      let more = booted.goes is.history is.stands (subst (λ (n : ℕ). AreOwn host n is.history) (sym begun) (own_new drives name fresh before is.history new_word is.its)) in
-      record {
-        history = history_after_all is.history more.es;
-        known = more.after.0;
-        words = words_on host (IsInRun name fresh before) is.history more.es (inl refl) more.come.issues (λ d has. inr (is.its d has).1);
-        lasting = lasting_on fresh is.history more.es more.course more.come.issues is.lasting;
-      }
+  -- a moment of one of the host's runs, by the events of the run
+  module _ (before : List Ran) (fresh : ℕ) (t m : Tale) (held : Image) (of : IsHistoryOf drives name held before t) where
+    abbrev its : Host
+    its = host_of drives name fresh
 
-  -- a line leads on
-  pub lasts_line : (fresh : ℕ) (before : List Ran) (old new : Memory) (t u : Tale) → Leads (host_of drives name fresh) old new t u → LastsKnown fresh before old t → LastsKnown fresh before new u
-  lasts_line fresh before old new t u leads is =
-      let more = leads is.history is.known in
-      record {
-        history = history_after_all is.history more.es;
-        known = more.after;
-        words = words_on (host_of drives name fresh) (IsInRun name fresh before) is.history more.es (inl refl) more.come is.words;
-        lasting = lasting_on fresh is.history more.es more.course more.come is.lasting;
-      }
+    abbrev then_is : History
+    then_is = history_after_all new_history of.es
 
-  -- the databases of the run, one of those before, or of this one
-  of_run : (one : Ran) (fresh : ℕ) (before : List Ran) → one.host ≡ name → one.fresh ≡ fresh → (key : Key) (identity : Identity) → IsOurs (IsOfRun (host_of drives name fresh)) (Local name) key identity → IsOfRuns name (one ∷ before) key identity
-  of_run one fresh before host_is fresh_is key identity is = (is.0, with_run drives name one fresh before identity.fresh host_is fresh_is (inl is.1))
-
-  -- and so does the line in work, whatever of it was told
-  pub lasts_work : (one : Ran) (fresh : ℕ) (before : List Ran) (script : Script) (memory : Memory) (t m : Tale) → one.host ≡ name → one.fresh ≡ fresh → LinesMoment (host_of drives name fresh) script memory t m → LastsKnown fresh before memory t → Lasts (one ∷ before) m
-  lasts_work one fresh before script memory t m host_is fresh_is moment is =
-      let more = moment.goes is.history is.known in
-      let made = lines_make drives name fresh (left_in moment.bytes) (context_of memory) script (replies_in moment.bytes) more.es more.come in
-      record {
-        history = history_after_all is.history more.es;
-        stands = more.stands;
-        its = owned_after (IsOfRuns name (one ∷ before)) is.history more.es (λ d has. (is.known.its.own d has, with_run drives name one fresh before d.identity.fresh host_is fresh_is (is.words d has)))
-            (all_make_weaker (IsOurs (IsOfRun (host_of drives name fresh)) (Local name)) (IsOfRuns name (one ∷ before)) (of_run one fresh before host_is fresh_is) more.es made);
-        lasting = lasting_on fresh is.history more.es more.course (come_issued (host_of drives name fresh) (left_in moment.bytes) (context_of memory) script (replies_in moment.bytes) more.es more.come) is.lasting;
-      }
+    pub run_lasts : (one : Ran) → one.host ≡ name → one.fresh ≡ fresh → (run : List Event) → machine.IsCourse history_after (Happening own) then_is run → AreOfRun its one.script one.bytes run → StandsAt own (history_after_all then_is run) m → IsLasting (history_after_all then_is run)
+        → LastsNow one before m
+    run_lasts one host_is fresh_is run course come stands lasting = record {
+      held = held;
+      start = t;
+      of = of;
+      run = run;
+      course = course;
+      of_run = inl (host_is, subst (λ (word : ℕ). AreOfRun (host_of drives name word) one.script one.bytes run) (sym fresh_is) come);
+      stands = stands;
+      lasting = lasting;
+    }
 
   -- what is found of a moment as the next run starts
-  pub lasts_between : (ran : List Ran) (m next : Tale) → MayBeFound m next → Lasts ran m → Lasts ran next
-  lasts_between ran m next as_it_was is =
-      let ends = restarts_go.ended own.drives is.history m is.stands in
-      record { history = history_after_all is.history (Stops ∷ []); stands = ends.stands; its = is.its; lasting = is.lasting }
-  lasts_between ran m next (crashed found left) is =
-      let ends = restarts_go.crashed own.drives is.history m found left is.stands in
-      record { history = history_after_all is.history (Stops ∷ Crashes ∷ []); stands = ends.stands; its = is.its; lasting = is.lasting }
+  record Ends (h : History) (next : Tale) : Type 0 where
+    end : List Event
+    between : IsBetween end
+    course : machine.IsCourse history_after (Happening own) h end
+    stands : StandsAt own (history_after_all h end) next
+    lasts : IsLasting h → IsLasting (history_after_all h end)
 
-  -- databases of earlier runs are so behind one more
-  earlier_each : (one : Ran) (before : List Ran) (ds : List Database) → AreEach (IsOfRuns name before) ds → AreEach (IsOfRuns name (one ∷ before)) ds
-  earlier_each one before ds each d has = ((each d has).0, more_runs drives name one before d.identity.fresh (each d has).1)
+  ends : (h : History) (m next : Tale) → MayBeFound m next → StandsAt own h m → Ends h next
+  ends h m next as_it_was stands =
+      let is = restarts_go.ended own.drives h m stands in
+      record { end = Stops ∷ []; between = inl refl; course = both_courses own h (Stops ∷ []) is.course (tt, tt); stands = is.stands; lasts = λ lasting. lasting }
+  ends h m next (crashed found left) stands =
+      let is = restarts_go.crashed own.drives h m found left stands in
+      record { end = Stops ∷ Crashes ∷ []; between = inr refl; course = both_courses own h (Stops ∷ Crashes ∷ []) is.course (tt, (tt, tt)); stands = is.stands; lasts = λ lasting. lasting }
 
-  -- a run of the host, or of another one
-  lasts_own : (one : Ran) (before : List Ran) (t m : Tale) → one.host ≡ name → IsNewWord name one.fresh before → RunMoment (host_of drives name one.fresh) one.script t m → Lasts before t → Lasts (one ∷ before) m
-  lasts_own one before t m host_is new_word moment is =
-      let host = host_of drives name one.fresh in
-      let more = moment.stands is.history is.stands (own_new drives name one.fresh before is.history new_word is.its) in
+  pub lasts_between : (one : Ran) (before : List Ran) (m next : Tale) → MayBeFound m next → LastsNow one before m → Lasts (one ∷ before) next
+  lasts_between one before m next found is =
+      let old = is.of in
+      let there = history_after_all new_history old.es in
+      let end = ends (history_after_all there is.run) m next found is.stands in
+      let all = is.run ++ end.end in
+      let same : history_after_all new_history (old.es ++ all) ≡ history_after_all (history_after_all there is.run) end.end = after_more history_after new_history old.es all ∙ after_more history_after there is.run end.end in
       record {
-        history = history_after_all is.history more.es;
-        stands = more.stands;
-        its = owned_after (IsOfRuns name (one ∷ before)) is.history more.es (earlier_each one before is.history.databases is.its)
-            (all_make_weaker (IsOurs (IsOfRun host) (Local name)) (IsOfRuns name (one ∷ before)) (of_run one one.fresh before host_is refl) more.es (run_makes host one.script moment.bytes more.es more.come));
-        lasting = lasting_on one.fresh is.history more.es more.course (run_issued host one.script moment.bytes more.es more.come) is.lasting;
+        held = is.held;
+        of = record {
+          es = old.es ++ all;
+          course = course_more history_after (Happening own) new_history old.es all old.course (course_more history_after (Happening own) there is.run end.end is.course end.course);
+          come = (old.es, is.run, end.end, refl, old.come, is.of_run, end.between);
+          stands = subst (λ (h : History). StandsAt own h next) (sym same) end.stands;
+        };
+        lasting = subst IsLasting (sym same) (end.lasts is.lasting);
       }
 
-  pub lasts_run : (one : Ran) (before : List Ran) (t m : Tale) → IsNewWord one.host one.fresh before → RunMoment (host_of drives one.host one.fresh) one.script t m → Lasts before t → Lasts (one ∷ before) m
-  lasts_run one before t m new_word moment is = elim (both_ways (bytes_eq one.host name)) [
+  -- a run of the host, or of another one
+  lasts_own : (one : Ran) (before : List Ran) (t m : Tale) → one.host ≡ name → IsNewWord name one.fresh before → (moment : RunMoment (host_of drives name one.fresh) one.script t m) → moment.bytes ≡ one.bytes → HasMetNone drives name before one.fresh one.script t m → Lasts before t
+      → TakeDatabase (exchanges_of one.script one.bytes) ⊎ LastsNow one before m
+  lasts_own one before t m host_is new_word moment same none is = by (moment.stands (history_after_all new_history is.of.es) is.of.stands (none_own drives name before one.fresh is.of.es new_word is.of.come)) where
+    by : HasMetInRun (host_of drives name one.fresh) one.script t m (history_after_all new_history is.of.es) ⊎ Goes (host_of drives name one.fresh) (AreOfRun (host_of drives name one.fresh) one.script moment.bytes) Reached m (history_after_all new_history is.of.es) → TakeDatabase (exchanges_of one.script one.bytes) ⊎ LastsNow one before m
+    by (inl met) = absurd (none is.held is.of met)
+    by (inr went) =
+        let host = host_of drives name one.fresh in
+        let there = history_after_all new_history is.of.es in
+        let come : AreOfRun host one.script one.bytes went.es = subst (λ (l : List ℕ). AreOfRun host one.script l went.es) same went.come in
+        elim (lined_ends drives name (exchanges_of one.script one.bytes) went.es (run_lined drives name one.fresh one.script one.bytes went.es come)) [
+          | inl takes ↦ inl takes
+          | inr keeps ↦ inr (run_lasts before one.fresh t m is.held is.of one host_is refl went.es went.course come went.stands (lasting_on there went.es went.course keeps is.lasting))
+        ]
+
+  pub lasts_run : (one : Ran) (before : List Ran) (t m : Tale) → IsNewWord one.host one.fresh before → (moment : RunMoment (host_of drives one.host one.fresh) one.script t m) → moment.bytes ≡ one.bytes → HasMetNone drives one.host before one.fresh one.script t m → Lasts before t
+      → TakeDatabase (run_lines name one) ⊎ LastsNow one before m
+  lasts_run one before t m new_word moment told none is = elim (both_ways (bytes_eq one.host name)) [
     | inl does ↦
         let same : one.host ≡ name = (bytes_eq-Decides one.host name).0 does in
-        lasts_own one before t m same (subst (λ (h : List ℕ). IsNewWord h one.fresh before) same new_word) (subst (λ (h : List ℕ). RunMoment (host_of drives h one.fresh) one.script t m) same moment) is
-    | inr never ↦ record {
-      history = is.history;
-      stands = stands_elsewhere drives name one.host 0 one.fresh (λ same. (let does = (bytes_eq-Decides one.host name).1 same in cc (does, never))) is.history t m moment.home is.stands;
-      its = earlier_each one before is.history.databases is.its;
-      lasting = is.lasting;
-    }
+        let its = subst (λ (h : List ℕ). IsNewWord h one.fresh before → (moment : RunMoment (host_of drives h one.fresh) one.script t m) → moment.bytes ≡ one.bytes → HasMetNone drives h before one.fresh one.script t m → TakeDatabase (exchanges_of one.script one.bytes) ⊎ LastsNow one before m)
+        (sym same) (λ new_word moment told none. lasts_own one before t m same new_word moment told none is) in
+        subst (λ (b : Bool). TakeDatabase (if b then exchanges_of one.script one.bytes else []) ⊎ LastsNow one before m) (sym does) (its new_word moment told none)
+    | inr never ↦
+        let differ : one.host ≡ name → ⊥ = λ same. (let does = (bytes_eq-Decides one.host name).1 same in cc (does, never)) in
+        inr (record {
+          held = is.held;
+          start = t;
+          of = is.of;
+          run = [];
+          course = tt;
+          of_run = inr (differ, refl);
+          stands = stands_elsewhere drives name one.host 0 one.fresh differ (history_after_all new_history is.of.es) t m moment.home is.of.stands;
+          lasting = is.lasting;
+        })
   ]
 
   -- and any runs
-  pub lasts_runs : (first : List Ran) (from : Tale) (ran : List Ran) (t : Tale) → Runs drives first from ran t → Lasts first from → Lasts ran t
-  lasts_runs first from ran t no_run is = is
-  lasts_runs first from ran t (run_on before other fresh stretch start old m next script runs of_table new_word stands tells moment found) is =
+  pub lasts_runs : (first : List Ran) (from : Tale) (ran : List Ran) (t : Tale) (runs : Runs drives first from ran t) → HaveMetNone runs → Lasts first from → TakeDatabase (lines_since drives name first from ran t runs) ⊎ Lasts ran t
+  lasts_runs first from ran t no_run none is = inr is
+  lasts_runs first from ran t (run_on before other fresh stretch start old m next script runs of_table new_word stands tells moment found) none is =
       let one : Ran = record { host = other; fresh = fresh; script = script; bytes = stands.bytes } in
-      lasts_between (one ∷ before) m.tale next found (lasts_run one before old.tale m.tale new_word stands (lasts_runs first from before old.tale runs is))
-
-  -- So some replica shows a table, and each table that a boot may adopt has the volumes.
-  pub lasts_offers : IsSound drives → (ran : List Ran) (t : Tale) → Lasts ran t → (fresh : ℕ) → Offers (host_of drives name fresh) Has (contents t)
-  lasts_offers sound ran t is fresh = lasting_offers (host_of drives name fresh) (view_is_own.sound drives name sound) refl Has (λ table has. grows_stay None table (settled table) tt (inr refl) has) is.history t (contents t) is.stands is.lasting (λ drive block. refl)
+      let since = lines_since drives name first from before old.tale runs in
+      elim (lasts_runs first from before old.tale runs none.0 is) [
+        | inl takes ↦ inl (take_before since (run_lines name one) takes)
+        | inr lasts ↦ elim (lasts_run one before old.tale m.tale new_word stands refl none.1 lasts) [
+          | inl takes ↦ inl (take_behind since (run_lines name one) takes)
+          | inr now ↦ inr (lasts_between one before m.tale next found now)
+        ]
+      ]

@@ -169,7 +169,7 @@ module _ (drives : Geometry) (name : List ℕ) where
       pub command_leaves : (spelled : Command) → Asks one spelled → MayHaveBegun one → WritesOnly its_host (asked_by its_host spelled) memory t u → AreLeft (one ∷ []) t u
       command_leaves (AddPlaces slices force count blocks) asks begun wrote = site_leaves (one ∷ []) t u wrote.0
       command_leaves (AddListed number force) asks begun wrote = site_leaves (one ∷ []) t u wrote.0
-      command_leaves (DropPlaces slices force) asks begun wrote = none_leaves (one ∷ []) t u wrote
+      command_leaves (DropPlaces slices force) asks begun wrote = site_leaves (one ∷ []) t u wrote.0
       command_leaves (command.MakeStripe other slice) asks begun wrote = site_leaves (one ∷ []) t u (λ d b out. wrote d b (into.1 d b out))
       command_leaves (Read other at count) asks begun wrote = none_leaves (one ∷ []) t u wrote
       command_leaves (Write other at new) asks begun (inl kept) = none_leaves (one ∷ []) t u kept

@@ -1,9 +1,12 @@
 -- What a run leaves in a block of a volume, up to one of its moments: what was there as it began, or what one of its lines may have written.
-use Rattle.std.proofs.Common.{◌≡◌, ◌⊎◌, inl, inr, ℕ, ◌+◌, List, [], ◌∷◌, ◌++◌, length, take, Some, None, refl, sym, ◌∙◌, ap, subst, append_assoc, Contains}
+use Rattle.std.proofs.Common.{◌≡◌, ◌⊎◌, inl, inr, ℕ, ◌+◌, List, [], ◌∷◌, ◌++◌, length, take, Option, Some, None, false, refl, sym, ◌∙◌, ap, subst, append_assoc, Contains}
+use Rattle.std.proofs.lemmas.List.{append-nil, append_cancel_left}
 use Rattle.mdv_base.specs.declared.name.VolId.{VolId}
-use Rattle.mdv_engine_law.specs.Line.{IsSame, Kept, Memory, asked_by, contents}
+use Rattle.mdv_engine_law.specs.Line.{Kept, Memory, asked_by}
 use Rattle.mdv_engine_law.specs.Replies.{IsReply, text_of}
-use Rattle.mdv_engine_law.specs.Standing.{IsKnown, StandsAt, WritesOnly}
+use Rattle.mdv_engine_law.specs.Standing.{WritesOnly}
+use Rattle.mdv_engine_law.specs.Awake.{Happening}
+use Rattle.mdv_engine_law.specs.Hosts.{opened_area}
 use Rattle.mdv_engine_law.specs.declared.answer.Answer.{Answer}
 use Rattle.mdv_engine_law.specs.declared.answer.Answer.TheVariants.{Said, Over}
 use Rattle.mdv_engine_law.specs.declared.host.Host.{Host}
@@ -11,45 +14,40 @@ use Rattle.mdv_engine_law.proofs.Plain.{nothing_answers, too_long_plain}
 use Rattle.mdv_base.specs.declared.refusal.Refusal.TheVariants.{LineTooLong}
 use Rattle.mdv_name.specs.declared.geometry.Geometry.{Geometry}
 use Rattle.mdv_port.specs.Script.{Script, at_end, line, spent, too_long}
-use Rattle.mdv_run_law.specs.Lives.{host_of, IsNewWord, Ran}
-use Rattle.mdv_run_law.specs.Run.{At, Counts, IsNextFront, IsMereRefusal, IsSaid, LineTold, LinesTold, NextFront, NextLine, NextWrites, Stretch, behind_boot, drive_failures, no_line, one_more, Leads}
-use Rattle.mdv_run_law.specs.Told.{AtWork, IsToldBy, RunToldBy, WorkWrites}
+use Rattle.mdv_run_law.specs.Lives.{host_of}
+use Rattle.mdv_run_law.specs.Standing.{ComeOf, NothingLeft, context_of}
+use Rattle.mdv_run_law.specs.Run.{At, Counts, IsNextFront, IsMereRefusal, IsSaid, LineTold, LinesTold, NextFront, NextLine, NextWrites, Stretch, drive_failures, no_line, one_more}
+use Rattle.mdv_run_law.specs.Told.{WorkWrites}
+use Rattle.mdv_run_law.proofs.Placing.{never_shut, opened_twice}
 use Rattle.mdv_run_law.proofs.Course.{answer_plain, refused_plain, said_reply}
 use Rattle.mdv_engine_law.specs.Replies.{IsPlainAnswer}
 use Rattle.mdv_shelf.specs.Area.{KeptOutside, nowhere}
-use Rattle.mdv_shelf.specs.Story.{Moment, Story, marked, tale_of}
-use Rattle.mdv_shelf.specs.Tale.{Tale}
+use Rattle.mdv_shelf.specs.Story.{Moment, Story, tale_of}
+use Rattle.mdv_shelf.specs.Moments.{IsSince}
+use Rattle.mdv_shelf.specs.Tale.{Tale, told}
+use Rattle.mdv_shown.specs.Site.{site_area}
+use Rattle.mdv_store.specs.Opened.{Opened}
+use Rattle.mdv_store_law.specs.Machine as machine
+use Rattle.mdv_store_law.proofs.Machine.{after_more, course_more}
 use Rattle.mdv_status.specs.Telling.{Said as SaidBytes, replies_in}
 use Rattle.mdv_table.specs.Slices.{IsSound}
 use Rattle.mdv_table.specs.declared.table.Table.{Table}
-use Rattle.mdv_volumes.specs.History.{History, history_after_all}
+use Rattle.mdv_volumes.specs.History.{Event, History, history_after, history_after_all}
 use Rattle.mdv_words.specs.Line as words
 use Rattle.mdv_words.specs.Line.{Exec, IsLine}
 use Rattle.mdv_words.specs.declared.command.Command.{Command}
 use Rattle.mdv_theorem.specs.Exchanges.{Exchange, MayHaveBegun, exchanges, exchanges_of}
 use Rattle.mdv_theorem.proofs.Given.{Given}
-use Rattle.mdv_theorem.proofs.Later.{Lasts, LastsKnown, lasts_line, lasts_work, open_lasts}
+use Rattle.mdv_theorem.proofs.Lined.{AreLined, AreQuiet, AreReplied, alone, idle_quiet, line_replied, lined_more, said_of}
+use Rattle.mdv_theorem.proofs.Lines.{never_in}
+use Rattle.mdv_theorem.proofs.Come.{HasCome, HasMetNothing}
+use Rattle.mdv_theorem.proofs.Ends.{TakeDatabase, lined_ends}
+use Rattle.mdv_theorem.proofs.Later.{IsLasting, lasting_on, open_lasts, take_before, take_behind}
 use Rattle.mdv_theorem.proofs.Leaving.{Leaves, Spot, begun_or_quiet, command_leaves, site_leaves, leaves_more, none_leaves, own, text_leaves, IsInto}
 use Rattle.mdv_theorem.proofs.Replying.{none_or_whole}
 use Rattle.mdv_theorem.proofs.Steps.{take_none}
 use Rattle.mdv_theorem.proofs.Tables.{Grows}
-use Rattle.mdv_run_law.proofs.Owning.{IsOfRuns}
-use Rattle.mdv_volumes.proofs.Owners.{AreEach}
-use Rattle.mdv_theorem.proofs.Owned.{HaveWords, IsInRun, own_new, words_on}
-use Rattle.mdv_theorem.proofs.Sure.{none_begun, opened_outside}
-
--- the exchange of a line that was told so: none of what is too long
-abbrev pub said_of : Script → List ℕ → List Exchange
-said_of at_end reply = []
-said_of (spent lines bytes) reply = []
-said_of (too_long more) reply = []
-said_of (line text more) reply = record { text = text; reply = Some reply } ∷ []
-
--- a history of which this is known, whose databases the run made that is under way, or those before
-pub record Known (name : List ℕ) (before : List Ran) (host : Host) (memory : Memory) (t : Tale) : Type 0 where
-  pub history : History
-  pub known : IsKnown host memory history t
-  pub words : HaveWords (IsInRun name host.fresh before) history.databases
+use Rattle.mdv_theorem.proofs.Sure.{IsSureAt, SureOn, opened_outside, since_last, sure_on}
 
 -- the answer is told, or nothing is
 pub said_or_over : (answer : Answer) → IsSaid answer ⊎ (text_of answer ≡ [])
@@ -91,58 +89,89 @@ module _ (host : Host) where
         ∙ ap (λ (l : List Exchange). said_of now.script (text_of line_told.answer) ++ l) (lines_say (n + length piece) mid last left rest lines)
         ∙ sym (append_assoc (said_of now.script (text_of line_told.answer)) (lines_here (n + length piece) mid last left lines) (exchanges_of last.script rest))
 
-module _ (drives : Geometry) (name : List ℕ) (sound : IsSound drives) (of_table : Contains drives.hosts name) (given : Given) (fresh : ℕ) (before : List Ran) where
+module _ (drives : Geometry) (name : List ℕ) (sound : IsSound drives) (of_table : Contains drives.hosts name) (given : Given) (fresh : ℕ) where
   abbrev host : Host
   host = host_of drives name fresh
 
-  abbrev KnownAt : Memory → Tale → Type 0
-  KnownAt memory t = Known name before host memory t
+  -- of a run under way, and a history with which the drives stood as it began
+  module _ (script : Script) (h : History) (t m : Tale) (none : HasMetNothing host script h t m) where
+    abbrev pub KnownAt : At → Type 0
+    KnownAt at = IsSureAt host script h t at
 
-  -- behind the run's boot
-  pub boot_known : (stretch : Stretch) (start : Counts) (t : Tale) (script : Script) (told : List ℕ) (m : Moment) (by : RunToldBy host stretch start t script told m) (v : Story) → by.by.story ≡ Some v → (h : History) → StandsAt (own drives name) h t
-      → IsNewWord name fresh before → AreEach (IsOfRuns name before) h.databases → KnownAt by.kept.memory (tale_of v)
-  boot_known stretch start t script told m by v is h stands new_word its =
-      let more = (by.leads v is).booted.goes h stands (none_begun host stretch start t script told m by h (own_new drives name fresh before h new_word its)) in
-      record { history = history_after_all h more.es; known = more.after.0; words = words_on host (IsInRun name fresh before) h more.es (inl refl) more.come.issues (λ d has. inr (its d has).1) }
+    abbrev pub CameBefore : At → Type 0
+    CameBefore at = (u : Story) → at.story ≡ Some u → IsSince (tale_of u) m
 
-  -- where lines led from a point of the run's story: what was known is known behind them, and what lasted lasts
-  pub record Gone (now last : At) (s : Story) : Type 0 where
-    pub u : Story
-    pub is : last.story ≡ Some u
-    pub known : KnownAt now.kept.memory (tale_of s) → KnownAt last.kept.memory (tale_of u)
-    pub lasts : (table : Table) → LastsKnown drives name table fresh before now.kept.memory (tale_of s) → LastsKnown drives name table fresh before last.kept.memory (tale_of u)
-    pub reads : IsSame now.kept.content (contents (tale_of s)) → IsSame last.kept.content (contents (tale_of u))
+    -- each table that a boot may find there has the volumes of that one
+    abbrev pub LastsAt : Table → (at : At) → KnownAt at → Type 0
+    LastsAt table at sure = IsLasting drives name table (history_after_all h sure.come.es)
 
-  -- so does a line
-  pub line_goes : (now mid : At) (piece : List ℕ) (line_told : LineTold host now piece mid) (s : Story) → now.story ≡ Some s → Gone now mid s
-  line_goes now mid piece line_told s is =
-      let to = line_told.passage.in_time.drives 0 s is in
-      let v = marked s to.0 in
-      let leads : Leads host now.kept.memory mid.kept.memory (tale_of s) (tale_of v) = given.lead host now piece mid line_told s v is to.1 in
-      record {
-        u = v;
-        is = to.1;
-        known = λ k.
-            let more = leads k.history k.known in
-            record { history = history_after_all k.history more.es; known = more.after; words = words_on host (IsInRun name fresh before) k.history more.es (inl refl) more.come k.words };
-        lasts = λ table lasting. lasts_line drives name table fresh before now.kept.memory mid.kept.memory (tale_of s) (tale_of v) leads lasting;
-        reads = λ same. line_told.passage.reads v to.1;
+    -- where lines led from a place between two: the history went on by their events
+    pub record Gone (now last : At) (sure : KnownAt now) (lines : List Exchange) : Type 0 where
+      pub next : KnownAt last
+      pub fs : List Event
+      pub course : machine.IsCourse history_after (Happening host) (history_after_all h sure.come.es) fs
+      pub lined : AreLined drives name lines fs
+      pub is : history_after_all h next.come.es ≡ history_after_all (history_after_all h sure.come.es) fs
+
+    -- so what lasted lasts, or one of them may have taken the database away
+    pub gone_lasts : (now last : At) (sure : KnownAt now) (lines : List Exchange) (gone : Gone now last sure lines) (table : Table) → LastsAt table now sure → TakeDatabase lines ⊎ LastsAt table last gone.next
+    gone_lasts now last sure lines gone table lasts = elim (lined_ends drives name lines gone.fs gone.lined) [
+      | inl takes ↦ inl takes
+      | inr keeps ↦ inr (subst (IsLasting drives name table) (sym gone.is) (lasting_on drives name table (history_after_all h sure.come.es) gone.fs gone.course keeps lasts))
+    ]
+
+    -- a line leads on
+    module _ (now mid : At) (piece : List ℕ) (line_told : LineTold host now piece mid) (sure : KnownAt now) (on : SureOn host script h t m none now mid sure) where
+      abbrev reply : List ℕ
+      reply = text_of line_told.answer
+
+      -- what was told is the line's reply
+      bytes_are : on.came.bytes ≡ reply
+      bytes_are = append_cancel_left (told (tale_of sure.story)) on.came.bytes piece (sym on.came.is_told ∙ line_told.passage.told sure.story on.next.story sure.is on.next.is) ∙ line_told.as_text
+
+      replies_are : replies_in on.came.bytes ≡ reply ∷ []
+      replies_are =
+          ap replies_in bytes_are ∙ ap (λ (s : SaidBytes). s.replies) (said_reply line_told.answer (script_plain host now.counts mid.counts now.kept mid.kept now.script mid.script line_told.answer line_told.comes) line_told.said).alone
+
+      by_script : (left : Script) → NextLine host now.counts now.kept left line_told.answer mid.counts mid.kept mid.script → ComeOf host (NothingLeft (context_of mid.kept.memory)) (context_of now.kept.memory) left (reply ∷ []) on.came.fs
+          → AreLined drives name (said_of left reply) on.came.fs
+      by_script at_end comes come = absurd comes
+      by_script (spent rows limit) comes come = absurd comes
+      by_script (too_long more) comes come =
+          let same : on.came.fs ≡ come.0 = come.2 ∙ ap (λ (l : List Event). come.0 ++ l) come.4.0 ∙ append-nil come.0 in
+          subst AreQuiet (sym same) (idle_quiet host come.0 come.3)
+      by_script (line text more) comes come =
+          let same : on.came.fs ≡ come.0 = come.2 ∙ ap (λ (l : List Event). come.0 ++ l) come.6.0 ∙ append-nil come.0 in
+          alone drives name fresh (record { text = text; reply = Some reply }) on.came.fs (subst (AreReplied drives name text reply) (sym same) (line_replied drives name fresh text reply (context_of now.kept.memory) come.3 come.0 come.4))
+
+      step_goes : Gone now mid sure (said_of now.script reply)
+      step_goes = record {
+        next = on.next;
+        fs = on.came.fs;
+        course = on.came.course;
+        lined = by_script now.script line_told.comes (subst (λ (l : List (List ℕ)). ComeOf host (NothingLeft (context_of mid.kept.memory)) (context_of now.kept.memory) now.script l on.came.fs) replies_are on.came.come);
+        is = ap (λ (c : HasCome host script h t mid.kept.memory mid.script (tale_of on.next.story)). history_after_all h c.es) on.its ∙ ap (history_after_all h) on.came.all ∙ after_more history_after h sure.come.es on.came.fs;
       }
 
-  gone_more : (now mid last : At) (s : Story) (first : Gone now mid s) → Gone mid last first.u → Gone now last s
-  gone_more now mid last s first behind = record {
-    u = behind.u;
-    is = behind.is;
-    known = λ k. behind.known (first.known k);
-    lasts = λ table lasting. behind.lasts table (first.lasts table lasting);
-    reads = λ same. behind.reads (first.reads same);
-  }
+    pub line_goes : (now mid : At) (piece : List ℕ) (line_told : LineTold host now piece mid) (sure : KnownAt now) → CameBefore mid → Gone now mid sure (said_of now.script (text_of line_told.answer))
+    line_goes now mid piece line_told sure since = step_goes now mid piece line_told sure (sure_on host script h t m none now mid piece line_told sure since)
 
-  pub lines_go : (stretch : Stretch) (n : ℕ) (now last : At) (told : List ℕ) → LinesTold host stretch n now told last → (s : Story) → now.story ≡ Some s → Gone now last s
-  lines_go stretch n now last told (no_line bytes at) s is = record { u = s; is = is; known = λ k. k; lasts = λ table lasting. lasting; reads = λ same. same }
-  lines_go stretch n now last told (one_more bytes at mid end piece left some line_told shown lines) s is =
-      let first = line_goes now mid piece line_told s is in
-      gone_more now mid last s first (lines_go stretch (n + length piece) mid last left lines first.u first.is)
+    gone_more : (now mid last : At) (sure : KnownAt now) (lines more : List Exchange) (first : Gone now mid sure lines) → Gone mid last first.next more → Gone now last sure (lines ++ more)
+    gone_more now mid last sure lines more first rest =
+        let there = history_after_all h sure.come.es in
+        record {
+          next = rest.next;
+          fs = first.fs ++ rest.fs;
+          course = course_more history_after (Happening host) there first.fs rest.fs first.course (subst (λ (g : History). machine.IsCourse history_after (Happening host) g rest.fs) first.is rest.course);
+          lined = lined_more drives name lines more first.fs rest.fs first.lined rest.lined;
+          is = rest.is ∙ ap (λ (g : History). history_after_all g rest.fs) first.is ∙ sym (after_more history_after there first.fs rest.fs);
+        }
+
+    pub lines_go : (stretch : Stretch) (n : ℕ) (now last : At) (front : List ℕ) (lines : LinesTold host stretch n now front last) (sure : KnownAt now) → CameBefore last → Gone now last sure (lines_here host stretch n now last front lines)
+    lines_go stretch n now last front (no_line bytes at) sure since = record { next = sure; fs = []; course = tt; lined = λ deed has. never_in deed has; is = refl }
+    lines_go stretch n now last front (one_more bytes at mid end piece left some line_told shown lines) sure since =
+        let first = line_goes now mid piece line_told sure (since_last host stretch (n + length piece) mid last left m lines since) in
+        gone_more now mid last sure (said_of now.script (text_of line_told.answer)) (lines_here host stretch (n + length piece) mid last left lines) first (lines_go stretch (n + length piece) mid last left lines first.next since)
 
   module _ (final : Table) (volume : VolId) (number : ℕ) (spot : Spot drives name final volume number) where
     abbrev AreLeft : List Exchange → Tale → Tale → Type 0
@@ -167,25 +196,6 @@ module _ (drives : Geometry) (name : List ℕ) (sound : IsSound drives) (of_tabl
     pub line_leaves : (now mid : At) (piece : List ℕ) (line_told : LineTold host now piece mid) (s v : Story) → now.story ≡ Some s → mid.story ≡ Some v → Into now.kept.memory → AreLeft (said_of now.script (text_of line_told.answer)) (tale_of s) (tale_of v)
     line_leaves now mid piece line_told s v is is_v into =
         script_leaves now.counts mid.counts now.kept mid.kept now.script mid.script line_told.answer (tale_of s) (tale_of v) line_told.comes line_told.said (line_told.writes s v is is_v) (λ quiet. line_told.unwritten (inl quiet) s v is is_v) into
-
-    -- what lasts there has no volume but those of that table
-    abbrev pub AreInto : Memory → Tale → Type 0
-    AreInto memory u = (table : Table) → LastsKnown drives name table fresh before memory u → Grows (own drives name).drives table final
-
-    pub open_into : (memory : Memory) (t : Tale) → KnownAt memory t → AreInto memory t → Into memory
-    open_into memory t k into = ((λ o opened. into o.table (open_lasts drives name o.table fresh before memory k.history t o k.known k.words opened refl)), opened_outside host refl memory k.history t k.known)
-
-    -- lines, one behind the other
-    pub lines_leave : (stretch : Stretch) (n : ℕ) (now last : At) (told : List ℕ) (lines : LinesTold host stretch n now told last) (s : Story) (is : now.story ≡ Some s) → KnownAt now.kept.memory (tale_of s)
-        → ((u : Story) → last.story ≡ Some u → AreInto last.kept.memory (tale_of u)) → (u : Story) × (last.story ≡ Some u) × AreLeft (lines_here host stretch n now last told lines) (tale_of s) (tale_of u)
-    lines_leave stretch n now last told (no_line bytes at) s is k into = (s, is, λ x may. inl may)
-    lines_leave stretch n now last told (one_more bytes at mid end piece left some line_told shown lines) s is k into =
-        let first = line_goes now mid piece line_told s is in
-        let rest = lines_leave stretch (n + length piece) mid last left lines first.u first.is (first.known k) into in
-        let behind = lines_go stretch (n + length piece) mid last left lines first.u first.is in
-        let lasts : AreInto now.kept.memory (tale_of s) = λ table lasting. into behind.u behind.is table (behind.lasts table (first.lasts table lasting)) in
-        let here = line_leaves now mid piece line_told s first.u is first.is (open_into now.kept.memory (tale_of s) k lasts) in
-        (rest.0, rest.1, leaves_more volume number spot.drive (spot.first + number) (said_of now.script (text_of line_told.answer)) (lines_here host stretch (n + length piece) mid last left lines) (tale_of s) (tale_of first.u) (tale_of rest.0) here rest.2)
 
     -- the line in work, which was told nothing, or its whole reply
     module _ (text : List ℕ) (more : Script) (spelled : Command) (is : IsLine text (Exec spelled)) (memory : Memory) (into : Into memory) (s m : Tale) (wrote : WritesOnly host (asked_by host spelled) memory s m) where
@@ -235,36 +245,53 @@ module _ (drives : Geometry) (name : List ℕ) (sound : IsSound drives) (of_tabl
       work_leaves (inr (text, more, same, words.Tab lines, is, wrote)) = none_leaves drives name sound of_table final volume number spot (exchanges_of at.script rest) (tale_of s) m.tale wrote
       work_leaves (inr (text, more, same, Exec spelled, asks, wrote)) = work_told text more same spelled asks wrote front
 
-    -- what lasts at the moment has no volume but those of that table
-    module _ (m : Moment) (one : Ran) (host_is : one.host ≡ name) (fresh_is : one.fresh ≡ fresh) (into : (table : Table) → Lasts drives name table (one ∷ before) m.tale → Grows (own drives name).drives table final) where
-      -- from a place between two lines to the moment
-      pub tail_leaves : (stretch : Stretch) (n : ℕ) (now at : At) (so_far rest : List ℕ) → LinesTold host stretch n now so_far at → (s : Story) → now.story ≡ Some s → KnownAt now.kept.memory (tale_of s)
-          → ((u : Story) → at.story ≡ Some u → AtWork host at (tale_of u) m.tale) → IsNextFront host at rest m → AreLeft (exchanges_of now.script (so_far ++ rest)) (tale_of s) m.tale
-      tail_leaves stretch n now at so_far rest lines s is k work front =
-          let lasts : (u : Story) → at.story ≡ Some u → AreInto at.kept.memory (tale_of u) =
-          λ u is_u table lasting. into table (lasts_work drives name table one fresh before at.script at.kept.memory (tale_of u) m.tale host_is fresh_is (work u is_u).moment lasting) in
-          let led = lines_leave stretch n now at so_far lines s is k lasts in
-          let gone = lines_go stretch n now at so_far lines s is in
-          let open_in : Into at.kept.memory = open_into at.kept.memory (tale_of gone.u) (gone.known k) (lasts gone.u gone.is) in
-          let last = work_leaves at led.0 m led.1 rest front open_in (work led.0 led.1).writes in
-          subst (λ (l : List Exchange). AreLeft l (tale_of s) m.tale) (sym (lines_say host stretch n now at so_far rest lines))
-          (leaves_more volume number spot.drive (spot.first + number) (lines_here host stretch n now at so_far lines) (exchanges_of at.script rest) (tale_of s) (tale_of led.0) m.tale led.2 last)
+    -- Unless a line took the database away: all that lasts from a place on has no volume but those of that table.
+    module _ (Away : Type 0) (script : Script) (h : History) (t m : Tale) (none : HasMetNothing host script h t m) where
+      abbrev Sure : At → Type 0
+      Sure = KnownAt script h t m none
 
-      -- a run, from its start, whose word is new
-      module _ (new_word : IsNewWord name fresh before) (h : History) (its : AreEach (IsOfRuns name before) h.databases) where
-        run_leaves : (stretch : Stretch) (start : Counts) (t : Tale) (script : Script) (told : List ℕ) → RunToldBy host stretch start t script told m → (s : Story) → stretch.old ≡ Some s → tale_of s ≡ t → StandsAt (own drives name) h t
-            → AreLeft (exchanges_of script told) t m.tale
-        run_leaves stretch start t script told by s is same stands =
-            let to = by.point.in_time.drives 0 s is in
-            let v = marked s to.0 in
-            let first = subst (λ (x : Tale). AreLeft [] x (tale_of v)) same (site_leaves drives name sound of_table final volume number spot [] (tale_of s) (tale_of v) (by.writes s v is to.1)) in
-            let lines = by.lines in
-            let last = tail_leaves stretch 0 (behind_boot by.booted by.by by.kept script) lines.at lines.so_far lines.rest lines.lines v to.1 (boot_known stretch start t script told m by v to.1 h stands new_word its) lines.work lines.front in
-            leaves_more volume number spot.drive (spot.first + number) [] (exchanges_of script told) t (tale_of v) m.tale first (subst (λ (l : List ℕ). AreLeft (exchanges_of script l) (tale_of v) m.tale) (sym lines.parts) last)
+      abbrev pub AreInto : (at : At) → Sure at → Type 0
+      AreInto at sure = (table : Table) → LastsAt script h t m none table at sure → Away ⊎ Grows (own drives name).drives table final
 
-        pub told_leave : (stretch : Stretch) (start : Counts) (script : Script) (t : Moment) (tells : IsToldBy host stretch start script t m) (s : Story) → stretch.old ≡ Some s → tale_of s ≡ t.tale → StandsAt (own drives name) h t.tale
-            → AreLeft (exchanges_of script tells.bytes) t.tale m.tale
-        told_leave stretch start script t tells s is same stands = elim tells.tells [
-          | inl none ↦ site_leaves drives name sound of_table final volume number spot (exchanges_of script tells.bytes) t.tale m.tale none.1
-          | inr by ↦ run_leaves stretch start t.tale script tells.bytes by s is same stands
+      into_or_away : (memory : Memory) → ((o : Opened) → memory.opened ≡ Some o → Away ⊎ Grows (own drives name).drives o.table final) → ((drive block : ℕ) → site_area (own drives name).site drive block ≡ false → opened_area memory.opened drive block ≡ false) → Away ⊎ Into memory
+      into_or_away memory into outside = by memory.opened refl where
+        by : (x : Option Opened) → memory.opened ≡ x → Away ⊎ Into memory
+        by None shut = inr ((λ o opened. absurd (never_shut memory.opened o shut opened)), outside)
+        by (Some o) opened = elim (into o opened) [
+          | inl away ↦ inl away
+          | inr grows ↦ inr ((λ other also. subst (λ (p : Opened). Grows (own drives name).drives p.table final) (sym (opened_twice memory.opened o other opened also)) grows), outside)
         ]
+
+      pub open_into : (at : At) (sure : Sure at) → AreInto at sure → Away ⊎ Into at.kept.memory
+      open_into at sure into =
+          let there = history_after_all h sure.come.es in
+          into_or_away at.kept.memory (λ o opened. into o.table (open_lasts drives name o.table fresh at.kept.memory there (tale_of sure.story) o sure.come.known opened refl))
+          (opened_outside host refl at.kept.memory there (tale_of sure.story) sure.come.known)
+
+      -- from before lines that led on
+      pub into_before : (now last : At) (sure : Sure now) (lines : List Exchange) (gone : Gone script h t m none now last sure lines) → (TakeDatabase lines → Away) → AreInto last gone.next → AreInto now sure
+      into_before now last sure lines gone takes into table lasts = elim (gone_lasts script h t m none now last sure lines gone table lasts) [ inl taken ↦ inl (takes taken) | inr still ↦ into table still ]
+
+      -- what lines leave, one behind the other
+      abbrev LinesLeave : (now last : At) → Sure now → List Exchange → Type 0
+      LinesLeave now last sure lines = (end : Sure last) × AreLeft lines (tale_of sure.story) (tale_of end.story)
+
+      pub lines_leave : (stretch : Stretch) (n : ℕ) (now last : At) (front : List ℕ) (lines : LinesTold host stretch n now front last) (sure : Sure now) → CameBefore script h t m none last → (TakeDatabase (lines_here host stretch n now last front lines) → Away)
+          → ((end : Sure last) → AreInto last end) → Away ⊎ LinesLeave now last sure (lines_here host stretch n now last front lines)
+      lines_leave stretch n now last front (no_line bytes at) sure since takes into = inr (sure, λ x may. inl may)
+      lines_leave stretch n now last front (one_more bytes at mid end piece left some line_told shown lines) sure since takes into =
+          let said = said_of now.script (text_of line_told.answer) in
+          let more = lines_here host stretch (n + length piece) mid last left lines in
+          let first = line_goes script h t m none now mid piece line_told sure (since_last host stretch (n + length piece) mid last left m lines since) in
+          let behind = lines_go script h t m none stretch (n + length piece) mid last left lines first.next since in
+          let into_mid : AreInto mid first.next = into_before mid last first.next more behind (λ taken. takes (take_behind said more taken)) (into behind.next) in
+          let into_now : AreInto now sure = into_before now mid sure said first (λ taken. takes (take_before said more taken)) into_mid in
+          elim (open_into now sure into_now) [
+            | inl away ↦ inl away
+            | inr its ↦ elim (lines_leave stretch (n + length piece) mid last left lines first.next since (λ taken. takes (take_behind said more taken)) into) [
+              | inl away ↦ inl away
+              | inr rest ↦
+                  let here = line_leaves now mid piece line_told sure.story first.next.story sure.is first.next.is its in
+                  inr (rest.0, leaves_more volume number spot.drive (spot.first + number) said more (tale_of sure.story) (tale_of first.next.story) (tale_of rest.0.story) here rest.1)
+            ]
+          ]

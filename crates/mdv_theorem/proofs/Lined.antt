@@ -19,13 +19,21 @@ use Rattle.mdv_status.specs.Telling.{left_in, replies_in}
 use Rattle.mdv_store_law.specs.Part.{IsPart}
 use Rattle.mdv_store_law.proofs.Machine.{all_more}
 use Rattle.mdv_volumes.specs.Happening.{begins, issued_by, told_by}
-use Rattle.mdv_volumes.specs.History.{Changed, Deed, Event}
-use Rattle.mdv_volumes.specs.HistoryLaws.{KeepPlaces}
+use Rattle.mdv_volumes.specs.History.{Deed, Deleted, Event}
+use Rattle.mdv_volumes.specs.HistoryLaws.{KeepDatabase}
 use Rattle.mdv_volumes.proofs.Lists.{contains_behind, contains_first}
 use Rattle.mdv_words.specs.Line.{Boot, Exec, Line, Tab}
 use Rattle.mdv_words.specs.declared.command.Command.TheVariants as command
 use Rattle.mdv_theorem.specs.Exchanges.{Exchange, exchanges, exchanges_by, exchanges_of}
-use Rattle.mdv_theorem.proofs.Lines.{MayBegin, begins_asked, begun_keeps, lets, never_in}
+use Rattle.mdv_theorem.specs.Words.{KeepsDatabase}
+use Rattle.mdv_theorem.proofs.Lines.{MayBegin, begins_asked, lets, never_in}
+
+-- the exchange of a line that was told so: none of what is too long
+abbrev pub said_of : Script → List ℕ → List Exchange
+said_of at_end reply = []
+said_of (spent lines bytes) reply = []
+said_of (too_long more) reply = []
+said_of (line text more) reply = record { text = text; reply = Some reply } ∷ []
 
 -- events that begin nothing
 abbrev pub AreQuiet : List Event → Type 0
@@ -41,12 +49,17 @@ begun_cases es fs deed has = Contains-append_cases (issued_by es) (issued_by fs)
 quiet_both : (es fs : List Event) → AreQuiet es → AreQuiet fs → AreQuiet (es ++ fs)
 quiet_both es fs one other deed has = ⊎_elim (one deed) (other deed) (begun_cases es fs deed has)
 
-idle_quiet : (host : Host) (es : List Event) → AreIdle host es → AreQuiet es
+pub idle_quiet : (host : Host) (es : List Event) → AreIdle host es → AreQuiet es
 idle_quiet host es idle deed has = never_in deed (part_contains (issued_by es) [] deed idle.begins has)
 
-between_quiet : (end : List Event) → IsBetween end → AreQuiet end
+pub between_quiet : (end : List Event) → IsBetween end → AreQuiet end
 between_quiet end (inl is) = subst AreQuiet (sym is) (λ deed has. never_in deed has)
 between_quiet end (inr is) = subst AreQuiet (sym is) (λ deed has. never_in deed has)
+
+-- of nothing nothing is a part, and that is one of anything
+part_none : (part whole : List Deed) → IsPart part [] → IsPart part whole
+part_none [] whole is = tt
+part_none (deed ∷ part) whole is = absurd is
 
 module _ (drives : Geometry) (name : List ℕ) where
   abbrev pub host : Host
@@ -65,7 +78,7 @@ module _ (drives : Geometry) (name : List ℕ) where
   pub record AreInWork (text : List ℕ) (es : List Event) : Type 0 where
     pub ask : Ask
     pub asks : AsksWords host text ask ⊎ (ask ≡ Nothing)
-    pub begins : (deed : Deed) → Contains (issued_by es) deed → Contains (deeds ask) deed
+    pub begins : IsPart (issued_by es) (deeds ask)
 
   abbrev pub AreOfReply : List ℕ → Option (List ℕ) → List Event → Type 0
   AreOfReply text None es = AreInWork text es
@@ -83,7 +96,7 @@ module _ (drives : Geometry) (name : List ℕ) where
   quiet_lined (one ∷ lines) es fs quiet are =
       (es ++ are.0, are.1, are.2, ap (λ (l : List Event). es ++ l) are.3 ∙ sym (append_assoc es are.0 (are.1 ++ are.2)), quiet_both es are.0 quiet are.4, are.5, are.6)
 
-  lined_more : (lines more : List Exchange) (es fs : List Event) → AreLined lines es → AreLined more fs → AreLined (lines ++ more) (es ++ fs)
+  pub lined_more : (lines more : List Exchange) (es fs : List Event) → AreLined lines es → AreLined more fs → AreLined (lines ++ more) (es ++ fs)
   lined_more [] more es fs quiet are = quiet_lined more es fs quiet are
   lined_more (one ∷ lines) more es fs are also = (
     are.0,
@@ -119,7 +132,7 @@ module _ (drives : Geometry) (name : List ℕ) where
       }
 
   reply_begins : (text : List ℕ) (reply : Option (List ℕ)) (es : List Event) → AreOfReply text reply es → (deed : Deed) → Contains (issued_by es) deed → MayBegin (key_of host) deed (record { text = text; reply = reply })
-  reply_begins text None es are deed has = begins_asked host (record { text = text; reply = None }) are.ask are.asks (λ refusal none. absurd (cc none)) deed (are.begins deed has)
+  reply_begins text None es are deed has = begins_asked host (record { text = text; reply = None }) are.ask are.asks (λ refusal none. absurd (cc none)) deed (part_contains (issued_by es) (deeds are.ask) deed are.begins has)
   reply_begins text (Some reply) es are deed has =
       let may = lets are.ask reply deed (part_contains (issued_by es) (issuable are.ask reply) deed are.begins has) in
       begins_asked host (record { text = text; reply = Some reply }) are.ask (⊎_elim (λ asks. inl asks) (λ none. inr none.0) are.asks) (λ refusal told. may.begun refusal (let same = told in cc same)) deed may.asked
@@ -159,27 +172,27 @@ module _ (drives : Geometry) (name : List ℕ) where
     same_asks_by text reply ask (inl is) = inl (same_asks text ask is)
     same_asks_by text reply ask (inr none) = inr none
 
-    line_replied : (text reply : List ℕ) (now after : Context) (es : List Event) → AreOfLine its text now reply es after → AreReplied text reply es
+    pub line_replied : (text reply : List ℕ) (now after : Context) (es : List Event) → AreOfLine its text now reply es after → AreReplied text reply es
     line_replied text reply now after es is = record { ask = is.ask; asks = same_asks_by text reply is.ask is.asks; done = is.done; acks = is.acks; tells = is.does.tells; begins = is.does.begins }
 
-    front_asked : (ask : Ask) (front : List ℕ) (deed : Deed) → Contains (issuable_front ask front) deed → Contains (deeds ask) deed
-    front_asked ask front deed = by (is_front_of ok_line front) (is_front_of (refusal_line IoFault) front) where
-      by : (ok fault : Bool) → Contains (if ok || fault then deeds ask else []) deed → Contains (deeds ask) deed
-      by true fault has = has
-      by false true has = has
-      by false false has = absurd (never_in deed has)
+    front_asked : (ask : Ask) (front : List ℕ) (begun : List Deed) → IsPart begun (issuable_front ask front) → IsPart begun (deeds ask)
+    front_asked ask front begun = by (is_front_of ok_line front) (is_front_of (refusal_line IoFault) front) where
+      by : (ok fault : Bool) → IsPart begun (if ok || fault then deeds ask else []) → IsPart begun (deeds ask)
+      by true fault part = part
+      by false true part = part
+      by false false part = part_none begun (deeds ask) part
 
     line_in_work : (front text : List ℕ) (es : List Event) → LineInWork its front text es → AreInWork text es
     line_in_work front text es is = record {
       ask = is.ask;
       asks = ⊎_elim (λ asks. inl (same_asks text is.ask asks)) (λ none. inr none.0) is.asks;
-      begins = λ deed has. front_asked is.ask front deed (part_contains (issued_by es) (issuable_front is.ask front) deed is.does.begins has);
+      begins = front_asked is.ask front (issued_by es) is.does.begins;
     }
 
     nothing_in_work : (text : List ℕ) (es : List Event) → es ≡ [] → AreInWork text es
-    nothing_in_work text es none = record { ask = Nothing; asks = inr refl; begins = λ deed has. absurd (never_in deed (subst (λ (l : List Event). Contains (issued_by l) deed) none has)) }
+    nothing_in_work text es none = record { ask = Nothing; asks = inr refl; begins = subst (λ (l : List Event). IsPart (issued_by l) []) (sym none) tt }
 
-    alone : (one : Exchange) (es : List Event) → AreOfReply one.text one.reply es → AreLined (one ∷ []) es
+    pub alone : (one : Exchange) (es : List Event) → AreOfReply one.text one.reply es → AreLined (one ∷ []) es
     alone one es are = ([], es, [], sym (append-nil es), quiet_none, are, quiet_none)
 
     pub come_lined : (front : List ℕ) (now : Context) (script : Script) (replies : List (List ℕ)) (es : List Event) → ComeOf its (InWork its front) now script replies es → AreLined (exchanges script replies) es
@@ -194,7 +207,7 @@ module _ (drives : Geometry) (name : List ℕ) where
         subst (AreLined (exchanges more replies)) (sym come.2) (quiet_lined (exchanges more replies) come.0 come.1 (idle_quiet its come.0 come.3) (come_lined front now more replies come.1 come.4))
     come_lined front now (line text more) (reply ∷ replies) es come = ([], come.0, come.1, come.2, quiet_none, line_replied text reply now come.3 come.0 come.4, come_lined front come.3 more replies come.1 come.6)
 
-    run_lined : (script : Script) (bytes : List ℕ) (es : List Event) → AreOfRun its script bytes es → AreLined (exchanges_of script bytes) es
+    pub run_lined : (script : Script) (bytes : List ℕ) (es : List Event) → AreOfRun its script bytes es → AreLined (exchanges_of script bytes) es
     run_lined script bytes es run =
         subst (AreLined (exchanges_of script bytes)) (sym run.both)
         (quiet_lined (exchanges_of script bytes) run.boot run.lines (idle_quiet its run.boot run.idle) (come_lined (left_in bytes) (Some []) script (replies_in bytes) run.lines run.come))
@@ -219,6 +232,9 @@ module _ (drives : Geometry) (name : List ℕ) where
       let here = subst (λ (l : List Exchange). AreLined l (are.1 ++ are.2)) (append-nil (lines_of ran)) (lined_more (lines_of ran) [] are.1 are.2 (host_lined ran are.1 are.5) (between_quiet are.2 are.6)) in
       subst (AreLined (exchanges_by name (ran ∷ before))) (sym are.3) (lined_more (exchanges_by name before) (lines_of ran) are.0 (are.1 ++ are.2) (runs_lined before are.0 are.4) here)
 
-  -- so they move no place
-  pub runs_keep : (before : List Ran) (es : List Event) → AreOfRuns drives name before es → KeepPlaces (key_of host) es
-  runs_keep before es are change has = (let begun = lined_begins (exchanges_by name before) es (runs_lined before es are) (Changed (key_of host) change) has in begun_keeps (key_of host) (key_of host) change begun.0 begun.2)
+  -- so lines of which none may have taken the database away begin no end of it
+  pub lined_lives : (lines : List Exchange) (es : List Event) → AreLined lines es → KeepsDatabase lines → KeepDatabase (key_of host) es
+  lined_lives lines es are keeps has = (let begun = lined_begins lines es are (Deleted (key_of host)) has in keeps begun.0 begun.1 begun.2)
+
+  pub runs_live_on : (before : List Ran) (es : List Event) → AreOfRuns drives name before es → KeepsDatabase (exchanges_by name before) → KeepDatabase (key_of host) es
+  runs_live_on before es are keeps = lined_lives (exchanges_by name before) es (runs_lined before es are) keeps

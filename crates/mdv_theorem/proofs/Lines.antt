@@ -1,9 +1,10 @@
 -- What a line asks by its words and its reply, and what it may have begun.
-use Rattle.std.proofs.Common.{◌≡◌, ◌⊎◌, inl, inr, ℕ, ◌+◌, slice_index_or, Bool, true, false, ◌||◌, cond, List, [], ◌∷◌, ◌++◌, length, take, Contains, refl, sym, ◌∙◌, ap, subst, arith}
+use Rattle.std.proofs.Common.{◌≡◌, ◌⊎◌, inl, inr, ℕ, ◌+◌, slice_index_or, Bool, true, false, ◌||◌, cond, if◌then◌else◌, List, [], ◌∷◌, ◌++◌, length, take, Contains, refl, sym, ◌∙◌, ap, subst, arith}
 use Rattle.std.specs.Char.{is_ascii_digit}
 use Rattle.std.specs.Fmt.{digits}
 use Rattle.std.specs.Str.{bytes_eq}
 use Rattle.std.proofs.lemmas.Slice.Eq.{bytes_eq-Decides}
+use Rattle.mdv_base.specs.declared.drive.SliceName.{SliceName}
 use Rattle.mdv_base.specs.declared.name.Key.{Key}
 use Rattle.mdv_base.specs.declared.refusal.Refusal.{Refusal}
 use Rattle.mdv_base.specs.declared.refusal.Refusal.TheVariants.{IoFault, OutOfMemory}
@@ -16,32 +17,35 @@ use Rattle.mdv_run_law.proofs.Coming.{no_ok}
 use Rattle.mdv_status.specs.Telling.{begins_with_digit}
 use Rattle.mdv_status.specs.Values.{value_line, values_reply, values_text}
 use Rattle.mdv_status.proofs.Lines.{is_value_line}
-use Rattle.mdv_store_law.specs.Changes.{AddPlaces, Change, DropPlaces, FirstPlace, KeepsPlaces, OfPlan}
+use Rattle.mdv_store_law.specs.Changes.{AddListed, AddPlaces, Change, DropPlaces, FirstPlace, OfPlan}
 use Rattle.mdv_table.specs.declared.change.Change.TheVariants.{MakeStripe}
 use Rattle.mdv_volumes.specs.History.{Changed, Created, Deed, Deleted, Saw, Wrote}
 use Rattle.mdv_volumes.proofs.Lists.{first_or_behind}
 use Rattle.mdv_words.specs.Line.{Boot, Exec, IsLine, Line, Tab}
+use Rattle.mdv_words.specs.declared.command.Command.{Command}
 use Rattle.mdv_words.specs.declared.command.Command.TheVariants as command
-use Rattle.mdv_theorem.specs.Exchanges.{Exchange, MayBeMade, MayBeWritten, MayHaveBegun}
+use Rattle.mdv_theorem.specs.Exchanges.{Asks, Exchange, MayBeMade, MayBeWritten, MayHaveBegun}
+use Rattle.mdv_theorem.specs.Words.{MayTakeDatabase, MovesPlaces}
 use Rattle.mdv_theorem.proofs.Telling.{begins_append, is_fault, ok_is_none, one_number}
 
--- the line may have begun the deed: a database of the host's key, a change, or a block that is written
+-- the line may have begun to move places
+pub record MayMove (one : Exchange) : Type 0 where
+  pub command : Command
+  pub asks : Asks one command
+  pub moves : MovesPlaces command
+  pub begun : MayHaveBegun one
+
+-- the line may have begun the deed: a database of the host's key, a change of its volumes or its places, its end, or a block that is written
 abbrev pub MayBegin : Key → Deed → Exchange → Type 0
 MayBegin own (Created key) one = key ≡ own
 MayBegin own (Changed key (OfPlan (MakeStripe volume slice))) one = MayBeMade volume slice one
-MayBegin own (Changed key (AddPlaces slices count blocks)) one = ⊥
-MayBegin own (Changed key (DropPlaces slices)) one = ⊥
-MayBegin own (Changed key FirstPlace) one = ⊥
-MayBegin own (Deleted key) one = ⊥
+MayBegin own (Changed key (AddPlaces slices count blocks)) one = MayMove one
+MayBegin own (Changed key (AddListed number)) one = MayMove one
+MayBegin own (Changed key (DropPlaces slices)) one = MayMove one
+MayBegin own (Changed key FirstPlace) one = MayTakeDatabase one
+MayBegin own (Deleted key) one = MayTakeDatabase one
 MayBegin own (Wrote key volume at blocks) one = (block : List ℕ) × (blocks ≡ block ∷ []) × MayBeWritten volume at block one
 MayBegin own (Saw key volume at blocks) one = Unit {0}
-
--- no line may have begun a change that moves a place
-pub begun_keeps : (own key : Key) (change : Change) (one : Exchange) → MayBegin own (Changed key change) one → KeepsPlaces change
-begun_keeps own key (OfPlan change) one may = tt
-begun_keeps own key (AddPlaces slices count blocks) one may = absurd may
-begun_keeps own key (DropPlaces slices) one may = absurd may
-begun_keeps own key FirstPlace one may = absurd may
 
 pub never_in : {X : Type 0} (x : X) → Contains [] x → ⊥
 never_in x has = omega (arith, has.1)
@@ -51,13 +55,36 @@ pub the_only : {X : Type 0} (x y : X) → Contains (x ∷ []) y → x ≡ y
 the_only x y has = elim (first_or_behind x y [] has) [ inl same ↦ same | inr none ↦ absurd (never_in y none) ]
 
 module _ (host : Host) where
+  -- a creation, or more places
+  made_begins : (one : Exchange) (change : Change) (deed : Deed) → Contains (Created (key_of host) ∷ Changed (key_of host) change ∷ []) deed → MayBegin (key_of host) (Changed (key_of host) change) one → MayBegin (key_of host) deed one
+  made_begins one change deed has may = elim (first_or_behind (Created (key_of host)) deed (Changed (key_of host) change ∷ []) has) [
+    | inl here ↦ subst (λ (d : Deed). MayBegin (key_of host) d one) here refl
+    | inr behind ↦ subst (λ (d : Deed). MayBegin (key_of host) d one) (the_only _ deed behind) may
+  ]
+
+  -- what a line by which places go may begin with force
+  dropped_begins : (one : Exchange) (slices : List SliceName) (force : Bool) → Asks one (command.DropPlaces slices force) → MayHaveBegun one → (deed : Deed)
+      → Contains (if force then Changed (key_of host) FirstPlace ∷ Deleted (key_of host) ∷ [] else []) deed → MayBegin (key_of host) deed one
+  dropped_begins one slices false asks begun deed has = absurd (never_in deed has)
+  dropped_begins one slices true asks begun deed has =
+      let takes : MayTakeDatabase one = record { command = command.DropPlaces slices true; asks = asks; takes = refl; begun = begun } in
+      elim (first_or_behind (Changed (key_of host) FirstPlace) deed (Deleted (key_of host) ∷ []) has) [
+        | inl here ↦ subst (λ (d : Deed). MayBegin (key_of host) d one) here takes
+        | inr behind ↦ subst (λ (d : Deed). MayBegin (key_of host) d one) (the_only _ deed behind) takes
+      ]
+
   -- what a line asks it may have begun, where its reply doesn't say otherwise
   spelled_begins : (one : Exchange) (spelled : Line) → IsLine one.text spelled → MayHaveBegun one → (deed : Deed) → Contains (deeds (asked_by_line host spelled)) deed → MayBegin (key_of host) deed one
   spelled_begins one Boot is begun deed has = absurd (never_in deed has)
   spelled_begins one (Tab lines) is begun deed has = absurd (never_in deed has)
-  spelled_begins one (Exec (command.AddPlaces slices force count blocks)) is begun deed has = subst (λ (d : Deed). MayBegin (key_of host) d one) (the_only _ deed has) refl
-  spelled_begins one (Exec (command.AddListed number force)) is begun deed has = subst (λ (d : Deed). MayBegin (key_of host) d one) (the_only _ deed has) refl
-  spelled_begins one (Exec (command.DropPlaces slices force)) is begun deed has = absurd (never_in deed has)
+  spelled_begins one (Exec (command.AddPlaces slices force count blocks)) is begun deed has =
+      made_begins one _ deed has (record { command = command.AddPlaces slices force count blocks; asks = is; moves = tt; begun = begun })
+  spelled_begins one (Exec (command.AddListed number force)) is begun deed has =
+      made_begins one _ deed has (record { command = command.AddListed number force; asks = is; moves = tt; begun = begun })
+  spelled_begins one (Exec (command.DropPlaces slices force)) is begun deed has = elim (first_or_behind (Changed (key_of host) (DropPlaces slices)) deed (if force then Changed (key_of host) FirstPlace ∷ Deleted (key_of host) ∷ [] else []) has) [
+    | inl here ↦ subst (λ (d : Deed). MayBegin (key_of host) d one) here (record { command = command.DropPlaces slices force; asks = is; moves = tt; begun = begun })
+    | inr behind ↦ dropped_begins one slices force is begun deed behind
+  ]
   spelled_begins one (Exec (command.MakeStripe volume slice)) is begun deed has = subst (λ (d : Deed). MayBegin (key_of host) d one) (the_only _ deed has) (record { asks = is; begun = begun })
   spelled_begins one (Exec (command.Read volume at count)) is begun deed has = absurd (never_in deed has)
   spelled_begins one (Exec (command.Write volume at block)) is begun deed has = subst (λ (d : Deed). MayBegin (key_of host) d one) (the_only _ deed has) (block, refl, record { asks = is; begun = begun })

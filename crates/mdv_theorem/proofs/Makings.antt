@@ -1,4 +1,4 @@
--- A volume of a table that is found was made by a line of the earlier runs, on the slice where it lies.
+-- A volume of a table of a history was made by a line of which its events came, on the slice where it lies.
 use Rattle.std.proofs.Common.{◌≡◌, ◌⊎◌, ⊎_elim, inl, inr, ℕ, List, [], ◌∷◌, reverse, Contains, sym, ◌∙◌, ap, subst}
 use Rattle.std.proofs.lemmas.List.{reverse-append}
 use Rattle.std.proofs.lemmas.List.Elements.{Contains-append_left, Contains-append_right, All-contains}
@@ -7,31 +7,28 @@ use Rattle.mdv_base.specs.declared.name.Key.{Key}
 use Rattle.mdv_base.specs.declared.name.VolId.{VolId}
 use Rattle.mdv_engine_law.specs.declared.host.Host.{Host}
 use Rattle.mdv_name.specs.declared.geometry.Geometry.{Geometry}
-use Rattle.mdv_run_law.specs.Lives.{Ran, changes_in, IsLife}
+use Rattle.mdv_run_law.specs.Lives.{changes_in}
 use Rattle.mdv_run_law.proofs.Deeds.{part_contains}
-use Rattle.mdv_shelf.specs.Everywhere.{Image}
-use Rattle.mdv_shelf.specs.Tale.{Tale}
 use Rattle.mdv_shelf.proofs.Blocks.{both_ways}
 use Rattle.mdv_store_law.specs.Changes.{Change, OfPlan}
 use Rattle.mdv_store_law.specs.Log as log
-use Rattle.mdv_store_law.specs.Log.{AreMade, Log, Version, changes_of, empty_log}
+use Rattle.mdv_store_law.specs.Log.{AreMade, IsLog, Log, Version, changes_of, empty_log}
+use Rattle.mdv_store_law.proofs.Logs.{empty_is_log, is_log_after_all}
 use Rattle.mdv_store_law.specs.Part.{IsPart}
 use Rattle.mdv_store_law.proofs.Orders.{all_written}
-use Rattle.mdv_table.specs.Slices.{IsSound}
 use Rattle.mdv_table.specs.declared.change.Change.TheVariants.{MakeStripe}
 use Rattle.mdv_table.specs.Volumes.{HasVolume}
-use Rattle.mdv_table.specs.declared.table.Table.{Table}
 use Rattle.mdv_table.specs.declared.volume.Volume.{Volume}
-use Rattle.mdv_volumes.specs.Databases.{same_key}
-use Rattle.mdv_volumes.specs.Happening.{issued_by}
-use Rattle.mdv_volumes.specs.History.{Changed, Created, Deed, Deleted, Event, Saw, Wrote}
+use Rattle.mdv_volumes.specs.Databases.{log_of, same_key}
+use Rattle.mdv_volumes.specs.Happening.{IsCourse, issued_by}
+use Rattle.mdv_volumes.specs.History.{Changed, Created, Deed, Deleted, Event, Saw, Wrote, history_after_all}
+use Rattle.mdv_volumes.specs.HistoryLaws.{log_events_of, new_history}
 use Rattle.mdv_databases.proofs.Lists.{key_is}
 use Rattle.mdv_volumes.proofs.Keys.{databases_live}
 use Rattle.mdv_volumes.proofs.Lists.{contains_behind, contains_first, first_or_behind}
-use Rattle.mdv_theorem.specs.Exchanges.{Exchange, MayBeMade, exchanges_by}
+use Rattle.mdv_theorem.specs.Exchanges.{Exchange, MayBeMade}
 use Rattle.mdv_theorem.proofs.Changes.{made_by, stripe}
-use Rattle.mdv_theorem.proofs.Found.{Found, found_is, database, es, events, is_log, its_log, lined, log_course}
-use Rattle.mdv_theorem.proofs.Lined.{host, lined_begins}
+use Rattle.mdv_theorem.proofs.Lined.{AreLined, host, lined_begins}
 use Rattle.mdv_theorem.proofs.Lines.{never_in}
 use Rattle.mdv_base.specs.declared.name.Key.TheVariants.{Local}
 
@@ -63,44 +60,44 @@ module _ (key : Key) (change : Change) where
   deed_of_change (Wrote other beside at blocks ∷ deeds) has = contains_behind (Wrote other beside at blocks) (Changed key change) deeds (deed_of_change deeds has)
   deed_of_change (Saw other beside at blocks ∷ deeds) has = contains_behind (Saw other beside at blocks) (Changed key change) deeds (deed_of_change deeds has)
 
-module _ (drives : Geometry) (name : List ℕ) (made : Image) (before : List Ran) (t : Tale) (sound : IsSound drives) (of_table : Contains drives.hosts name) (life : IsLife drives made before t) where
+-- of events by which a history came
+module _ (drives : Geometry) (name : List ℕ) (all : List Event) (course : IsCourse (host drives name).drives new_history all) where
   abbrev own : Host
   own = host drives name
-
-  abbrev all : List Event
-  all = es drives name made before t sound of_table life
 
   abbrev its_key : Key
   its_key = Local name
 
-  abbrev its_database : Log
-  its_database = database drives name made before t sound of_table life
+  abbrev pub its_database : Log
+  its_database = log_of (history_after_all new_history all).databases its_key
 
   abbrev its_events : List log.Event
-  its_events = events drives name made before t sound of_table life
+  its_events = log_events_of its_key all
+
+  its_log : its_database ≡ log.log_after_all empty_log its_events
+  its_log = databases_live.is its_key own.drives new_history all course
+
+  log_course : log.IsCourse own.drives empty_log its_events
+  log_course = databases_live.may its_key own.drives new_history all course
+
+  is_log : IsLog own.drives its_database
+  is_log = subst (IsLog own.drives) (sym its_log) (is_log_after_all own.drives empty_log its_events (empty_is_log own.drives) log_course)
 
   -- the changes of each table of the history were begun by its events
   change_begun : (v : Version) → Contains its_database.family v → (change : Change) → Contains v.changes change → Contains (issued_by all) (Changed its_key change)
   change_begun v one_of change has =
-      let written = all_written own.drives empty_log its_events [] (λ w none. absurd (never_in w none)) (log_course drives name made before t sound of_table life) in
+      let written = all_written own.drives empty_log its_events [] (λ w none. absurd (never_in w none)) log_course in
       let part : IsPart (reverse v.changes) (changes_in its_key (issued_by all)) =
       subst (λ (l : List Change). IsPart (reverse v.changes) l) (ap changes_of (databases_live.begins its_key all))
-      (written v (subst (λ (lg : Log). Contains lg.family v) (its_log drives name made before t sound of_table life) one_of)) in
+      (written v (subst (λ (lg : Log). Contains lg.family v) its_log one_of)) in
       deed_of_change its_key change (issued_by all) (part_contains (reverse v.changes) (changes_in its_key (issued_by all)) change part (to_reversed v.changes change has))
 
-  -- each of its versions is a table that its changes made
-  version_made : (v : Version) → Contains its_database.family v → AreMade own.drives v.changes v.table
-  version_made v one_of = All-contains (λ (w : Version). AreMade own.drives w.changes w.table) its_database.family v (is_log drives name made before t sound of_table life).made one_of
-
-  -- Each volume of a table that is found was made by a line of these runs, or may have been; and it is on the slice that the line names.
-  pub table_made : (table : Table) → Found drives name t table → (volume : VolId) (of : Volume) → HasVolume table.plan.volumes volume of
-      → (one : Exchange) × (slice : SliceName) × Contains (exchanges_by name before) one × MayBeMade volume slice one × (of ≡ stripe own.drives volume slice)
-  table_made table found volume of has =
-      let is = found_is drives name made before t sound of_table life table found in
-      let version = is.version in
-      let one_of = is.one_of in
-      let there = subst (λ (b : Table). HasVolume b.plan.volumes volume of) (sym is.is_table) has in
-      let by = made_by own.drives version.changes version.table volume of (version_made version one_of) there in
-      let begun = change_begun version one_of (OfPlan (MakeStripe volume by.slice)) by.change in
-      let came = lined_begins drives name (exchanges_by name before) all (lined drives name made before t sound of_table life) (Changed its_key (OfPlan (MakeStripe volume by.slice))) begun in
+  -- Each volume of a table of the history was made by one of its lines, or may have been; and it is on the slice that the line names.
+  pub volume_made : (lines : List Exchange) → AreLined drives name lines all → (v : Version) → Contains its_database.family v → (volume : VolId) (of : Volume) → HasVolume v.table.plan.volumes volume of
+      → (one : Exchange) × (slice : SliceName) × Contains lines one × MayBeMade volume slice one × (of ≡ stripe own.drives volume slice)
+  volume_made lines lined v one_of volume of has =
+      let made = All-contains (λ (w : Version). AreMade own.drives w.changes w.table) its_database.family v is_log.made one_of in
+      let by = made_by own.drives v.changes v.table volume of made has in
+      let begun = change_begun v one_of (OfPlan (MakeStripe volume by.slice)) by.change in
+      let came = lined_begins drives name lines all lined (Changed its_key (OfPlan (MakeStripe volume by.slice))) begun in
       (came.0, by.slice, came.1, came.2, by.is)

@@ -4,7 +4,7 @@ use Rattle.std.proofs.Common.{◌≡◌, refl, ℕ, List, [], ◌∷◌, Some, s
 use Rattle.std.proofs.lemmas.List.{append_cancel_left}
 use Rattle.mdv_name.specs.declared.geometry.Geometry.{Geometry}
 use Rattle.mdv_port.specs.Script.{Script}
-use Rattle.mdv_run_law.specs.Lives.{MayBeFound, Ran, host_of, IsNewWord}
+use Rattle.mdv_run_law.specs.Lives.{HasMetNone, MayBeFound, Ran, host_of, IsNewWord}
 use Rattle.mdv_run_law.specs.Run.{AreShown, At, Counts, IsShown, Stretch}
 use Rattle.mdv_run_law.specs.Standing.{RunMoment}
 use Rattle.mdv_run_law.specs.Told.{IsToldBy}
@@ -13,8 +13,7 @@ use Rattle.mdv_shelf.specs.Tale.{Call, Gave, Synced, Tale, Tore, Wrote, told}
 use Rattle.mdv_shelf.specs.Moments.{During}
 use Rattle.mdv_shelf.specs.Story.{AtEach, AtMarks, Mark, Moment, OfTales, Passed, Story, Tally, marked, moment_at, tale_of}
 use Rattle.mdv_shelf.proofs.Stories.{at_marks_both, each_both, passed_weaker, same_marks}
-use Rattle.mdv_store_law.specs.Laws.{restarted}
-use Rattle.mdv_theorem.specs.Running.{IsMomentOf, Lived, LivesOn, Running, Runs, RunsGoOn, RunsLiveOn, WentOn, ran_now, ran_on, run_on}
+use Rattle.mdv_theorem.specs.Running.{HaveMetNone, IsMomentOf, Lived, LivesOn, Running, Runs, RunsGoOn, RunsLiveOn, WentOn, ran_now, ran_on, run_on}
 
 -- what each of these says of a moment, all of them say
 during_all : {I : Type 0} (Q : I → Tale → Type 0) (t : Tale) (call : Call) → ((i : I) → During (Q i) t call) → During (λ m. (i : I) → Q i m) t call
@@ -66,44 +65,47 @@ with_places R stretch each s old =
 module _ (drives : Geometry) (name : List ℕ) (made : Image) (before : List Ran) (fresh : ℕ) (script : Script) (stretch : Stretch) (start : Counts) (of_table : Contains drives.hosts name) (new_word : IsNewWord name fresh before) where
   -- what the contract says of a moment, and its places
   abbrev Says : Moment → Moment → Type 0
-  Says t m = (OfTales (RunMoment (host_of drives name fresh) script) t m × IsToldBy (host_of drives name fresh) stretch start script t m) × IsMomentOf stretch t m
+  Says t m = ((OfTales (RunMoment (host_of drives name fresh) script) t m × IsToldBy (host_of drives name fresh) stretch start script t m) × HasMetNone drives name before fresh script t.tale m.tale) × IsMomentOf stretch t m
 
   -- one more run behind any that led to its start
-  one_more : (t m : Moment) (here : Says t m) (first : List Ran) (from : Tale) → Runs drives first from before t.tale → (next : Tale) → MayBeFound m.tale next
-      → Runs drives first from (record { host = name; fresh = fresh; script = script; bytes = here.0.1.bytes } ∷ before) next
+  one_more : (t m : Moment) (here : Says t m) (first : List Ran) (from : Tale) (runs : Runs drives first from before t.tale) (next : Tale) → MayBeFound m.tale next
+      → (all : Runs drives first from (record { host = name; fresh = fresh; script = script; bytes = here.0.0.1.bytes } ∷ before) next) × (HaveMetNone runs → HaveMetNone all)
   one_more t m here first from runs next found =
-      let same : here.0.0.bytes ≡ here.0.1.bytes = append_cancel_left (told t.tale) here.0.0.bytes here.0.1.bytes (sym here.0.0.is_told ∙ here.0.1.is_told) in
-      subst (λ (bytes : List ℕ). Runs drives first from (record { host = name; fresh = fresh; script = script; bytes = bytes } ∷ before) next) same
-      (run_on before name fresh stretch start t m next script runs of_table new_word here.0.0 here.0.1 here.1 found)
+      let same : here.0.0.0.bytes ≡ here.0.0.1.bytes = append_cancel_left (told t.tale) here.0.0.0.bytes here.0.0.1.bytes (sym here.0.0.0.is_told ∙ here.0.0.1.is_told) in
+      subst (λ (bytes : List ℕ). (all : Runs drives first from (record { host = name; fresh = fresh; script = script; bytes = bytes } ∷ before) next) × (HaveMetNone runs → HaveMetNone all)) same
+      (run_on before name fresh stretch start t m next script runs of_table new_word here.0.0.0 here.0.0.1 here.1 found, λ met. (met, here.0.1))
 
   lives_on : (t m : Moment) → Lived drives made before t.tale → Says t m → LivesOn drives name made before fresh script stretch start t m
   lives_on t m lived here =
-      let same : here.0.0.bytes ≡ here.0.1.bytes = append_cancel_left (told t.tale) here.0.0.bytes here.0.1.bytes (sym here.0.0.is_told ∙ here.0.1.is_told) in
+      let same : here.0.0.0.bytes ≡ here.0.0.1.bytes = append_cancel_left (told t.tale) here.0.0.0.bytes here.0.0.1.bytes (sym here.0.0.0.is_told ∙ here.0.0.1.is_told) in
       record {
-        run = record { made = made; fresh = fresh; stretch = stretch; start = start; t = t; m = m; life = lived; new_word = new_word; tells = here.0.1; moment = here.1 };
+        run = record { made = made; fresh = fresh; stretch = stretch; start = start; t = t; m = m; life = lived; new_word = new_word; clean = here.0.1; tells = here.0.0.1; moment = here.1 };
         held = refl;
         numbered = refl;
         stretched = refl;
         counted = refl;
         started = refl;
         now = refl;
-        stands = here.0.0;
+        stands = here.0.0.0;
         said = same;
-        lived = λ next found. record {
+        lived = λ next found. subst (λ (bytes : List ℕ). Lived drives made (record { host = name; fresh = fresh; script = script; bytes = bytes } ∷ before) next) same (record {
           fair = lived.fair;
           told = lived.told;
           new = lived.new;
-          runs = one_more t m here [] (restarted made lived.told) lived.runs next found;
-        };
+          runs = run_on before name fresh stretch start t m next script lived.runs of_table new_word here.0.0.0 here.0.0.1 here.1 found;
+          clean = (lived.clean, here.0.1);
+        });
         adds = one_more t m here;
       }
 
 pub runs_live_on : RunsLiveOn
-runs_live_on drives name made before fresh script stretch start of_table new_word lived stands tells s old =
+runs_live_on drives name made before fresh script stretch start of_table new_word lived stands clean tells s old =
     let host = host_of drives name fresh in
+    let met_none = OfTales (HasMetNone drives name before fresh script) in
     let both = each_both (OfTales (RunMoment host script)) (IsToldBy host stretch start script) stretch.old stretch.before stretch.new stretch.after stands tells in
+    let all = each_both (λ t m. OfTales (RunMoment host script) t m × IsToldBy host stretch start script t m) met_none stretch.old stretch.before stretch.new stretch.after both clean in
     let says = Says drives name made before fresh script stretch start of_table new_word in
-    let is = with_places (λ t m. OfTales (RunMoment host script) t m × IsToldBy host stretch start script t m) stretch both s old in
+    let is = with_places (λ t m. (OfTales (RunMoment host script) t m × IsToldBy host stretch start script t m) × met_none t m) stretch all s old in
     let t = moment_at (tale_of s) stretch.before in
     (is.0, is.1, passed_weaker (says t) (LivesOn drives name made before fresh script stretch start t) s stretch.before is.0 stretch.after (λ m. lives_on drives name made before fresh script stretch start of_table new_word t m (lived s old)) is.2)
 
@@ -125,6 +127,7 @@ module _ (drives : Geometry) (name : List ℕ) (made : Image) (before : List Ran
           stands = later.stands;
           tells = subst (λ (at : Start × Moment). IsToldBy (host_of drives name at.0.0) at.0.1 at.0.2 script at.0.3 at.1) same later.run.tells;
           moment = subst (λ (at : Start × Moment). IsMomentOf at.0.1 at.0.3 at.1) same later.run.moment;
+          clean = subst (λ (at : Start × Moment). HasMetNone drives name before at.0.0 script at.0.3.tale at.1.tale) same later.run.clean;
           found = found;
         },
         refl,

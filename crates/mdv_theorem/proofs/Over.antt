@@ -1,40 +1,41 @@
 -- What runs of any hosts leave in a block of a volume, one behind the other.
-use Rattle.std.proofs.Common.{◌≡◌, inl, inr, ℕ, ◌+◌, ◌<◌, Bool, true, List, [], ◌++◌, if◌then◌else◌, sym, ◌∙◌, subst, append_assoc, arith, ◌∷◌, refl, Contains}
+use Rattle.std.proofs.Common.{◌≡◌, ◌⊎◌, inl, inr, ℕ, ◌+◌, ◌<◌, Bool, true, List, [], ◌++◌, if◌then◌else◌, sym, ◌∙◌, ap, subst, append_assoc, arith, refl, Contains}
 use Rattle.std.proofs.lemmas.Bool.Decides.{nat_tests}
 use Rattle.std.proofs.lemmas.List.{append-nil, append_cancel_left}
 use Rattle.std.proofs.lemmas.Slice.Eq.{bytes_eq-Decides}
 use Rattle.std.specs.Str.{bytes_eq}
 use Rattle.mdv_base.specs.declared.name.VolId.{VolId}
 use Rattle.mdv_engine_law.specs.Hosts.{host_area}
-use Rattle.mdv_engine_law.specs.Standing.{StandsAt}
 use Rattle.mdv_map.specs.Maps.{area_of_map, run_map}
 use Rattle.mdv_map.proofs.Covering.{runs_lie}
 use Rattle.mdv_name.specs.declared.geometry.Geometry.{Geometry}
 use Rattle.mdv_port.specs.Script.{Script}
-use Rattle.mdv_run_law.specs.Lives.{MayBeFound, Ran, as_it_was, crashed, host_of, IsLife, IsNewWord}
+use Rattle.mdv_run_law.specs.Lives.{HasMetNone, IsHistoryOf, MayBeFound, Ran, as_it_was, crashed, host_of, IsLife, IsNewWord}
 use Rattle.mdv_run_law.specs.Run.{Counts, Stretch}
 use Rattle.mdv_run_law.specs.Standing.{RunMoment}
-use Rattle.mdv_run_law.specs.Told.{IsToldBy}
+use Rattle.mdv_run_law.specs.Told.{IsToldBy, RunToldBy}
 use Rattle.mdv_run_law.proofs.Elsewhere.{table_elsewhere}
-use Rattle.mdv_shelf.specs.Area.{range}
+use Rattle.mdv_run_law.proofs.Living.{lives_stand}
+use Rattle.mdv_shelf.specs.Area.{KeptOutside, range}
 use Rattle.mdv_shelf.specs.Everywhere.{Image}
 use Rattle.mdv_shelf.specs.Story.{Moment}
 use Rattle.mdv_shelf.specs.Tale.{Tale, told}
 use Rattle.mdv_shelf.proofs.Blocks.{both_ways}
 use Rattle.mdv_table.specs.Slices.{IsSound}
 use Rattle.mdv_table.specs.declared.table.Table.{Table}
-use Rattle.mdv_volumes.specs.History.{History}
+use Rattle.mdv_shown.specs.Site.{site_area}
+use Rattle.mdv_volumes.specs.History.{history_after_all}
+use Rattle.mdv_volumes.specs.HistoryLaws.{new_history}
 use Rattle.mdv_theorem.specs.Exchanges.{Exchange, exchanges_by, exchanges_of}
-use Rattle.mdv_theorem.specs.Running.{IsMomentOf, Runs, no_run, run_on}
+use Rattle.mdv_theorem.specs.Running.{HaveMetNone, IsMomentOf, Runs, no_run, run_on}
+use Rattle.mdv_theorem.proofs.Come.{HasMetNothing}
+use Rattle.mdv_theorem.proofs.Ends.{TakeDatabase}
 use Rattle.mdv_theorem.proofs.Given.{Given}
-use Rattle.mdv_theorem.proofs.Later.{Lasts, lasts_between, lasts_run}
+use Rattle.mdv_theorem.proofs.Later.{Lasts, LastsNow, lasts_between, lasts_run, lines_since, run_lines, take_before, take_behind}
 use Rattle.mdv_theorem.proofs.Leaving.{Leaves, Spot, kept_leaves, leaves_more, own}
-use Rattle.mdv_theorem.proofs.Left.{told_leave}
+use Rattle.mdv_theorem.proofs.Tail.{told_leave}
 use Rattle.mdv_theorem.proofs.Living.{runs_live}
 use Rattle.mdv_theorem.proofs.Tables.{Grows}
-use Rattle.mdv_run_law.proofs.Owning.{IsOfRuns}
-use Rattle.mdv_volumes.proofs.Owners.{AreEach}
-use Rattle.mdv_theorem.proofs.Owned.{life_start}
 
 in_range : (drive first count number : ℕ) → number < count → range drive first count drive (first + number) ≡ true
 in_range drive first count number within = grind (arith, nat_tests)
@@ -47,7 +48,7 @@ found_leaves volume number drive block m next (crashed found left) x may = inl (
 module _ (drives : Geometry) (name : List ℕ) (sound : IsSound drives) (of_table : Contains drives.hosts name) (given : Given) where
   -- the lines of a run that are the host's
   abbrev pub lines_of : Ran → List Exchange
-  lines_of ran = if bytes_eq ran.host name then exchanges_of ran.script ran.bytes else []
+  lines_of ran = run_lines name ran
 
   -- what a run of the host told, where it is known by its name
   pub own_told : (other : List ℕ) (fresh : ℕ) (stretch : Stretch) (start : Counts) (script : Script) (t m : Moment) → bytes_eq other name ≡ true → (stands : RunMoment (host_of drives other fresh) script t.tale m.tale)
@@ -57,13 +58,23 @@ module _ (drives : Geometry) (name : List ℕ) (sound : IsSound drives) (of_tabl
       let its : IsToldBy (host_of drives name fresh) stretch start script t m = subst (λ (h : List ℕ). IsToldBy (host_of drives h fresh) stretch start script t m) same tells in
       (its, append_cancel_left (told t.tale) its.bytes stands.bytes (sym its.is_told ∙ stands.is_told))
 
-  module _ (final : Table) (volume : VolId) (number : ℕ) (spot : Spot drives name final volume number) where
+  -- the lines of runs come behind those before
+  pub since_are : (first : List Ran) (from : Tale) (ran : List Ran) (t : Tale) (runs : Runs drives first from ran t) → exchanges_by name ran ≡ exchanges_by name first ++ lines_since drives name first from ran t runs
+  since_are first from ran t no_run = sym (append-nil (exchanges_by name first))
+  since_are first from ran t (run_on before other fresh stretch start old m next script runs other_of new_word stands tells moment found) =
+      let one : Ran = record { host = other; fresh = fresh; script = script; bytes = stands.bytes } in
+      ap (λ (l : List Exchange). l ++ run_lines name one) (since_are first from before old.tale runs) ∙ append_assoc (exchanges_by name first) (lines_since drives name first from before old.tale runs) (run_lines name one)
+
+  -- Unless one of the lines took the database away: what lasts there has no volume but those of that table.
+  module _ (Away : Type 0) (final : Table) (volume : VolId) (number : ℕ) (spot : Spot drives name final volume number) where
     abbrev AreLeft : List Exchange → Tale → Tale → Type 0
     AreLeft es t u = Leaves volume number spot.drive (spot.first + number) es t u
 
-    -- what lasts there has no volume but those of that table
     abbrev pub AllInto : List Ran → Tale → Type 0
-    AllInto ran t = (table : Table) → Lasts drives name table ran t → Grows (own drives name).drives table final
+    AllInto ran t = (table : Table) → Lasts drives name table ran t → Away ⊎ Grows (own drives name).drives table final
+
+    abbrev pub NowInto : Ran → List Ran → Tale → Type 0
+    NowInto one before m = (table : Table) → LastsNow drives name table one before m → Away ⊎ Grows (own drives name).drives table final
 
     -- what another host's run leaves
     other_leaves : (other : List ℕ) (fresh : ℕ) (script : Script) (t m : Tale) → (other ≡ name → ⊥) → RunMoment (host_of drives other fresh) script t m → AreLeft [] t m
@@ -76,41 +87,46 @@ module _ (drives : Geometry) (name : List ℕ) (sound : IsSound drives) (of_tabl
 
     -- a run of whichever host
     any_leaves : (before : List Ran) (other : List ℕ) (fresh : ℕ) (stretch : Stretch) (start : Counts) (script : Script) (t m : Moment) → IsNewWord other fresh before → (stands : RunMoment (host_of drives other fresh) script t.tale m.tale)
-        → IsToldBy (host_of drives other fresh) stretch start script t m → IsMomentOf stretch t m → AllInto (record { host = other; fresh = fresh; script = script; bytes = stands.bytes } ∷ before) m.tale
-        → (h : History) → StandsAt (own drives name) h t.tale → AreEach (IsOfRuns name before) h.databases → AreLeft (lines_of (record { host = other; fresh = fresh; script = script; bytes = stands.bytes })) t.tale m.tale
-    any_leaves before other fresh stretch start script t m new_word stands tells moment into h there its = elim (both_ways (bytes_eq other name)) [
+        → IsToldBy (host_of drives other fresh) stretch start script t m → IsMomentOf stretch t m → HasMetNone drives other before fresh script t.tale m.tale → NowInto (record { host = other; fresh = fresh; script = script; bytes = stands.bytes }) before m.tale
+        → (held : Image) → IsHistoryOf drives name held before t.tale → (TakeDatabase (run_lines name (record { host = other; fresh = fresh; script = script; bytes = stands.bytes })) → Away)
+        → Away ⊎ AreLeft (run_lines name (record { host = other; fresh = fresh; script = script; bytes = stands.bytes })) t.tale m.tale
+    any_leaves before other fresh stretch start script t m new_word stands tells moment clean into held of takes = elim (both_ways (bytes_eq other name)) [
       | inl does ↦
           let same = (bytes_eq-Decides other name).0 does in
-          let told_here = own_told other fresh stretch start script t m does stands tells in
-          let one : Ran = record { host = other; fresh = fresh; script = script; bytes = stands.bytes } in
+          let its = own_told other fresh stretch start script t m does stands tells in
+          let bytes = stands.bytes in
+          let told_so : told m.tale ≡ told t.tale ++ bytes = stands.is_told in
+          let now_into : NowInto (record { host = name; fresh = fresh; script = script; bytes = bytes }) before m.tale = subst (λ (n : List ℕ). NowInto (record { host = n; fresh = fresh; script = script; bytes = bytes }) before m.tale) same into in
+          let none : HasMetNothing (host_of drives name fresh) script (history_after_all new_history of.es) t.tale m.tale = subst (λ (n : List ℕ). HasMetNone drives n before fresh script t.tale m.tale) same clean held of in
+          let taking : TakeDatabase (exchanges_of script bytes) → Away = subst (λ (b : Bool). TakeDatabase (if b then exchanges_of script bytes else []) → Away) does takes in
           let begins = moment.begins in
-          let left = told_leave drives name sound of_table given fresh before final volume number spot m one same refl into (subst (λ (n : List ℕ). IsNewWord n fresh before) same new_word) h its stretch start script t told_here.0 begins.0 begins.1 begins.2 there in
-          subst (λ (b : Bool). AreLeft (if b then exchanges_of script stands.bytes else []) t.tale m.tale) (sym does) (subst (λ (l : List ℕ). AreLeft (exchanges_of script l) t.tale m.tale) told_here.1 left)
+          let tells_by = subst (λ (l : List ℕ). ((l ≡ []) × KeptOutside (site_area (host_of drives name fresh).site) t.tale m.tale) ⊎ RunToldBy (host_of drives name fresh) stretch start t.tale script l m) its.1 its.0.tells in
+          let left = told_leave drives name fresh before script t.tale held of m none bytes told_so sound of_table given Away final volume number spot now_into (subst (λ (n : List ℕ). IsNewWord n fresh before) same new_word) taking stretch start begins.0 begins.1 begins.2 tells_by in
+          subst (λ (b : Bool). Away ⊎ AreLeft (if b then exchanges_of script bytes else []) t.tale m.tale) (sym does) left
       | inr never ↦
-          subst (λ (b : Bool). AreLeft (if b then exchanges_of script stands.bytes else []) t.tale m.tale) (sym never)
-          (other_leaves other fresh script t.tale m.tale (λ same. (let does = (bytes_eq-Decides other name).1 same in cc (does, never))) stands)
+          inr (subst (λ (b : Bool). AreLeft (if b then exchanges_of script stands.bytes else []) t.tale m.tale) (sym never)
+          (other_leaves other fresh script t.tale m.tale (λ same. (let does = (bytes_eq-Decides other name).1 same in cc (does, never))) stands))
     ]
 
-    -- the lines of these runs, and what they leave
-    pub record RunsLeave (first : List Ran) (from : Tale) (ran : List Ran) (t : Tale) : Type 0 where
-      pub since : List Exchange
-      pub are : exchanges_by name ran ≡ exchanges_by name first ++ since
-      pub leave : AreLeft since from t
-
-    pub runs_leave : (made : Image) (first : List Ran) (from : Tale) → IsLife drives made first from → (ran : List Ran) (t : Tale) → Runs drives first from ran t → AllInto ran t → RunsLeave first from ran t
-    runs_leave made first from life ran t no_run into = record { since = []; are = sym (append-nil (exchanges_by name first)); leave = λ x may. inl may }
-    runs_leave made first from life ran t (run_on before other fresh stretch start old m next script runs other_of new_word stands tells moment found) into =
+    -- what these runs leave
+    pub runs_leave : (made : Image) (first : List Ran) (from : Tale) → IsLife drives made first from → (ran : List Ran) (t : Tale) (runs : Runs drives first from ran t) → HaveMetNone runs → (TakeDatabase (lines_since drives name first from ran t runs) → Away) → AllInto ran t
+        → Away ⊎ AreLeft (lines_since drives name first from ran t runs) from t
+    runs_leave made first from life ran t no_run none takes into = inr (λ x may. inl may)
+    runs_leave made first from life ran t (run_on before other fresh stretch start old m next script runs other_of new_word stands tells moment found) none takes into =
         let here : Ran = record { host = other; fresh = fresh; script = script; bytes = stands.bytes } in
-        let at_end : AllInto (here ∷ before) m.tale = λ table lasts. into table (lasts_between drives name table (here ∷ before) m.tale next found lasts) in
-        let at_start : AllInto before old.tale = λ table lasts. at_end table (lasts_run drives name table here before old.tale m.tale new_word stands lasts) in
-        let done = runs_leave made first from life before old.tale runs at_start in
-        let history = life_start drives name made before old.tale of_table (runs_live drives made first from before old.tale life runs) in
-        let left = any_leaves before other fresh stretch start script old m new_word stands tells moment at_end history.0 history.1 history.2 in
-        let drive = spot.drive in
-        let block = spot.first + number in
-        let more = leaves_more volume number drive block (lines_of here) [] old.tale m.tale next left (found_leaves volume number drive block m.tale next found) in
-        record {
-          since = done.since ++ (lines_of here ++ []);
-          are = (λ i. done.are i ++ sym (append-nil (lines_of here)) i) ∙ append_assoc (exchanges_by name first) done.since (lines_of here ++ []);
-          leave = leaves_more volume number drive block done.since (lines_of here ++ []) from old.tale next done.leave more;
-        }
+        let since = lines_since drives name first from before old.tale runs in
+        let more = run_lines name here in
+        let at_end : NowInto here before m.tale = λ table lasts. into table (lasts_between drives name table here before m.tale next found lasts) in
+        let at_start : AllInto before old.tale = λ table lasts. elim (lasts_run drives name table here before old.tale m.tale new_word stands refl none.1 lasts) [ inl taken ↦ inl (takes (take_behind since more taken)) | inr now ↦ at_end table now ] in
+        let history = lives_stand drives name made before old.tale of_table (runs_live drives made first from before old.tale life runs none.0) in
+        elim (runs_leave made first from life before old.tale runs none.0 (λ taken. takes (take_before since more taken)) at_start) [
+          | inl away ↦ inl away
+          | inr done ↦ elim (any_leaves before other fresh stretch start script old m new_word stands tells moment none.1 at_end made history (λ taken. takes (take_behind since more taken))) [
+            | inl away ↦ inl away
+            | inr left ↦
+                let drive = spot.drive in
+                let block = spot.first + number in
+                let all = leaves_more volume number drive block more [] old.tale m.tale next left (found_leaves volume number drive block m.tale next found) in
+                inr (leaves_more volume number drive block since more from old.tale next done (subst (λ (l : List Exchange). AreLeft l old.tale next) (append-nil more) all))
+          ]
+        ]

@@ -4,14 +4,14 @@ use Rattle.mdv_base.specs.declared.mark.Identity.{Identity}
 use Rattle.mdv_base.specs.declared.name.Key.{Key}
 use Rattle.mdv_base.specs.declared.name.Key.TheVariants.{Local}
 use Rattle.mdv_engine_law.specs.Hosts.{key_of}
-use Rattle.mdv_engine_law.specs.Standing.{AreOwn, IsOfRun, StandsAt}
+use Rattle.mdv_engine_law.specs.Standing.{AreOwn, StandsAt}
 use Rattle.mdv_engine_law.specs.declared.host.Host.{Host}
 use Rattle.mdv_name.specs.declared.geometry.Geometry.{Geometry}
 use Rattle.mdv_port.specs.Script.{Script}
-use Rattle.mdv_run_law.specs.Lives.{HasWord, IsLife, IsNewWord, Ran, host_of}
-use Rattle.mdv_run_law.specs.Standing.{ComeOf, Context, InWork}
+use Rattle.mdv_run_law.specs.Lives.{HasMetNone, HasWord, IsLife, IsNewWord, Ran, host_of}
+use Rattle.mdv_run_law.specs.Standing.{ComeOf, Context, HasMetInRun, InWork}
 use Rattle.mdv_run_law.proofs.Living.{lives_stand}
-use Rattle.mdv_run_law.proofs.Owning.{IsOfRuns, IsOurs, Makes, all_issue, come_issued, owned_after, runs_own}
+use Rattle.mdv_run_law.proofs.Owning.{HasItsWord, IsOfRuns, IsOurs, Makes, all_issue, come_issued, owned_after, runs_own}
 use Rattle.mdv_shelf.specs.Everywhere.{Image}
 use Rattle.mdv_shelf.specs.Tale.{Tale}
 use Rattle.mdv_store_law.specs.Log.{Issue, OfCreation}
@@ -48,14 +48,14 @@ module _ (Which : Issue → Type 0) (P : Key → Identity → Type 0) (makes : (
   issue_makes Stops is = tt
   issue_makes Crashes is = tt
 
-  issues_make : (es : List Event) → AreAll (IsIssue Which) es → AreAll (Makes P) es
+  pub issues_make : (es : List Event) → AreAll (IsIssue Which) es → AreAll (Makes P) es
   issues_make [] are = tt
   issues_make (e ∷ es) are = (issue_makes e are.0, issues_make es are.1)
 
 -- events of a run leave them so
-pub words_on : (host : Host) (Word : ℕ → Type 0) (h : History) (es : List Event) → Word host.fresh → AreAll (IsIssue (IsOfRun host)) es → HaveWords Word h.databases → HaveWords Word (history_after_all h es).databases
+pub words_on : (host : Host) (Word : ℕ → Type 0) (h : History) (es : List Event) → Word host.fresh → AreAll (IsIssue (HasItsWord host)) es → HaveWords Word h.databases → HaveWords Word (history_after_all h es).databases
 words_on host Word h es its issues have =
-    owned_after (λ key identity. Word identity.fresh) h es have (issues_make (IsOfRun host) (λ key identity. Word identity.fresh) (λ key identity is. subst Word (sym is) its) es issues)
+    owned_after (λ key identity. Word identity.fresh) h es have (issues_make (HasItsWord host) (λ key identity. Word identity.fresh) (λ key identity is. subst Word (sym is) its) es issues)
 
 module _ (drives : Geometry) (name : List ℕ) where
   -- as a run begins, whose word is new, none has it
@@ -79,15 +79,15 @@ module _ (drives : Geometry) (name : List ℕ) where
 
   -- what lines of a run make, the one in work too, is the host's, with the run's word
   pub lines_make : (fresh : ℕ) (front : List ℕ) (now : Context) (script : Script) (replies : List (List ℕ)) (es : List Event) → ComeOf (host_of drives name fresh) (InWork (host_of drives name fresh) front) now script replies es
-      → AreAll (Makes (IsOurs (IsOfRun (host_of drives name fresh)) (Local name))) es
+      → AreAll (Makes (IsOurs (HasItsWord (host_of drives name fresh)) (Local name))) es
   lines_make fresh front now script replies es come =
       let host = host_of drives name fresh in
-      all_issue (IsOfRun host) (key_of host) es (come_issued host front now script replies es come)
+      all_issue (HasItsWord host) (key_of host) es (come_issued host front now script replies es come)
       (λ other has. (lined_begins drives name (exchanges script replies) es (come_lined drives name fresh front now script replies es come) (Created other) has).2)
 
 module _ {drives : Geometry} {name : List ℕ} {before : List Ran} {script : Script} (run : Running drives name before script) (of_table : Contains drives.hosts name) where
-  -- a history with which the drives stand as the run begins, none of whose databases has its word
-  pub run_start : (h : History) × StandsAt (host_of drives name run.fresh) h run.t.tale × AreOwn (host_of drives name run.fresh) 0 h
+  -- a history with which the drives stand as the run begins, none of whose databases has its word: none of its boots meets a stale vote of it by a moment, where none does of any
+  pub run_start : (h : History) × StandsAt (host_of drives name run.fresh) h run.t.tale × AreOwn (host_of drives name run.fresh) 0 h × ((m : Tale) → HasMetNone drives name before run.fresh script run.t.tale m → HasMetInRun (host_of drives name run.fresh) script run.t.tale m h → ⊥)
   run_start =
-      let is = life_start drives name run.made before run.t.tale of_table (lived_life drives run.made before run.t.tale run.life) in
-      (is.0, is.1, own_new drives name run.fresh before is.0 run.new_word is.2)
+      let is = lives_stand drives name run.made before run.t.tale of_table (lived_life drives run.made before run.t.tale run.life) in
+      (history_after_all new_history is.es, is.stands, own_new drives name run.fresh before (history_after_all new_history is.es) run.new_word (runs_own drives name before is.es is.come), λ m none met. none run.made is met)

@@ -33,16 +33,14 @@ use Rattle.mdv_words.specs.declared.command.Command.TheVariants.{Print}
 use Rattle.mdv_theorem.specs.Exchanges.{Asks, Exchange, IsTold, exchanges_by}
 use Rattle.mdv_theorem.specs.Observed.{HaveAnswered, Lists, ListsAll, PrintsOfAll, PrintsOfNames, numbers_of}
 use Rattle.mdv_theorem.specs.Running.{Running}
-use Rattle.mdv_theorem.specs.Words.{IsThere, MayLie, listed_line}
+use Rattle.mdv_theorem.specs.Words.{HasDatabase, IsThere, MayLie, listed_line}
 use Rattle.mdv_theorem.proofs.Aside.{Commanded, came as came_so, commanded, unread}
-use Rattle.mdv_theorem.proofs.Databases.{shown_open}
 use Rattle.mdv_theorem.proofs.Lines.{never_in}
 use Rattle.mdv_theorem.proofs.Listed.{AreListed, are_listed, names_lines, number_has, numbers_in, numbers_rise}
 use Rattle.mdv_theorem.proofs.Lying.{laid}
-use Rattle.mdv_theorem.proofs.Parting.{cut_has}
-use Rattle.mdv_theorem.proofs.Enduring.{it_stays}
-use Rattle.mdv_theorem.proofs.Staying.{line_sure}
-use Rattle.mdv_theorem.proofs.Steps.{Reached, reached, told_once}
+use Rattle.mdv_theorem.proofs.Enduring.{database_open, it_stays}
+use Rattle.mdv_theorem.proofs.Starting.{Starts, starts, starts_early}
+use Rattle.mdv_theorem.proofs.Steps.{Reached, reached_from, told_once}
 use Rattle.mdv_store.specs.Opened.{Opened}
 use Rattle.mdv_theorem.proofs.Sure.{sure_plan}
 
@@ -103,7 +101,7 @@ module _ (calls : Outcomes) (host : Host) (kept next : Kept) (o : Opened) (opene
   given (unread is) = of_memory is
 
 -- where the run has come to a line
-module _ (drives : Geometry) (name : List ℕ) (before : List Ran) (script : Script) (sound : IsSound drives) (of_table : Contains drives.hosts name) (run : Running drives name before script) (here : List Exchange) (calm : HaveAnswered run (exchanges_by name before ++ here)) (one : Exchange) (at : Reached run here one)
+module _ (drives : Geometry) (name : List ℕ) (before : List Ran) (script : Script) (sound : IsSound drives) (of_table : Contains drives.hosts name) (run : Running drives name before script) (here : List Exchange) (calm : HaveAnswered run (exchanges_by name before ++ here)) (one : Exchange) (starts_so : Starts run) (at : Reached run starts_so.of here one)
     (o : Opened) (opened : at.kept.memory.opened ≡ Some o) where
   abbrev host : Host
   host = host_of drives name run.fresh
@@ -113,19 +111,18 @@ module _ (drives : Geometry) (name : List ℕ) (before : List Ran) (script : Scr
 
   -- the table is one of the drives
   plan : IsPlanOf host.drives o.table.plan
-  plan = sure_plan host at.kept o (line_sure drives name before script sound of_table run here one at) opened
+  plan = sure_plan host at.kept o at.sure opened
 
   -- it has a volume that lines show to be there
   has_shown : (volume : VolId) → IsThere volume lines → (v : Volume) × HasVolume o.table.plan.volumes volume v
   has_shown volume there =
-      let among = subst (λ (l : List Exchange). Contains l there.shown) (sym there.parts) (cut_has there.before there.behind there.shown) in
-      let its = it_stays drives name before script sound of_table run here one at calm there.shown volume among there.shows in
+      let its = it_stays drives name before script sound of_table run starts_so here one at calm volume there in
       subst (λ (n : Opened). (v : Volume) × HasVolume n.table.plan.volumes volume v) (opened_twice at.kept.memory.opened o its.o opened its.opened) (its.so.1.of, its.so.1.has)
 
   -- and its volumes are told with slices on which they may lie
   told_of : (vs : List Volume) → ((x : Volume) → Contains vs x → Contains o.table.plan.volumes x) → AreListed host.drives (λ volume slice. MayLie volume slice lines) vs
   told_of vs among = are_listed host.drives (λ volume slice. MayLie volume slice lines) vs (λ x has.
-      (let on = laid drives name before script sound of_table run x.number here one at o opened x (among x has, refl) in (on.slice, on.may, on.is)))
+      (let on = laid drives name before script sound of_table run x.number starts_so.of (starts_early starts_so x.number) here one at o opened x (among x has, refl) in (on.slice, on.may, on.is)))
 
   up : IsAscending o.table.plan.volumes
   up = plan.numbers.ascending
@@ -167,19 +164,18 @@ pub prints_of_names : PrintsOfNames
 prints_of_names drives name before script of_table run one earlier first volumes answered enough there asks reply told =
     let sound = run.life.fair in
     let calm = subst (HaveAnswered run) answered.behind enough in
-    let at = reached run of_table answered.here answered.later one reply answered.is told in
+    let starts_so = starts drives name before script of_table run in
+    let at = reached_from run starts_so.of answered.here answered.later one reply answered.is told in
     let shown : (volume : VolId) → Contains (first ∷ volumes) volume → IsThere volume (exchanges_by name before ++ answered.here) = λ volume has. subst (IsThere volume) answered.behind (there volume has) in
-    let by = shown first (contains_first first volumes) in
-    let among = subst (λ (l : List Exchange). Contains l by.shown) (sym by.parts) (cut_has by.before by.behind by.shown) in
-    let its = it_stays drives name before script sound of_table run answered.here one at calm by.shown first among by.shows in
+    let its = it_stays drives name before script sound of_table run starts_so answered.here one at calm first (shown first (contains_first first volumes)) in
     subst (λ (l : List Exchange). (reply ≡ refusal_line OutOfMemory) ⊎ ((is : Lists l reply) × (numbers_of is.listed ≡ first ∷ volumes))) (sym answered.behind)
-    (named_told drives name before script sound of_table run answered.here calm one at its.o its.opened first volumes shown asks reply told)
+    (named_told drives name before script sound of_table run answered.here calm one starts_so at its.o its.opened first volumes shown asks reply told)
 
 pub prints_of_all : PrintsOfAll
 prints_of_all drives name before script of_table run one earlier answered enough has asks reply told =
     let sound = run.life.fair in
     let calm = subst (HaveAnswered run) answered.behind enough in
-    let at = reached run of_table answered.here answered.later one reply answered.is told in
-    let among = subst (λ (l : List Exchange). Contains l has.shown) (sym has.parts ∙ answered.behind) (cut_has has.before has.behind has.shown) in
-    let its = shown_open drives name before script sound of_table run answered.here one at calm has.shown among has.command has.needs has.asks has.granted in
-    subst (λ (l : List Exchange). (reply ≡ refusal_line OutOfMemory) ⊎ ListsAll l reply) (sym answered.behind) (all_told drives name before script sound of_table run answered.here calm one at its.0 its.1 asks reply told)
+    let starts_so = starts drives name before script of_table run in
+    let at = reached_from run starts_so.of answered.here answered.later one reply answered.is told in
+    let its = database_open drives name before script sound of_table run starts_so answered.here one at calm (subst HasDatabase answered.behind has) in
+    subst (λ (l : List Exchange). (reply ≡ refusal_line OutOfMemory) ⊎ ListsAll l reply) (sym answered.behind) (all_told drives name before script sound of_table run answered.here calm one starts_so at its.0 its.1 asks reply told)

@@ -1,5 +1,5 @@
 -- A read of blocks of which a volume keeps its copies is told, with a value of each, or refused for want of memory.
-use Rattle.std.proofs.Common.{◌≡◌, ◌+◌, List, Contains, sym, ◌∙◌, subst}
+use Rattle.std.proofs.Common.{◌≡◌, ◌+◌, List, sym, subst}
 use Rattle.mdv_engine_law.specs.Replies.{text_of}
 use Rattle.mdv_engine_law.proofs.Volumes.{find_is}
 use Rattle.mdv_name.specs.declared.geometry.Geometry.{Geometry}
@@ -9,15 +9,14 @@ use Rattle.mdv_volumes.specs.Tables.{IsMapOf}
 use Rattle.mdv_volumes.proofs.Tables.{tables_lie}
 use Rattle.mdv_theorem.specs.Exchanges.{Exchange}
 use Rattle.mdv_theorem.specs.Observed.{HaveAnswered, ReadsAreTold}
-use Rattle.mdv_theorem.specs.Words.{MayLie}
+use Rattle.mdv_theorem.specs.Words.{IsThere, MayLie}
 use Rattle.mdv_theorem.proofs.Agreeing.{own_sound}
 use Rattle.mdv_theorem.proofs.Aside.{commanded}
 use Rattle.mdv_theorem.proofs.Lying.{lies_made}
-use Rattle.mdv_theorem.proofs.Parting.{cut_has}
 use Rattle.mdv_theorem.proofs.Readable.{given, kind_size, read_free, slice_readable}
 use Rattle.mdv_theorem.proofs.Enduring.{it_stays}
-use Rattle.mdv_theorem.proofs.Staying.{line_sure}
-use Rattle.mdv_theorem.proofs.Steps.{Failed, reached, told_once}
+use Rattle.mdv_theorem.proofs.Starting.{starts, starts_early}
+use Rattle.mdv_theorem.proofs.Steps.{Failed, reached_from, told_once}
 use Rattle.mdv_theorem.proofs.Sure.{sure_plan}
 
 -- a volume of a table lies in one place
@@ -27,13 +26,13 @@ one_map g table sound plan volume v w one other = (tables_lie.laid g table sound
 pub reads_are_told : ReadsAreTold
 reads_are_told drives name before script of_table run one earlier volume at count answered calm begun asks few copies reply told =
     let sound = run.life.fair in
-    let to = reached run of_table answered.here answered.later one reply answered.is told in
+    let starts_so = starts drives name before script of_table run in
+    let to = reached_from run starts_so.of answered.here answered.later one reply answered.is told in
     let its_host = host_of drives name run.fresh in
-    let among = subst (λ (l : List Exchange). Contains l begun.shown) (sym begun.parts ∙ answered.behind) (cut_has begun.before begun.behind begun.shown) in
-    let there = it_stays drives name before script sound of_table run answered.here one to (subst (HaveAnswered run) answered.behind calm) begun.shown volume among begun.shows in
-    let plan = sure_plan its_host to.kept there.o (line_sure drives name before script sound of_table run answered.here one to) there.opened in
+    let there = it_stays drives name before script sound of_table run starts_so answered.here one to (subst (HaveAnswered run) answered.behind calm) volume (subst (IsThere volume) answered.behind begun) in
+    let plan = sure_plan its_host to.kept there.o to.sure there.opened in
     let of = there.so.1.of in
-    let lies = lies_made drives name before script sound of_table run volume answered.here one to there.o there.opened plan there.so.0 there.so.1 in
+    let lies = lies_made drives name before script sound of_table run volume starts_so.of (starts_early starts_so volume) answered.here one to there.o there.opened plan there.so.0 there.so.1 in
     let may = subst (λ (l : List Exchange). MayLie volume lies.slice l) (sym answered.behind) lies.may in
     let good = slice_readable (Failed run) (at + count) lies.at there.so.0 lies.is (copies.within lies.slice lies.at may lies.has lies.plain) (copies.answered lies.slice lies.at may lies.has lies.plain) in
     let found = find_is there.o.table.plan.volumes volume of plan.numbers.ascending there.so.1.has in

@@ -6,7 +6,7 @@ use Rattle.mdv_engine_law.specs.declared.host.Host.{Host}
 use Rattle.mdv_engine_law.proofs.Plain.{nothing_answers}
 use Rattle.mdv_name.specs.declared.geometry.Geometry.{Geometry}
 use Rattle.mdv_port.specs.Script.{Script}
-use Rattle.mdv_run_law.specs.Lives.{Ran, host_of}
+use Rattle.mdv_run_law.specs.Lives.{HasMetNone, Ran, host_of}
 use Rattle.mdv_run_law.specs.Run.{At, behind_boot, drive_failures}
 use Rattle.mdv_run_law.specs.Told.{IsToldBy, RunToldBy}
 use Rattle.mdv_shelf.specs.Calls.{OnDrive}
@@ -20,11 +20,12 @@ use Rattle.mdv_theorem.proofs.Begun.{boot_shown}
 use Rattle.mdv_theorem.proofs.Placed.{Place, lines_place, told_before}
 use Rattle.mdv_theorem.proofs.Settled.{IsSettledAt}
 use Rattle.mdv_theorem.proofs.Staying.{its_sound}
-use Rattle.mdv_theorem.proofs.Steps.{unreplied}
+use Rattle.mdv_theorem.proofs.Steps.{Between, known_at, unreplied}
 use Rattle.mdv_theorem.proofs.Synced.{IsThere, lines_read, lines_rise, lines_settled, lines_shown, lines_story}
 use Rattle.mdv_shown.specs.Site.{site_area}
-use Rattle.mdv_theorem.proofs.Owned.{run_start}
-use Rattle.mdv_theorem.proofs.Sure.{IsSureAt, sure_boot}
+use Rattle.mdv_theorem.proofs.Come.{HasMetNothing}
+use Rattle.mdv_theorem.proofs.Clean.{none_met, start, start_own, start_stands}
+use Rattle.mdv_theorem.proofs.Sure.{IsSureAt, since_last, sure_boot}
 
 module _ (drives : Geometry) (name : List ℕ) (before : List Ran) (script : Script) (sound : IsSound drives) (of_table : Contains drives.hosts name) (run : Running drives name before script) where
   abbrev host : Host
@@ -33,24 +34,41 @@ module _ (drives : Geometry) (name : List ℕ) (before : List Ran) (script : Scr
   abbrev own : IsSound host.drives
   own = its_sound drives name before script sound of_table run
 
+  -- no boot of it met a stale vote by that moment
+  abbrev IsClean : Moment → Type 0
+  IsClean m = HasMetNone drives name before run.fresh script run.t.tale m.tale
+
+  abbrev none_by : (m : Moment) → IsClean m → HasMetNothing host script (start run of_table) run.t.tale m.tale
+  none_by m clean = none_met run of_table m.tale clean
+
+  -- what is known at a place of it
+  abbrev IsSureHere : At → Type 0
+  IsSureHere at = IsSureAt host script (start run of_table) run.t.tale at
+
+  abbrev between : (at : At) → IsSureHere at → Between host
+  between at sure = record { kept = at.kept; sure = known_at host script (start run of_table) run.t.tale at sure }
+
   module _ (here behind : List Exchange) (read : Exchange) (reply : List ℕ) (told_it : IsTold read reply) where
     -- the run was told of by a moment, and was before the line
     pub record Came (m : Moment) (bytes : List ℕ) : Type 1 where
+      pub clean : HasMetNone drives name before run.fresh script run.t.tale m.tale
       pub by : RunToldBy host run.stretch run.start run.t.tale script bytes m
-      pub place : Place host run.start m run.stretch 0 (behind_boot by.booted by.by by.kept script) by.lines.at by.lines.so_far by.lines.rest here read behind
+      pub first_sure : IsSureHere (behind_boot by.booted by.by by.kept script)
+      pub place : Place host run.start m run.stretch 0 (behind_boot by.booted by.by by.kept script) by.lines.at (between (behind_boot by.booted by.by by.kept script) first_sure) by.lines.so_far by.lines.rest here read behind
 
     -- behind its boot
-    booted_sure : (m : Moment) (bytes : List ℕ) (by : RunToldBy host run.stretch run.start run.t.tale script bytes m) → IsSureAt host (behind_boot by.booted by.by by.kept script)
-    booted_sure m bytes by =
-        let begun = run_start run of_table in
-        sure_boot host run.stretch run.start run.t.tale script bytes m by run.moment.begins.0 run.moment.begins.1 begun.0 begun.1 begun.2
+    booted_sure : (m : Moment) (bytes : List ℕ) (by : RunToldBy host run.stretch run.start run.t.tale script bytes m) → IsClean m → IsSureHere (behind_boot by.booted by.by by.kept script)
+    booted_sure m bytes by clean =
+        (sure_boot host run.stretch run.start run.t.tale script bytes m by run.moment.begins.0 run.moment.begins.1 (start run of_table) (start_stands run of_table) (start_own run of_table) (none_by m clean)).0
 
-    pub came : (m : Moment) (tells : IsToldBy host run.stretch run.start script run.t m) → exchanges_of script tells.bytes ≡ here ++ read ∷ behind → Came m tells.bytes
-    came m tells parts = elim tells.tells [
+    pub came : (m : Moment) (tells : IsToldBy host run.stretch run.start script run.t m) → IsClean m → exchanges_of script tells.bytes ≡ here ++ read ∷ behind → Came m tells.bytes
+    came m tells clean parts = elim tells.tells [
       | inl none ↦ absurd (unreplied script here behind read reply (subst (λ (l : List (List ℕ)). exchanges script l ≡ here ++ read ∷ behind) (ap replies_in none.0 ∙ nothing_answers) parts) told_it)
       | inr by ↦ record {
+        clean = clean;
         by = by;
-        place = lines_place host run.start m run.stretch 0 (behind_boot by.booted by.by by.kept script) by.lines.at by.lines.so_far by.lines.rest (booted_sure m tells.bytes by) by.lines.lines by.lines.front here behind read reply (subst (λ (l : List ℕ). exchanges_of script l ≡ here ++ read ∷ behind) by.lines.parts parts) told_it;
+        first_sure = booted_sure m tells.bytes by clean;
+        place = lines_place host run.start m run.stretch script (start run of_table) run.t.tale (none_by m clean) 0 (behind_boot by.booted by.by by.kept script) by.lines.at by.lines.so_far by.lines.rest (booted_sure m tells.bytes by clean) (λ u is. (by.lines.work u is).moment.since) by.lines.lines by.lines.front here behind read reply (subst (λ (l : List ℕ). exchanges_of script l ≡ here ++ read ∷ behind) by.lines.parts parts) told_it;
       }
     ]
 
@@ -71,7 +89,7 @@ module _ (drives : Geometry) (name : List ℕ) (before : List Ran) (script : Scr
 
     upto : (drive : ℕ) → at.place.at.counts.drives drive ≤ run.m.faults (OnDrive drive)
     upto drive =
-        let less = came_told here rest read reply told_it run.m run.tells.bytes (came here rest read reply told_it run.m run.tells now) in
+        let less = came_told here rest read reply told_it run.m run.tells.bytes (came here rest read reply told_it run.m run.tells run.clean now) in
         let size = at.place.size in
         let shown = lines_shown host run.stretch 0 first at.place.at at.place.front at.place.lines (0, 0, boot_shown run.stretch run.start.source at.by.booted at.by.by at.by.kept script at.by.point, omega arith) in
         let within = shown.3 in
@@ -95,9 +113,11 @@ module _ (drives : Geometry) (name : List ℕ) (before : List Ran) (script : Scr
           let low = at.by.rose.drives drive.0 in
           let calm : (drive_failures run.start at.by.booted drive.0).some → ⊥ = λ once.
           answered (rose_within (run.start.drives drive.0) (run.start.drives drive.0) (at.by.booted.drives drive.0) (run.m.faults (OnDrive drive.0)) (omega arith) (omega (arith, rise, high)) (rose_of_once (run.start.drives drive.0) (at.by.booted.drives drive.0) once)) in
-          let sure = booted_sure here behind read reply told_it m bytes at.by in
-          let begun : IsThere host run.start m run.stretch own refl drive.0 b out first = record { sure = sure; settled = (at.by.leads sure.story sure.is).synced drive its calm b } in
-          let is = lines_settled host run.start m run.stretch own refl drive.0 b out 0 first at.place.at at.place.front at.place.lines low
+          let sure = booted_sure here behind read reply told_it m bytes at.by at.clean in
+          let none = none_by m at.clean in
+          let since = since_last host run.stretch (0 + length at.place.front) at.place.at at.by.lines.at at.place.left m.tale at.place.more (λ u is. (at.by.lines.work u is).moment.since) in
+          let begun : IsThere host run.start m run.stretch own refl drive.0 b out script (start run of_table) run.t.tale none first = record { sure = sure; settled = (at.by.leads sure.story sure.is).synced drive its calm b } in
+          let is = lines_settled host run.start m run.stretch own refl drive.0 b out script (start run of_table) run.t.tale none 0 first at.place.at at.place.front at.place.lines since low
           (λ rose. answered (rose_within (run.start.drives drive.0) (run.start.drives drive.0) (at.place.at.counts.drives drive.0) (run.m.faults (OnDrive drive.0)) (omega arith) high rose)) begun in
           let same : is.sure.story ≡ there.0 = (let both : Some is.sure.story ≡ Some there.0 = sym is.sure.is ∙ there.1 in cc (both)) in
           subst (λ (u : Story). IsSettledAt host own refl drive.0 b out (tale_of u)) same is.settled

@@ -68,7 +68,7 @@ module _ (host : Host) (sound : IsSound host.drives) (sees : SeesOwn host) (driv
 
   -- one line, by whose calls none failed on the drive
   module _ (calls : Outcomes) (calm : (calls drive).some → ⊥) (text : List ℕ) (answer : Answer) (kept next : Kept) (sure : IsSure host kept) (comes : IsAnswered calls host kept text answer next) (said : IsSaid answer) (t u : Tale)
-      (unwritten : IsMereRefusal answer → KeptOutside nowhere t u) (leaves : answer ≡ accepted → (command : Command) → IsLine text (words.Exec command) → LeavesDone host kept.memory (meant kept.memory.entries command) u) (settled : IsSettledAt t) where
+      (unwritten : IsMereRefusal answer → KeptOutside nowhere t u) (leaves : answer ≡ accepted → (command : Command) → IsLine text (words.Exec command) → LeavesDone calls host kept.memory (meant kept.memory.entries command) u) (settled : IsSettledAt t) where
     quiet : IsMereRefusal answer → IsSettledAt u
     quiet is = still_settled t u (unwritten is drive b refl) settled
 
@@ -101,7 +101,7 @@ module _ (host : Host) (sound : IsSound host.drives) (sees : SeesOwn host) (driv
     command_settled : (command : Command) → IsLine text (words.Exec command) → WritesOnly host (asked_by host command) kept.memory t u → IsSettledAt u
     command_settled (AddPlaces slices force count blocks) spelled writes = still_settled t u (writes.0 drive b out) settled
     command_settled (AddListed number force) spelled writes = still_settled t u (writes.0 drive b out) settled
-    command_settled (DropPlaces slices force) spelled writes = still_settled t u (writes drive b refl) settled
+    command_settled (DropPlaces slices force) spelled writes = still_settled t u (writes.0 drive b out) settled
     command_settled (MakeStripe volume slice) spelled writes = still_settled t u (writes drive b (opened_outside host sees kept.memory sure.history sure.tale sure.known drive b out)) settled
     command_settled (Read volume at count) spelled writes = still_settled t u (writes drive b refl) settled
     command_settled (Print names) spelled writes = still_settled t u (writes drive b refl) settled

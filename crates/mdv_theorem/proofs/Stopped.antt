@@ -1,29 +1,24 @@
 -- A run of a life, as it is stopped at a point of its story: one more run of the life.
 use Rattle.std.proofs.Common.{◌≡◌, ℕ, List, [], ◌∷◌, ◌++◌, Some, if◌then◌else◌, Contains, refl, sym, ◌∙◌, ap, subst}
 use Rattle.std.proofs.lemmas.Slice.Eq.{bytes_eq-Decides}
-use Rattle.mdv_base.specs.declared.drive.SliceName.{SliceName}
-use Rattle.mdv_engine_law.specs.Standing.{StandsAt}
 use Rattle.mdv_name.specs.declared.geometry.Geometry.{Geometry}
 use Rattle.mdv_port.specs.Script.{Script}
-use Rattle.mdv_run_law.proofs.Owning.{IsOfRuns}
-use Rattle.mdv_run_law.specs.Lives.{Ran, as_it_was, host_of}
+use Rattle.mdv_run_law.proofs.Living.{lives_stand}
+use Rattle.mdv_run_law.specs.Lives.{IsHistoryOf, Ran, as_it_was, host_of}
 use Rattle.mdv_run_law.specs.Run.{Counts, Stretch}
 use Rattle.mdv_shelf.proofs.Stories.{marked_more, same_marks}
 use Rattle.mdv_shelf.specs.Everywhere.{Image}
 use Rattle.mdv_shelf.specs.Story.{AtEach, AtMarks, Mark, Moment, Story, Tally, marked, moment_at, tale_of}
 use Rattle.mdv_shelf.specs.Tale.{Tale, told}
 use Rattle.mdv_table.specs.Slices.{IsSound}
-use Rattle.mdv_volumes.proofs.Owners.{AreEach}
-use Rattle.mdv_volumes.specs.History.{History}
 use Rattle.mdv_theorem.specs.Exchanges.{Exchange, exchanges_by, exchanges_of}
 use Rattle.mdv_theorem.specs.Running.{Lived, LivesOn, ran_now}
-use Rattle.mdv_theorem.specs.Words.{IsMadeOn}
+use Rattle.mdv_theorem.specs.Words.{IsMadeOn, spread}
 use Rattle.mdv_theorem.proofs.Agreeing.{own_sound}
 use Rattle.mdv_theorem.proofs.Booted.{at_prefix}
-use Rattle.mdv_theorem.proofs.Founded.{WasMade, made_before}
-use Rattle.mdv_theorem.proofs.Given.{given}
+use Rattle.mdv_theorem.proofs.Founded.{made_behind}
+use Rattle.mdv_theorem.proofs.Lain.{LieBehind}
 use Rattle.mdv_theorem.proofs.Living.{lived_life}
-use Rattle.mdv_theorem.proofs.Owned.{life_start}
 
 -- The marks of a point are the first ones of a story that goes on from there.
 pub same_front : (stretch : Stretch) (s u : Story) (marks back front : List Mark) → stretch.new ≡ Some u → u ≡ marked s marks → stretch.new ≡ Some (marked (marked s front) back) → marks ≡ back ++ front
@@ -37,7 +32,7 @@ pub record IsStopped (drives : Geometry) (name : List ℕ) (made : Image) (befor
   pub ran : List Ran
   pub lived : Lived drives made ran front
   pub sound : IsSound (host_of drives name fresh).drives
-  pub begun : (h : History) × StandsAt (host_of drives name 0) h front × AreEach (IsOfRuns name ran) h.databases
+  pub history : IsHistoryOf drives name made ran front
   pub bytes : List ℕ
   pub is_told : told front ≡ told start ++ bytes
   pub lines : exchanges_by name ran ≡ exchanges_by name before ++ exchanges_of script bytes
@@ -49,7 +44,7 @@ module _ (drives : Geometry) (name : List ℕ) (made : Image) (before : List Ran
     ran = ran;
     lived = lived;
     sound = own_sound drives name fresh lived.fair;
-    begun = life_start drives name made ran (tale_of (marked s front)) of_table (lived_life drives made ran (tale_of (marked s front)) lived);
+    history = lives_stand drives name made ran (tale_of (marked s front)) of_table (lived_life drives made ran (tale_of (marked s front)) lived);
     bytes = lives.1.run.tells.bytes;
     is_told = sym (ap (λ (m : Moment). told m.tale) lives.1.now) ∙ lives.1.run.tells.is_told ∙ ap (λ (m : Moment). told m.tale ++ lives.1.run.tells.bytes) lives.1.started;
     lines = ap (λ (same : _). exchanges_by name before ++ (if same then exchanges_of script lives.1.run.tells.bytes else [])) ((bytes_eq-Decides name name).1 refl);
@@ -70,8 +65,7 @@ module _ (drives : Geometry) (name : List ℕ) (made : Image) (before : List Ran
       lived : Lived drives made ran (tale_of (marked s front))
       lived = lives.1.lived (tale_of (marked s front)) as_it_was
 
-  -- where a line of the earlier runs, or one that it answered, made the database on these slices, it was made on them
-  pub made_there : (start front : Tale) (is : IsStopped drives name made before fresh script start front) (slices : List SliceName) (lines : List Exchange) (is_made : IsMadeOn slices lines)
-      → Contains (exchanges_by name is.ran) is_made.made → WasMade drives name is.ran slices front
-  made_there start front is slices lines is_made has =
-      made_before given drives name is.lived.fair of_table made is_made.made slices is_made.force is_made.count is_made.blocks is_made.asks is_made.told is.ran front is.lived has
+  -- where such lines made the database, the lists that a boot may find lie on slices that they may have come to since
+  pub lie_there : (start front : Tale) (is : IsStopped drives name made before fresh script start front) (lines : List Exchange) (is_made : IsMadeOn lines) → exchanges_by name is.ran ≡ lines
+      → LieBehind drives name of_table made (spread is_made.count is_made.slices) is_made.behind is.ran front
+  lie_there start front is lines is_made same = made_behind drives name of_table made is.ran front is.lived lines is_made same

@@ -15,7 +15,11 @@ use Rattle.mdv_theorem.proofs.Settled.{IsSettledAt, still_settled, text_settled}
 use Rattle.mdv_theorem.proofs.Steps.{next_rises}
 use Rattle.mdv_run_law.proofs.Extents.{SeesOwn}
 use Rattle.mdv_shown.specs.Site.{site_area}
-use Rattle.mdv_theorem.proofs.Sure.{IsSure, IsSureAt, sure_of, sure_on}
+use Rattle.mdv_theorem.proofs.Sure.{IsSure, IsSureAt, since_last, sure_of, sure_on}
+use Rattle.mdv_theorem.proofs.Come.{HasMetNothing}
+use Rattle.mdv_shelf.specs.Moments.{IsSince}
+use Rattle.mdv_shelf.specs.Tale.{Tale}
+use Rattle.mdv_volumes.specs.History.{History}
 
 -- the drives' blocks read there as they are kept
 abbrev pub IsRead : At → Type 0
@@ -47,10 +51,10 @@ module _ (host : Host) (start : Counts) (m : Moment) (stretch : Stretch) (drive 
       let more = lines_rise (bytes + length piece) mid at left lines in
       omega (arith, first, more)
 
-module _ (host : Host) (start : Counts) (m : Moment) (stretch : Stretch) (sound : IsSound host.drives) (sees : SeesOwn host) (drive b : ℕ) (out : site_area host.site drive b ≡ false) where
+module _ (host : Host) (start : Counts) (m : Moment) (stretch : Stretch) (sound : IsSound host.drives) (sees : SeesOwn host) (drive b : ℕ) (out : site_area host.site drive b ≡ false) (script : Script) (h : History) (t : Tale) (none : HasMetNothing host script h t m.tale) where
   -- the story has come there, and a crash would leave in the block what a read gives
   pub record IsThere (at : At) : Type 0 where
-    pub sure : IsSureAt host at
+    pub sure : IsSureAt host script h t at
     pub settled : IsSettledAt host sound sees drive b out (tale_of sure.story)
 
   next_settled : (now mid : At) (answer : Answer) (script more : Script) → NextLine host now.counts now.kept script answer mid.counts mid.kept more → IsSaid answer → ((drive_failures now.counts mid.counts drive).some → ⊥) → IsSure host now.kept
@@ -63,15 +67,15 @@ module _ (host : Host) (start : Counts) (m : Moment) (stretch : Stretch) (sound 
       text_settled host sound sees drive b out (drive_failures now.counts mid.counts) calm text answer now.kept mid.kept sure comes.2 said (tale_of s) (tale_of u) (λ quiet. unwritten quiet s u old new) (λ ok. (leaves ok s u old new).done) settled (writes s u old new)
 
   -- lines by which no call failed on its drive
-  pub lines_settled : (bytes : ℕ) (now at : At) (front : List ℕ) → LinesTold host stretch bytes now front at → start.drives drive ≤ now.counts.drives drive → (Rose (start.drives drive) (at.counts.drives drive) → ⊥) → IsThere now → IsThere at
-  lines_settled bytes now at front (no_line n same) low calm there = there
-  lines_settled bytes now at front (one_more n same mid end piece left some told shown lines) low calm there =
+  pub lines_settled : (bytes : ℕ) (now at : At) (front : List ℕ) → LinesTold host stretch bytes now front at → ((u : Story) → at.story ≡ Some u → IsSince (tale_of u) m.tale) → start.drives drive ≤ now.counts.drives drive → (Rose (start.drives drive) (at.counts.drives drive) → ⊥) → IsThere now → IsThere at
+  lines_settled bytes now at front (no_line n same) since low calm there = there
+  lines_settled bytes now at front (one_more n same mid end piece left some told shown lines) since low calm there =
       let rises = line_rises host start m stretch drive now mid piece told in
       let on = lines_rise host start m stretch drive (bytes + length piece) mid at left lines in
-      let behind = sure_on host now mid piece told there.sure in
+      let behind = (sure_on host script h t m.tale none now mid piece told there.sure (λ v is. since_last host stretch (bytes + length piece) mid at left m.tale lines since v is)).next in
       let unfailed : (drive_failures now.counts mid.counts drive).some → ⊥ = λ once. calm (rose_within (start.drives drive) (now.counts.drives drive) (mid.counts.drives drive) (at.counts.drives drive) low on (rose_of_once (now.counts.drives drive) (mid.counts.drives drive) once)) in
-      let settled = next_settled now mid told.answer now.script mid.script told.comes told.said unfailed (sure_of host now there.sure) there.sure.story behind.story there.sure.is behind.is told.writes (λ quiet. told.unwritten (inl quiet)) told.leaves there.settled in
-      lines_settled (bytes + length piece) mid at left lines (omega (arith, low, rises)) calm (record { sure = behind; settled = settled })
+      let settled = next_settled now mid told.answer now.script mid.script told.comes told.said unfailed (sure_of host script h t now there.sure) there.sure.story behind.story there.sure.is behind.is told.writes (λ quiet. told.unwritten (inl quiet)) told.leaves there.settled in
+      lines_settled (bytes + length piece) mid at left lines since (omega (arith, low, rises)) calm (record { sure = behind; settled = settled })
 
 -- the story goes on over lines
 pub lines_story : (host : Host) (stretch : Stretch) (bytes : ℕ) (now at : At) (front : List ℕ) → LinesTold host stretch bytes now front at → (s : Story) → now.story ≡ Some s → (u : Story) × (at.story ≡ Some u)

@@ -17,4 +17,5 @@ lives_begin drives made told sound zeros = record {
   told = told;
   new = λ name has key line k first head found. no_master _ first (zeros line.at.drive.0 (line.at.start + 16)) found.located.spelled;
   runs = no_run;
+  clean = tt;
 }

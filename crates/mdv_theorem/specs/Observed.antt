@@ -8,8 +8,9 @@ use Rattle.mdv_base.specs.declared.name.Key.TheVariants.{Local}
 use Rattle.mdv_base.specs.declared.name.Named.TheVariants as named
 use Rattle.mdv_base.specs.declared.name.VolId.{VolId}
 use Rattle.mdv_base.specs.declared.refusal.Refusal.{Refusal}
-use Rattle.mdv_base.specs.declared.refusal.Refusal.TheVariants.{NoDatabase, NoSuchVolume, OutOfMemory}
-use Rattle.mdv_engine_law.specs.Replies.{IsRefusal, ok_line, refusal_line}
+use Rattle.mdv_base.specs.declared.refusal.Refusal.TheVariants.{NeedForce, NoDatabase, NoSuchVolume, OutOfMemory, WrongState}
+use Rattle.mdv_base.specs.declared.state_word.StateWord.{StateWord}
+use Rattle.mdv_engine_law.specs.Replies.{IsRefusal, refusal_line}
 use Rattle.mdv_engine_law.specs.declared.host.Host.{Host}
 use Rattle.mdv_home.specs.View.{own_view}
 use Rattle.mdv_name.specs.SliceIndex.{HasSlice}
@@ -17,7 +18,7 @@ use Rattle.mdv_name.specs.declared.geometry.Geometry.{Geometry}
 use Rattle.mdv_name.specs.declared.slice_lines.SliceAt.{SliceAt}
 use Rattle.mdv_name.specs.declared.slice_lines.SliceLine.{SliceLine}
 use Rattle.mdv_port.specs.Script.{Script}
-use Rattle.mdv_run_law.specs.Lives.{IsNewWord, Ran, host_of}
+use Rattle.mdv_run_law.specs.Lives.{HasMetNone, IsNewWord, Ran, host_of}
 use Rattle.mdv_run_law.specs.Run.{Counts, IsOfTable, IsWholeRun, Stretch, replies_failed, site_failed, source_failed}
 use Rattle.mdv_run_law.specs.declared.status.RunStatus.{RunStatus}
 use Rattle.mdv_run_law.specs.declared.status.RunStatus.TheVariants.{Done, NoMemory, NoQuorum, NumbersSpent, Panic, ReadFault, ScriptTooLong, SomeRefused, TwoDatabases, Usage, WriteFault}
@@ -31,8 +32,8 @@ use Rattle.mdv_status.specs.Values.{printed_reply, values_reply}
 use Rattle.mdv_words.specs.declared.command.Command.{Command}
 use Rattle.mdv_words.specs.declared.command.Command.TheVariants.{Print, Read}
 use Rattle.mdv_theorem.specs.Exchanges.{Asks, Exchange, IsAbout, IsAcknowledged, IsTold, TellsBlock, exchanges_by, exchanges_of}
-use Rattle.mdv_theorem.specs.Running.{AllAnswered, HasAnswered, Lived, LivesOn, Running, Runs, WentOn, exchanges_now, ran_on}
-use Rattle.mdv_theorem.specs.Words.{HasBegun, HasDatabase, HeldAtFirst, IsMadeOn, IsOrWasWritten, IsThere, Listed, MakesDatabase, MayLie, listed_line}
+use Rattle.mdv_theorem.specs.Running.{AllAnswered, HasAnswered, HaveMetNone, Lived, LivesOn, Running, Runs, WentOn, exchanges_now, ran_on}
+use Rattle.mdv_theorem.specs.Words.{HasBegun, HasDatabase, HeldAtFirst, IsMadeOn, IsOrWasWritten, IsThere, KeepsDatabase, Listed, MakesDatabase, MayLie, MayLieOn, listed_line}
 
 -- How a run may end whose script could be read and whose replies could be told: with NoQuorum where fewer places were readable than are needed; with Panic only where fewer than half are active and a
 -- call failed on a drive on which replicas may lie.
@@ -54,12 +55,14 @@ RunsEnd =
     (host : Host) (stretch : Stretch) (start end : Counts) (t : Tale) (tale : Option Tale) (script : Script) (status : RunStatus) → IsOfTable host → IsWholeRun host stretch start end t script tale status
     → (source_failed start end → ⊥) → (replies_failed start end → ⊥) → MayEnd (site_failed host start end) status
 
--- No run that begins on what earlier ones led to ends because two databases are there, if at each of its moments what its contract says of the drives holds (`stands`).
+-- No run that begins on what earlier ones led to ends because two databases are there, where no line of them or of its own may have taken the database away, and if at each of its moments what its contract says of the drives holds (`stands`).
 abbrev pub RunsFindOne : Type 0
 RunsFindOne =
     (drives : Geometry) (name : List ℕ) (made : Image) (before : List Ran) (fresh : ℕ) (script : Script) (stretch : Stretch) (start end : Counts) (s : Story) → Contains drives.hosts name → IsNewWord name fresh before
     → stretch.old ≡ Some s → Lived drives made before (tale_of s) → AtEach (OfTales (RunMoment (host_of drives name fresh) script)) stretch.old stretch.before stretch.new stretch.after
-    → (tale : Option Tale) (status : RunStatus) → IsWholeRun (host_of drives name fresh) stretch start end (tale_of s) script tale status → (a b : Identity) → status ≡ TwoDatabases a b → ⊥
+    → AtEach (OfTales (HasMetNone drives name before fresh script)) stretch.old stretch.before stretch.new stretch.after
+    → (tale : Option Tale) (status : RunStatus) → (whole : IsWholeRun (host_of drives name fresh) stretch start end (tale_of s) script tale status) → KeepsDatabase (exchanges_by name before ++ exchanges_of script whole.more)
+    → (a b : Identity) → status ≡ TwoDatabases a b → ⊥
 
 -- more than half of these slices lie on such drives
 pub record MostLieOn (drives : Geometry) (name : List ℕ) (Is : DriveNo → Type 0) (slices : List SliceName) : Type 0 where
@@ -71,15 +74,15 @@ pub record MostLieOn (drives : Geometry) (name : List ℕ) (Is : DriveNo → Typ
 abbrev pub IsCalmOn : Counts → Counts → DriveNo → Type 0
 IsCalmOn start end drive = Rose (start.drives drive.0) (end.drives drive.0) → ⊥
 
--- A run that is one of a life at each of its moments ends because too few places are readable only where a call failed on a drive on which replicas may lie; and where lines of it, or of earlier runs,
--- made the database on some slices, not where no call failed on the drives of more than half of these.
+-- A run that is one of a life at each of its moments ends because too few places are readable only where a call failed on a drive on which replicas may lie, if no line of it, or of earlier runs, may have taken the database away;
+-- and where such lines made the database, not where no call failed on the drives of more than half of the slices on which its replicas may lie by them, whichever these are.
 abbrev pub RunsFindEnough : Type 0
 RunsFindEnough =
     (drives : Geometry) (name : List ℕ) (made : Image) (before : List Ran) (fresh : ℕ) (script : Script) (stretch : Stretch) (start end : Counts) (s : Story) → Contains drives.hosts name → stretch.old ≡ Some s
     → AtEach (LivesOn drives name made before fresh script stretch start) stretch.old stretch.before stretch.new stretch.after
     → (tale : Option Tale) (status : RunStatus) → (whole : IsWholeRun (host_of drives name fresh) stretch start end (tale_of s) script tale status) → (readable needed : ℕ) → status ≡ NoQuorum readable needed
-    → site_failed (host_of drives name fresh) start end
-    × ((slices : List SliceName) → IsMadeOn slices (exchanges_by name before ++ exchanges_of script whole.more) → MostLieOn drives name (IsCalmOn start end) slices → ⊥)
+    → (KeepsDatabase (exchanges_by name before ++ exchanges_of script whole.more) → site_failed (host_of drives name fresh) start end)
+    × ((made : IsMadeOn (exchanges_by name before ++ exchanges_of script whole.more)) → ((slices : List SliceName) → MayLieOn drives name made slices → MostLieOn drives name (IsCalmOn start end) slices) → ⊥)
 
 -- half of these slices, or more, lie on such drives
 pub record HalfLieOn (drives : Geometry) (name : List ℕ) (Is : DriveNo → Type 0) (slices : List SliceName) : Type 0 where
@@ -95,13 +98,13 @@ CanAllRise drives name end = (line : SliceLine) → Contains (site_of (own_view 
 abbrev pub EnoughStay : Geometry → List ℕ → Counts → Counts → List SliceName → Type 0
 EnoughStay drives name start end slices = MostLieOn drives name (IsCalmOn start end) slices ⊎ (HalfLieOn drives name (IsCalmOn start end) slices × CanAllRise drives name end)
 
--- Nor does it end because fewer than half of the places are active, where lines of it, or of earlier runs, made the database on some slices, and no call failed on the drives of half of these or more.
+-- Nor does it end because fewer than half of the places are active, where lines of it, or of earlier runs, made the database, and no call failed on the drives of half of the slices or more on which its replicas may lie by them.
 abbrev pub RunsKeepEnough : Type 0
 RunsKeepEnough =
     (drives : Geometry) (name : List ℕ) (made : Image) (before : List Ran) (fresh : ℕ) (script : Script) (stretch : Stretch) (start end : Counts) (s : Story) → Contains drives.hosts name → stretch.old ≡ Some s
     → AtEach (LivesOn drives name made before fresh script stretch start) stretch.old stretch.before stretch.new stretch.after
     → (tale : Option Tale) (status : RunStatus) (whole : IsWholeRun (host_of drives name fresh) stretch start end (tale_of s) script tale status)
-    → (slices : List SliceName) → IsMadeOn slices (exchanges_by name before ++ exchanges_of script whole.more) → EnoughStay drives name start end slices → (active listed : ℕ) → status ≡ Panic active listed → ⊥
+    → (made : IsMadeOn (exchanges_by name before ++ exchanges_of script whole.more)) → ((slices : List SliceName) → MayLieOn drives name made slices → EnoughStay drives name start end slices) → (active listed : ℕ) → status ≡ Panic active listed → ⊥
 
 -- A line of a run under way that was answered, behind other lines of it and those of earlier runs.
 pub record Answered {drives : Geometry} {name : List ℕ} {before : List Ran} {script : Script} (run : Running drives name before script) (one : Exchange) (earlier : List Exchange) : Type 0 where
@@ -121,16 +124,16 @@ RunsAnswer =
 abbrev pub MostAnswered : {drives : Geometry} {name : List ℕ} {before : List Ran} {script : Script} → Running drives name before script → List SliceName → Type 0
 MostAnswered {drives} {name} run slices = MostLieOn drives name (HasAnswered run) slices
 
--- Enough drives answered in the run for the host's database: each on which its replicas may lie; or, where these lines made it, those of more than half of the slices on which they did.
+-- Enough drives answered in the run for the host's database: each on which its replicas may lie; or, where these lines made it, those of more than half of the slices on which they may lie by them, whichever these are.
 abbrev pub HaveAnswered : {drives : Geometry} {name : List ℕ} {before : List Ran} {script : Script} → Running drives name before script → List Exchange → Type 0
-HaveAnswered run lines = AllAnswered run ⊎ ((slices : List SliceName) × IsMadeOn slices lines × MostAnswered run slices)
+HaveAnswered {drives} {name} run lines = AllAnswered run ⊎ ((made : IsMadeOn lines) × ((slices : List SliceName) → MayLieOn drives name made slices → MostAnswered run slices))
 
--- Where lines show that there is a database, none behind them is told that there is none, nor a creation that one was made, as long as enough drives answer for it.
+-- Where lines show that there is a database, none behind them is told that there is none, nor one that adds replicas that it needs force to make one, or that none may be made in such a state, as long as enough drives answer for it.
 abbrev pub DatabasesStay : Type 0
 DatabasesStay =
     (drives : Geometry) (name : List ℕ) (before : List Ran) (script : Script) → Contains drives.hosts name → (run : Running drives name before script)
     → (one : Exchange) (earlier : List Exchange) (command : Command) → Answered run one earlier → HaveAnswered run earlier → HasDatabase earlier → Asks one command
-    → (IsTold one (refusal_line NoDatabase) → ⊥) × (MakesDatabase command → IsTold one ok_line → ⊥)
+    → (IsTold one (refusal_line NoDatabase) → ⊥) × (MakesDatabase command → IsTold one (refusal_line NeedForce) → ⊥) × (MakesDatabase command → (word : StateWord) → IsTold one (refusal_line (WrongState word)) → ⊥)
 
 -- where lines show a volume to be there, none behind them on it, or that prints it alone, is told that it isn't, or that there is no database, as long as enough drives answer for the database
 abbrev pub VolumesStay : Type 0
@@ -221,7 +224,7 @@ BlocksBegin =
 abbrev pub RunsAgree : Type 0
 RunsAgree =
     (drives : Geometry) (name : List ℕ) (before more : List Ran) (script other : Script) (next t : Tale) → Contains drives.hosts name
-    → (run : Running drives name before script) (went : WentOn run next) → Runs drives (ran_on run next went ∷ before) next more t → (later : Running drives name more other) → later.t.tale ≡ t
+    → (run : Running drives name before script) (went : WentOn run next) (runs : Runs drives (ran_on run next went ∷ before) next more t) → HaveMetNone runs → (later : Running drives name more other) → later.t.tale ≡ t
     → (read again : Exchange) (here rest behind first earlier : List Exchange) (volume : VolId) (number : ℕ) (old block : List ℕ)
     → exchanges_now run ≡ here ++ read ∷ rest → exchanges_of script went.stands.bytes ≡ here ++ read ∷ behind → first ≡ exchanges_by name before ++ here → Answered later again earlier
     → Bears run volume earlier (number + 1)

@@ -10,7 +10,7 @@ use Rattle.mdv_standing.specs.Holding.{HasNoReplica}
 use Rattle.mdv_store.specs.Records.{Spells}
 use Rattle.mdv_name.specs.declared.geometry.Geometry.{Geometry}
 use Rattle.mdv_port.specs.Script.{Script}
-use Rattle.mdv_run_law.specs.Lives.{IsNewWord, MayBeFound, Ran, host_of}
+use Rattle.mdv_run_law.specs.Lives.{HasMetNone, IsNewWord, MayBeFound, Ran, host_of}
 use Rattle.mdv_run_law.specs.Run.{AreShown, At, Counts, IsShown, Stretch}
 use Rattle.mdv_run_law.specs.Standing.{RunMoment}
 use Rattle.mdv_run_law.specs.Told.{IsToldBy}
@@ -35,13 +35,19 @@ pub data Runs (drives : Geometry) (first : List Ran) (from : Tale) : List Ran �
       → (stands : RunMoment (host_of drives name fresh) script t.tale m.tale) → IsToldBy (host_of drives name fresh) stretch start script t m → IsMomentOf stretch t m → MayBeFound m.tale next
       → Runs drives first from (record { host = name; fresh = fresh; script = script; bytes = stands.bytes } ∷ ran) next
 
+-- none of their boots met a stale vote
+abbrev pub HaveMetNone : {drives : Geometry} {first : List Ran} {from : Tale} {ran : List Ran} {t : Tale} → Runs drives first from ran t → Type 0
+HaveMetNone no_run = Unit {0}
+HaveMetNone {drives} (run_on ran name fresh stretch start t m next script runs one_of new stands tells moment found) = HaveMetNone runs × HasMetNone drives name ran fresh script t.tale m.tale
+
 -- new drives that hold this, whatever it is, as long as no host finds a replica there; and such runs since
 pub record Lived (drives : Geometry) (made : Image) (ran : List Ran) (t : Tale) : Type 0 where
-  -- the premises that a life has to meet, beside that no run has a word of an earlier one of its host: today that the table of drives is sound
+  -- the premises that a life has to meet, beside that no run has a word of an earlier one of its host: that the table of drives is sound, and that no boot met a stale vote
   pub fair : IsSound drives
   pub told : List ℕ
   pub new : (name : List ℕ) → Contains drives.hosts name → HasNoReplica (Spells (own_view drives name)) (own_view drives name) made
   pub runs : Runs drives [] (restarted made told) ran t
+  pub clean : HaveMetNone runs
 
 -- A run of a host from that start, which these runs led to, up to one of its moments: what was told by then is what the script asks for, and what the run's moments
 -- show holds of it.
@@ -54,6 +60,7 @@ pub record Running (drives : Geometry) (name : List ℕ) (before : List Ran) (sc
   pub m : Moment
   pub life : Lived drives made before t.tale
   pub new_word : IsNewWord name fresh before
+  pub clean : HasMetNone drives name before fresh script t.tale m.tale
   pub tells : IsToldBy (host_of drives name fresh) stretch start script t m
   pub moment : IsMomentOf stretch t m
 
@@ -87,14 +94,15 @@ pub record LivesOn (drives : Geometry) (name : List ℕ) (made : Image) (before 
   pub stands : RunMoment (host_of drives name fresh) script t.tale m.tale
   pub said : stands.bytes ≡ run.tells.bytes
   pub lived : (next : Tale) → MayBeFound m.tale next → Lived drives made (ran_now run ∷ before) next
-  pub adds : (first : List Ran) (from : Tale) → Runs drives first from before t.tale → (next : Tale) → MayBeFound m.tale next → Runs drives first from (ran_now run ∷ before) next
+  pub adds : (first : List Ran) (from : Tale) (runs : Runs drives first from before t.tale) (next : Tale) → MayBeFound m.tale next → (all : Runs drives first from (ran_now run ∷ before) next) × (HaveMetNone runs → HaveMetNone all)
 
--- What the contract of `run` says at each of its moments (its clauses `stands` and `tells`) makes it a run under way there, and one more run of a life wherever it is stopped.
+-- What the contract of `run` says at each of its moments (its clauses `stands` and `tells`) makes it a run under way there, and one more run of a life wherever it is stopped, if no boot of it met a stale vote.
 abbrev pub RunsLiveOn : Type 0
 RunsLiveOn =
     (drives : Geometry) (name : List ℕ) (made : Image) (before : List Ran) (fresh : ℕ) (script : Script) (stretch : Stretch) (start : Counts) → Contains drives.hosts name → IsNewWord name fresh before
     → ((s : Story) → stretch.old ≡ Some s → Lived drives made before (tale_of s))
     → AtEach (OfTales (RunMoment (host_of drives name fresh) script)) stretch.old stretch.before stretch.new stretch.after
+    → AtEach (OfTales (HasMetNone drives name before fresh script)) stretch.old stretch.before stretch.new stretch.after
     → AtEach (IsToldBy (host_of drives name fresh) stretch start script) stretch.old stretch.before stretch.new stretch.after
     → AtEach (LivesOn drives name made before fresh script stretch start) stretch.old stretch.before stretch.new stretch.after
 
@@ -104,6 +112,7 @@ pub record WentOn {drives : Geometry} {name : List ℕ} {before : List Ran} {scr
   pub stands : RunMoment (host_of drives name run.fresh) script run.t.tale m.tale
   pub tells : IsToldBy (host_of drives name run.fresh) run.stretch run.start script run.t m
   pub moment : IsMomentOf run.stretch run.t m
+  pub clean : HasMetNone drives name before run.fresh script run.t.tale m.tale
   pub found : MayBeFound m.tale next
 
 -- as one of the runs of a life

@@ -1,12 +1,14 @@
 -- What lines show of a database and of a volume: that they are there, that the volume's blocks may be read, where it lies, and what its blocks may have. Further commands and kinds of
 -- volumes widen these words.
-use Rattle.std.specs.Prelude.{◌≡◌, ◌⊎◌, ◌+◌, ◌<◌, ℕ, List, [], ◌∷◌, ◌++◌, codes, Contains, false, Bool}
+use Rattle.std.specs.Prelude.{◌≡◌, ◌⊎◌, ◌+◌, ◌<◌, ℕ, List, [], ◌∷◌, ◌++◌, codes, filter, flat_map, is_some, not, replicate, Contains, false, true, Bool}
+use Rattle.std.specs.List.{list_any}
 use Rattle.mdv_base.specs.declared.drive.SliceName.{SliceName}
 use Rattle.mdv_base.specs.declared.name.VolId.{VolId}
-use Rattle.mdv_engine_law.specs.Replies.{ok_line}
+use Rattle.mdv_base.specs.declared.refusal.Refusal.{Refusal}
+use Rattle.mdv_engine_law.specs.Replies.{ok_line, refusal_line}
 use Rattle.mdv_home.specs.View.{own_view}
 use Rattle.mdv_name.specs.Drive.{slice_text}
-use Rattle.mdv_name.specs.SliceIndex.{HasSlice}
+use Rattle.mdv_name.specs.SliceIndex.{HasSlice, same_slice, slice_at}
 use Rattle.mdv_name.specs.Volume.{number_text}
 use Rattle.mdv_name.specs.declared.geometry.Geometry.{Geometry}
 use Rattle.mdv_name.specs.declared.slice_lines.SliceAt.{SliceAt}
@@ -15,11 +17,11 @@ use Rattle.mdv_words.specs.declared.command.Command.{Command}
 use Rattle.mdv_words.specs.declared.command.Command.TheVariants.{AddListed, AddPlaces, DropPlaces, MakeStripe, Print, Read, Write}
 use Rattle.mdv_theorem.specs.Exchanges.{Asks, Exchange, IsGranted, IsSameBlock, IsTold, MayBeMade, MayBeWritten, MayHaveBegun, ShowsThere}
 
--- the command takes the volume away: none does so far
+-- the command may take the volume away, with its database: places are dropped with force
 abbrev pub TakesAway : VolId → Command → Type 0
 TakesAway volume (AddPlaces slices force count blocks) = ⊥
 TakesAway volume (AddListed number force) = ⊥
-TakesAway volume (DropPlaces slices force) = ⊥
+TakesAway volume (DropPlaces slices force) = force ≡ true
 TakesAway volume (MakeStripe other slice) = ⊥
 TakesAway volume (Read other at count) = ⊥
 TakesAway volume (Write other at block) = ⊥
@@ -45,11 +47,11 @@ pub record IsThere (volume : VolId) (lines : List Exchange) : Type 0 where
 abbrev pub HasBegun : VolId → List Exchange → Type 0
 HasBegun volume lines = IsThere volume lines
 
--- the command takes the database away: none does so far
+-- the command may take the database away: places are dropped with force, without which the last ones stay
 abbrev pub TakesDatabase : Command → Type 0
 TakesDatabase (AddPlaces slices force count blocks) = ⊥
 TakesDatabase (AddListed number force) = ⊥
-TakesDatabase (DropPlaces slices force) = ⊥
+TakesDatabase (DropPlaces slices force) = force ≡ true
 TakesDatabase (MakeStripe volume slice) = ⊥
 TakesDatabase (Read volume at count) = ⊥
 TakesDatabase (Write volume at block) = ⊥
@@ -62,17 +64,21 @@ pub record MayTakeDatabase (one : Exchange) : Type 0 where
   pub takes : TakesDatabase command
   pub begun : MayHaveBegun one
 
--- the command is done with a database alone, or makes one: each so far, but that which drops places, of which nothing is said yet
+-- none of these lines may have
+abbrev pub KeepsDatabase : List Exchange → Type 0
+KeepsDatabase lines = (one : Exchange) → Contains lines one → MayTakeDatabase one → ⊥
+
+-- the command is done with a database alone, or makes one, and leaves it there: each, but that which drops places with force
 abbrev pub NeedsDatabase : Command → Type 0
 NeedsDatabase (AddPlaces slices force count blocks) = Unit {0}
 NeedsDatabase (AddListed number force) = Unit {0}
-NeedsDatabase (DropPlaces slices force) = ⊥
+NeedsDatabase (DropPlaces slices force) = force ≡ false
 NeedsDatabase (MakeStripe volume slice) = Unit {0}
 NeedsDatabase (Read volume at count) = Unit {0}
 NeedsDatabase (Write volume at block) = Unit {0}
 NeedsDatabase (Print names) = Unit {0}
 
--- the command makes a database, where it is told `ok`
+-- the command makes a database, or adds replicas to one, where it is told `ok`
 abbrev pub MakesDatabase : Command → Type 0
 MakesDatabase (AddPlaces slices force count blocks) = Unit {0}
 MakesDatabase (AddListed number force) = Unit {0}
@@ -90,18 +96,67 @@ pub record HasDatabase (lines : List Exchange) : Type 0 where
   pub granted : IsGranted shown command
   pub stays : (one : Exchange) → Contains behind one → MayTakeDatabase one → ⊥
 
--- one of these lines was told to have made a database with replicas on these slices, and none behind it may have taken it away
-pub record IsMadeOn (slices : List SliceName) (lines : List Exchange) : Type 0 where
-  pub made : Exchange
+-- so many of each of these slices
+abbrev pub spread : ℕ → List SliceName → List SliceName
+spread count slices = flat_map (λ (slice : SliceName). replicate count slice) slices
+
+-- the line was refused
+abbrev pub IsRefused : Exchange → Type 0
+IsRefused one = (refusal : Refusal) × IsTold one (refusal_line refusal)
+
+-- The line was told to have made a database with so many replicas on each of these slices: those before that ask one were refused.
+pub record IsMadeBy (before : List Exchange) (made : Exchange) (slices : List SliceName) (count : ℕ) : Type 0 where
   pub force : Bool
-  pub count : ℕ
   pub blocks : ℕ
+  pub asks : Asks made (AddPlaces slices force count blocks)
+  pub told : IsTold made ok_line
+  pub first : (one : Exchange) (command : Command) → Contains before one → Asks one command → MakesDatabase command → IsRefused one
+
+-- One of these lines made the database, and none behind it may have taken it away.
+pub record IsMadeOn (lines : List Exchange) : Type 0 where
+  pub slices : List SliceName
+  pub count : ℕ
+  pub made : Exchange
   pub before : List Exchange
   pub behind : List Exchange
   pub parts : lines ≡ before ++ made ∷ behind
-  pub asks : Asks made (AddPlaces slices force count blocks)
-  pub told : IsTold made ok_line
+  pub by : IsMadeBy before made slices count
   pub stays : (one : Exchange) → Contains behind one → MayTakeDatabase one → ⊥
+
+-- those of these slices that the host has
+abbrev pub slices_there : Geometry → List ℕ → List SliceName → List SliceName
+slices_there drives name slices = filter (λ (slice : SliceName). is_some (slice_at (own_view drives name).slices slice)) slices
+
+-- What a command makes of the slices on which replicas lie, each told once for each replica: more behind these, on each that the host has, or none on some; and where it adds as many as an entry says, that isn't told.
+abbrev pub MakesOf : Geometry → List ℕ → Command → List SliceName → List SliceName → Type 0
+MakesOf drives name (AddPlaces slices force count blocks) old next = next ≡ old ++ spread count (slices_there drives name slices)
+MakesOf drives name (AddListed number force) old next = Unit {0}
+MakesOf drives name (DropPlaces slices force) old next = next ≡ filter (λ (slice : SliceName). not (list_any (same_slice slice) slices)) old
+MakesOf drives name other old next = ⊥
+
+-- it moves places
+abbrev pub MovesPlaces : Command → Type 0
+MovesPlaces (AddPlaces slices force count blocks) = Unit {0}
+MovesPlaces (AddListed number force) = Unit {0}
+MovesPlaces (DropPlaces slices force) = Unit {0}
+MovesPlaces other = ⊥
+
+-- the line was told to have moved places
+abbrev pub TellsPlaces : Exchange → Type 0
+TellsPlaces one = (command : Command) × Asks one command × MovesPlaces command × IsTold one ok_line
+
+-- what a line may make of them: nothing, where it wasn't told to have moved places; or what it asks, where it may have begun that
+abbrev pub MayMake : Geometry → List ℕ → Exchange → List SliceName → List SliceName → Type 0
+MayMake drives name one old next = ((next ≡ old) × (TellsPlaces one → ⊥)) ⊎ ((command : Command) × Asks one command × MakesOf drives name command old next × MayHaveBegun one)
+
+-- so may these lines, one behind another
+abbrev pub MayBecome : Geometry → List ℕ → List Exchange → List SliceName → List SliceName → Type 0
+MayBecome drives name [] old last = last ≡ old
+MayBecome drives name (one ∷ behind) old last = (next : List SliceName) × MayMake drives name one old next × MayBecome drives name behind next last
+
+-- the replicas may lie so by these lines
+abbrev pub MayLieOn : Geometry → List ℕ → {lines : List Exchange} → IsMadeOn lines → List SliceName → Type 0
+MayLieOn drives name made slices = MayBecome drives name made.behind (spread made.count made.slices) slices
 
 -- The volume may lie on the slice: one of these lines may have made it there, and those that were told `ok` to making it, behind the last one that may have taken it away, named that slice.
 -- A line in work on another slice is nothing to a volume whose making was told `ok`.

@@ -3,8 +3,8 @@ ghost use Rattle.mdv_theorem.specs.Running.{LivesBegin, RunsGoOn, RunsLiveOn};
 
 /// Whatever ran on the drives before, whatever failed and crashed then: a run whose script can be read and whose replies can be told ends with Panic only where a call failed on a
 /// drive on which its database's replicas may lie; a volume that was made, read or written stays, and a read of it is told as long as it keeps its copies, both as long as enough
-/// drives answer for the database: all on which its replicas may lie, or those of more than half of the slices on which it was made; and what it tells of a block is the last write
-/// that was acknowledged, or one that was issued later, and what an earlier read of the run told, or was written in between.
+/// drives answer for the database: all on which its replicas may lie, or those of more than half of them, wherever lines may have left them since the first one made it by its slices; and what it tells
+/// of a block is the last write that was acknowledged, or one that was issued later, and what an earlier read of the run told, or was written in between.
 pub fn runs_keep_their_word()
     ensures ends { RunsEnd }
     ensures there { VolumesStay }
@@ -20,10 +20,11 @@ pub fn blocks_keep_their_values()
     ensures agree { RunsAgree }
 {}
 
-/// A database that a line was told to have made, or to have been done with, in this run or an earlier one, stays: no line is told that there is none, nor a creation that one was
-/// made, as long as enough drives answer for it. And no run that begins on what earlier ones led to ends because two databases are there; nor because too few places are readable, unless a
-/// call failed on a drive on which replicas may lie, and not even then where none did on the drives of more than half of the slices that a creation named which was told `ok`; nor, where
-/// none did on the drives of half of these slices or more, because fewer than half of the places are active.
+/// A database that a line was told to have made, or to have been done with, in this run or an earlier one, stays, until a line may have taken it away: no line is told that there
+/// is none, nor one that adds replicas that it needs force to make one, or that none may be made so, as long as enough drives answer for it. And no run that begins on what earlier
+/// ones led to ends because two databases are there; nor because too few places are readable, unless a call failed on a drive on which replicas may lie, and not even then where
+/// none did on the drives of more than half of the replicas, wherever lines may have left them since the first one was told to have made the database by its slices; nor, where
+/// none did on the drives of half of them or more, because fewer than half of the places are active.
 pub fn databases_stay()
     ensures stay { DatabasesStay }
     ensures one { RunsFindOne }

@@ -2,7 +2,6 @@
 use Rattle.std.proofs.Common.{◌≡◌, ℕ, true, ◌==◌, List, ◌∷◌, Option, None, Some, refl, sym, ap, subst, arith, eq-eqb}
 use Rattle.std.proofs.lemmas.Bool.{and_from, and_parts}
 use Rattle.std.proofs.lemmas.Bool.Decides.{nat_tests}
-use Rattle.std.proofs.lemmas.List.Elements.{All-nil}
 use Rattle.mdv_store_law.specs.Log.{IsLog}
 use Rattle.mdv_store_law.proofs.Logs.{empty_is_log}
 use Rattle.mdv_databases.proofs.Going.{its_log}

@@ -8,7 +8,8 @@ use Rattle.mdv_store_law.specs.Log as log
 use Rattle.mdv_store_law.specs.Log.{IsAskable, IsLog, IsMade, IsNotOlder, IsRising, Issue, Log, Version, answered, is_firm, log_after}
 use Rattle.mdv_store_law.specs.Machine.{AreAll}
 use Rattle.mdv_store_law.proofs.Families.{contains_behind, contains_cases, contains_first, written_firm}
-use Rattle.mdv_store_law.proofs.Logs.{firm_stays, is_log_after, is_log_after_all}
+use Rattle.mdv_store_law.proofs.Fates.{BeginsNoEnd, lives_there, stays_alive, stays_alive_all}
+use Rattle.mdv_store_law.proofs.Logs.{firm_stays, firm_stays_all, is_log_after, is_log_after_all}
 use Rattle.mdv_table.specs.Plan.{settled}
 use Rattle.mdv_volumes.specs.Below.{Change, Geometry, Table}
 use Rattle.mdv_volumes.specs.Happening.{MayBeFound}
@@ -102,15 +103,17 @@ module _ (g : Geometry) (P : Table → Type 0) (none : (table : Table) → table
       found_all (log_after lg e) es (is_log_after g lg e is course.0) course.1 (found_step lg e is course.0 all (λ table asks. new table (inl asks))) (λ table asks. new table (inr asks))
 
 module _ (g : Geometry) (P : Table → Type 0) where
-  -- a table was written, and each that a boot may find is so
+  -- a database is there of which a table was written, and each that a boot may find is so
   pub record AreLasting (lg : Log) : Type 0 where
     pub is_log : IsLog g lg
+    pub lives : lg.fate ≡ log.Lives
     pub firm : is_firm lg ≡ true
     pub all : AllFound P lg.family
 
-  pub lasting_at : (lg : Log) (newest : Version) (older : List Version) → IsLog g lg → lg.family ≡ newest ∷ older → newest.is_written ≡ true → P newest.table → AreLasting lg
-  lasting_at lg newest older is family written here = record {
+  pub lasting_at : (lg : Log) (newest : Version) (older : List Version) → IsLog g lg → lg.family ≡ newest ∷ older → newest.is_written ≡ true → lg.fate ≡ log.Lives → P newest.table → AreLasting lg
+  lasting_at lg newest older is family written lives here = record {
     is_log = is;
+    lives = lives;
     firm = written_firm lg.family newest (subst (λ (f : List Version). Contains f newest) (sym family) (contains_first newest older)) written;
     all = λ v found.
         let same = only_found newest older v (subst IsRising family is.rising) written (subst (λ (f : List Version). MayBeFound f v) family found) in
@@ -144,21 +147,25 @@ module _ (g : Geometry) (P : Table → Type 0) (Which : Issue → Type 0) (stays
   all_step lg log.Clearing may asks firm all = all
   all_step lg log.Gone may asks firm all = all
 
-  -- whatever else happens to the log
-  pub kept_all : (lg : Log) (es : List log.Event) → log.IsCourse g lg es → AreAll (IsAskable Which) (log.begun_by es) → is_firm lg ≡ true → AllFound P lg.family → (is_firm (log.log_after_all lg es) ≡ true) × AllFound P (log.log_after_all lg es).family
-  kept_all lg [] course asks firm all = (firm, all)
-  kept_all lg (e ∷ es) course asks firm all =
-      kept_all (log_after lg e) es course.1 (all_rest (IsAskable Which) (log.begins e) (log.begun_by es) asks) (firm_stays g lg e course.0 firm)
+  -- whatever else happens to the log of what lives, as long as no end of it begins
+  pub kept_all : (lg : Log) (es : List log.Event) → log.IsCourse g lg es → AreAll BeginsNoEnd es → AreAll (IsAskable Which) (log.begun_by es) → lg.fate ≡ log.Lives → is_firm lg ≡ true → AllFound P lg.family → AllFound P (log.log_after_all lg es).family
+  kept_all lg [] course none asks lives firm all = all
+  kept_all lg (e ∷ es) course none asks lives firm all =
+      kept_all (log_after lg e) es course.1 none.1 (all_rest (IsAskable Which) (log.begins e) (log.begun_by es) asks) (stays_alive g lg e course.0 none.0 lives) (firm_stays g lg e course.0 (lives_there lg.fate lives) firm)
       (all_step lg e course.0 (all_front (IsAskable Which) (log.begins e) (log.begun_by es) asks) firm all)
 
-  pub lasting_where : (lg : Log) (es : List log.Event) → log.IsCourse g lg es → AreAll (IsAskable Which) (log.begun_by es) → AreLasting g P lg → AreLasting g P (log.log_after_all lg es)
-  lasting_where lg es course asks are =
-      let kept = kept_all lg es course asks are.firm are.all in
-      record { is_log = is_log_after_all g lg es are.is_log course; firm = kept.0; all = kept.1 }
+  pub lasting_where : (lg : Log) (es : List log.Event) → log.IsCourse g lg es → AreAll BeginsNoEnd es → AreAll (IsAskable Which) (log.begun_by es) → AreLasting g P lg → AreLasting g P (log.log_after_all lg es)
+  lasting_where lg es course none asks are = record {
+    is_log = is_log_after_all g lg es are.is_log course;
+    lives = stays_alive_all g lg es course none are.lives;
+    firm = firm_stays_all g lg es course none are.lives are.firm;
+    all = kept_all lg es course none asks are.lives are.firm are.all;
+  }
 
 -- what no change takes from it stays whatever happens
-pub lasting_all : (g : Geometry) (P : Table → Type 0) → ((asked : Option Change) (old next : Table) → IsMade g asked old next → P old → P next) → (lg : Log) (es : List log.Event) → log.IsCourse g lg es → AreLasting g P lg → AreLasting g P (log.log_after_all lg es)
-lasting_all g P stays lg es course are = lasting_where g P (λ issue. Unit {0}) (λ asked old next may. stays asked old next) lg es course (all_askable (log.begun_by es)) are
+pub lasting_all : (g : Geometry) (P : Table → Type 0) → ((asked : Option Change) (old next : Table) → IsMade g asked old next → P old → P next) → (lg : Log) (es : List log.Event) → log.IsCourse g lg es → AreAll BeginsNoEnd es → AreLasting g P lg
+    → AreLasting g P (log.log_after_all lg es)
+lasting_all g P stays lg es course none are = lasting_where g P (λ issue. Unit {0}) (λ asked old next may. stays asked old next) lg es course none (all_askable (log.begun_by es)) are
   where
     all_askable : (asks : List (Option Change)) → AreAll (IsAskable (λ issue. Unit {0})) asks
     all_askable [] = tt

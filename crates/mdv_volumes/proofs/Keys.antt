@@ -1,5 +1,5 @@
 -- What a history says of one key's log is what happened to that log.
-use Rattle.std.proofs.Common.{append_assoc, ◌≡◌, inl, inr, true, false, List, [], ◌∷◌, ◌++◌, Option, Some, None, map, refl, sym, ◌∙◌, ap, subst}
+use Rattle.std.proofs.Common.{append_assoc, ◌≡◌, ◌⊎◌, inl, inr, true, false, List, [], ◌∷◌, ◌++◌, Option, Some, None, map, refl, sym, ◌∙◌, ap, subst}
 use Rattle.mdv_shelf.proofs.Blocks.{both_ways}
 use Rattle.mdv_store_law.specs.Log as log
 use Rattle.mdv_store_law.proofs.Machine.{after_more, course_more}
@@ -7,7 +7,7 @@ use Rattle.mdv_databases.proofs.Creating.{creation_elsewhere, creation_here}
 use Rattle.mdv_databases.proofs.Lists.{events_elsewhere, events_log, key_differs, key_is}
 use Rattle.mdv_volumes.specs.Below.{Change, Geometry, Identity, Key, Log, VolId, is_firm}
 use Rattle.mdv_volumes.specs.Databases.{Database, current_of, log_in, log_of, same_key, with_creation, with_event}
-use Rattle.mdv_volumes.specs.Happening.{IsCourse, IsOfCurrent, MayHappen, ends_of, begun_at, deed_of, issued_by, told_by}
+use Rattle.mdv_volumes.specs.Happening.{IsCourse, IsOfCurrent, IsOver, MayHappen, ends_of, begun_at, deed_of, issued_by, told_by}
 use Rattle.mdv_volumes.specs.History.{Acknowledges, Boots, Crashes, Creation, Deed, Deletes, Event, History, OfDatabase, OfVolume, Reads, Shows, Stops, databases_after, history_after, history_after_all}
 use Rattle.mdv_volumes.specs.HistoryLaws.{DatabasesLive, database_deeds, log_events_at, log_events_of}
 use Rattle.mdv_volumes.specs.Happening.{begun_of}
@@ -72,7 +72,7 @@ module _ (key : Key) where
 
     may_step : (h : History) (e : Event) → MayHappen g h e → log.IsCourse g (log_of h.databases key) (log_events_at key e)
     may_step h (Creation other identity) may = elim (both_ways (same_key key other)) [
-      | inl does ↦ rw does (subst (λ (k : Key). is_firm (log_of h.databases k) ≡ false) (sym (key_is key other does)) may.free, tt)
+      | inl does ↦ rw does (subst (λ (k : Key). (is_firm (log_of h.databases k) ≡ false) ⊎ IsOver h.databases k) (sym (key_is key other does)) may.free, tt)
       | inr never ↦ rw never tt
     ]
     may_step h (OfDatabase other identity e) may = event_may h other identity e may

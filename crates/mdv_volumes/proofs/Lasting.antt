@@ -10,9 +10,10 @@ use Rattle.mdv_volumes.specs.Events.{AllGoOn, Answers, Begins, Flushes, GoesOn, 
 use Rattle.mdv_volumes.specs.Events as lives
 use Rattle.mdv_volumes.specs.Happening.{HasRange, IsCourse, IsNamed, IsPlaced, MayHappen}
 use Rattle.mdv_volumes.specs.History.{Acknowledges, Boots, Crashes, Creation, Deletes, Event, History, OfDatabase, OfVolume, Reads, Shows, Stops, events_at, events_of, history_after, history_after_all}
-use Rattle.mdv_volumes.specs.HistoryLaws.{HasLogs, log_events_of}
+use Rattle.mdv_volumes.specs.HistoryLaws.{HasLogs, KeepDatabase, log_events_of}
 use Rattle.mdv_volumes.specs.Tables.{IsMapOf}
 use Rattle.mdv_volumes.proofs.Databases.{volume_key, volume_number}
+use Rattle.mdv_volumes.proofs.Ending.{keep_front, keep_rest, none_begins}
 use Rattle.mdv_volumes.proofs.Found.{AreLasting, lasting_all, lasting_at, some_lasts}
 use Rattle.mdv_volumes.proofs.Keys.{databases_live}
 use Rattle.mdv_volumes.proofs.Lists.{all_both}
@@ -36,9 +37,9 @@ module _ (g : Geometry) (key : Key) (volume : VolId) (b : ℕ) where
   abbrev Lasts : History → Type 0
   Lasts h = AreLasting g (HasBlock g volume b) (log_of h.databases key)
 
-  step_lasts : (h : History) (e : Event) → MayHappen g h e → Lasts h → Lasts (history_after h e)
-  step_lasts h e may are = subst (AreLasting g (HasBlock g volume b)) (sym (databases_live.is key g h (e ∷ []) (may, tt)))
-      (lasting_all g (HasBlock g volume b) (block_stays g volume b) (log_of h.databases key) (log_events_of key (e ∷ [])) (databases_live.may key g h (e ∷ []) (may, tt)) are)
+  step_lasts : (h : History) (e : Event) → MayHappen g h e → KeepDatabase key (e ∷ []) → Lasts h → Lasts (history_after h e)
+  step_lasts h e may keep are = subst (AreLasting g (HasBlock g volume b)) (sym (databases_live.is key g h (e ∷ []) (may, tt)))
+      (lasting_all g (HasBlock g volume b) (block_stays g volume b) (log_of h.databases key) (log_events_of key (e ∷ [])) (databases_live.may key g h (e ∷ []) (may, tt)) (none_begins key (e ∷ []) keep) are)
 
   -- one of them
   some_named : (h : History) → Lasts h → (v : Map) × IsNamed g h.databases key volume v × (b < v.blocks)
@@ -78,15 +79,17 @@ module _ (g : Geometry) (key : Key) (volume : VolId) (b : ℕ) where
   step_goes h Stops may are = tt
   step_goes h Crashes may are = (tt, tt)
 
-  all_go : (h : History) (es : List Event) → IsCourse g h es → Lasts h → AllGoOn b (events_of key volume es)
-  all_go h [] course are = tt
-  all_go h (e ∷ es) course are = all_both (GoesOn b) (events_at key volume e) (events_of key volume es) (step_goes h e course.0 are) (all_go (history_after h e) es course.1 (step_lasts h e course.0 are))
+  all_go : (h : History) (es : List Event) → IsCourse g h es → KeepDatabase key es → Lasts h → AllGoOn b (events_of key volume es)
+  all_go h [] course keep are = tt
+  all_go h (e ∷ es) course keep are =
+      all_both (GoesOn b) (events_at key volume e) (events_of key volume es) (step_goes h e course.0 are)
+      (all_go (history_after h e) es course.1 (keep_rest key (e ∷ []) es keep) (step_lasts h e course.0 (keep_front key (e ∷ []) es keep) are))
 
 -- the log of no block of the range begins anew
 pub range_goes : (g : Geometry) (h : History) (es : List Event) (key : Key) (volume : VolId) (at count k : ℕ) → HasLogs g h → HasRange g h.databases key volume at count → k < count
-    → IsCourse g h es → AllGoOn (at + k) (events_of key volume es)
-range_goes g h es key volume at count k logs range lt course =
+    → IsCourse g h es → KeepDatabase key es → AllGoOn (at + k) (events_of key volume es)
+range_goes g h es key volume at count k logs range lt course keep =
     let there = range.there in
     let within = range.within in
-    let start = lasting_at g (HasBlock g volume (at + k)) (log_of h.databases key) there.newest there.older (logs key) there.family there.written (range.map, there.map, omega (arith, within, lt)) in
-    all_go g key volume (at + k) h es course start
+    let start = lasting_at g (HasBlock g volume (at + k)) (log_of h.databases key) there.newest there.older (logs key) there.family there.written there.lives (range.map, there.map, omega (arith, within, lt)) in
+    all_go g key volume (at + k) h es course keep start

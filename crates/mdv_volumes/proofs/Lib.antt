@@ -8,6 +8,8 @@ pub mod Databases
 pub mod Owners
 pub mod Lives
 pub mod Keys
+pub mod Ending
+pub mod Alive
 pub mod Made
 pub mod Found
 pub mod Listed
@@ -19,3 +21,5 @@ pub mod Telling
 pub mod Waking
 pub mod Lasting
 pub mod Told
+pub mod Striking
+pub mod Vacant

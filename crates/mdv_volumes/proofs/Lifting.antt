@@ -6,7 +6,7 @@ use Rattle.mdv_store_law.specs.Log as log
 use Rattle.mdv_store_law.specs.Machine.{all_of}
 use Rattle.mdv_databases.proofs.Creating.{creation_elsewhere, creation_here, creation_its}
 use Rattle.mdv_databases.proofs.Lists.{events_elsewhere, events_here, events_log, key_differs, key_is}
-use Rattle.mdv_volumes.specs.Below.{AreAnew, AreDisjoint, Change, Follows, Geometry, HasVolume, Identity, IsCurrentOf, Key, KeptOutside, Log, Map, Stand, Table, Tale, Version, VolId, site_area, site_of, with_events}
+use Rattle.mdv_volumes.specs.Below.{AreDisjoint, Change, Follows, Geometry, HasVolume, Identity, IsCurrentOf, Key, KeptOutside, Log, Map, Stand, Table, Tale, Version, VolId, site_area, site_of, with_events}
 use Rattle.mdv_volumes.specs.Databases.{Database, current_of, log_in, log_of, same_key, with_creation, with_event}
 use Rattle.mdv_volumes.specs.Happening.{IsCourse, IsNamed, MayBeFound, begun_at, deed_of, issued_by, told_by}
 use Rattle.mdv_volumes.specs.Histories.{Stands}
@@ -94,7 +94,7 @@ swapped v w apart a b drive block below above in_w in_v = apart b a drive block 
 
 -- The databases are these now: all stand, and other keys have the logs that they had. So the history stands, if each table of the key that a boot may find is
 -- ready, and each volume that a boot might have found is followed still.
-module _ (g : Geometry) (h : History) (key : Key) (now : List Database) (t m : Tale) (stands : Stands g h t) (databases : Stand g now m) (anew : AreAnew now) (others : (other : Key) → (key ≡ other → ⊥) → log_of now other ≡ log_of h.databases other)
+module _ (g : Geometry) (h : History) (key : Key) (now : List Database) (t m : Tale) (stands : Stands g h t) (databases : Stand g now m) (others : (other : Key) → (key ≡ other → ⊥) → log_of now other ≡ log_of h.databases other)
     (ready : (v : Version) → MayBeFound (log_of now key).family v → IsReady g h key m v.table)
     (followed : (k : Key) (volume : VolId) (v : Map) → IsNamed g h.databases k volume v → Follows v (h.volumes k volume) m) where
   other_named : (other : Key) (beside : VolId) (w : Map) → (key ≡ other → ⊥) → IsNamed g now other beside w → IsNamed g h.databases other beside w
@@ -122,10 +122,10 @@ module _ (g : Geometry) (h : History) (key : Key) (now : List Database) (t m : T
       (λ away_other volume beside v w differ named named_other. stands.apart k other volume beside v w differ (other_named k volume v away named) (other_named other beside w away_other named_other)))
 
   stands_now : (untold : List Deed) → Stands g (record h { databases = now; untold = untold }) m
-  stands_now untold = record { databases = databases; anew = anew; laid = laid_now; apart = apart_now; volumes = volumes_now }
+  stands_now untold = record { databases = databases; laid = laid_now; apart = apart_now; volumes = volumes_now }
 
 module _ (g : Geometry) (h : History) (key : Key) (identity : Identity) (es : List log.Event) (t m : Tale) (stands : Stands g h t) (its : IsCurrentOf h.databases key identity) (later : AreLater es)
-    (course : log.IsCourse g (log_of h.databases key) es) (databases : Stand g (with_events key es h.databases) m) (anew : AreAnew (with_events key es h.databases)) (kept : KeptOutside (site_area (site_of g key)) t m)
+    (course : log.IsCourse g (log_of h.databases key) es) (databases : Stand g (with_events key es h.databases) m) (kept : KeptOutside (site_area (site_of g key)) t m)
     (ready : (table : Table) → IsAsked es table → IsReady g h key t table) where
   abbrev before : Log
   before = log_of h.databases key
@@ -192,7 +192,7 @@ module _ (g : Geometry) (h : History) (key : Key) (identity : Identity) (es : Li
           course = course_lifted;
           begins = lifted_begins key name es later;
           tells = lifted_tells key name es;
-          stands = subst (λ (x : History). Stands g x m) (sym after) (stands_now g h key behind t m stands databases anew others own_ready followed (untold_by key es h.untold));
+          stands = subst (λ (x : History). Stands g x m) (sym after) (stands_now g h key behind t m stands databases others own_ready followed (untold_by key es h.untold));
         };
         own = ap (λ (x : History). log_of x.databases key) after ∙ own;
         others = λ other differ. ap (λ (x : History). log_of x.databases other) after ∙ others other differ;
@@ -202,16 +202,16 @@ module _ (g : Geometry) (h : History) (key : Key) (identity : Identity) (es : Li
       }
 
 pub databases_go : DatabasesGo
-databases_go g h key identity es t m stands its later course databases anew kept ready = database_goes g h key identity es t m stands its later course databases anew kept ready
+databases_go g h key identity es t m stands its later course databases kept ready = database_goes g h key identity es t m stands its later course databases kept ready
 
 -- a new database has no table yet
 pub creations_go : CreationsGo
-creations_go g h key identity t stands may databases anew = record {
+creations_go g h key identity t stands may databases = record {
   happens = record {
     course = (may, tt);
     begins = refl;
     tells = refl;
-    stands = stands_now g h key (with_creation key identity h.databases) t t stands databases anew (λ other differ. ap log_in (creation_elsewhere key identity h.databases other differ))
+    stands = stands_now g h key (with_creation key identity h.databases) t t stands databases (λ other differ. ap log_in (creation_elsewhere key identity h.databases other differ))
         (λ v found. absurd (none_found v (subst (λ (o : Option Database). MayBeFound (log_in o).family v) (creation_here key identity h.databases) found))) stands.volumes h.untold;
   };
   its = creation_its key identity h.databases;

@@ -1,22 +1,24 @@
 -- The places that each table lists which a boot may find stay what they are, as long as no change moves one.
-use Rattle.std.proofs.Common.{◌≡◌, ◌⊎◌, inl, inr, true, List, [], ◌∷◌, ◌++◌, map, Option, None, Some, sym, subst, Contains, arith}
+use Rattle.std.proofs.Common.{◌≡◌, ◌⊎◌, inl, inr, true, List, [], ◌∷◌, ◌++◌, map, Option, None, Some, refl, sym, subst, Contains, arith}
 use Rattle.std.proofs.lemmas.List.Elements.{Contains-append_cases, Contains-append_left, Contains-append_right}
 use Rattle.std.specs.List.{list_any}
 use Rattle.mdv_shelf.proofs.Blocks.{both_ways}
-use Rattle.mdv_store_law.specs.Changes.{AddPlaces, DropPlaces, FirstPlace, KeepsPlaces, OfPlan, list_after, moved}
+use Rattle.mdv_store_law.specs.Changes.{AddListed, AddPlaces, DropPlaces, FirstPlace, KeepsPlaces, OfPlan, TellsList, list_after, moved}
 use Rattle.mdv_store_law.specs.Log as log
 use Rattle.mdv_store_law.specs.Log.{IsAskable, IsMade, IsSameOrSettled, Issue, PlacesStay, Version}
 use Rattle.mdv_store_law.specs.Machine.{AreAll}
 use Rattle.mdv_store_law.specs.Part.{IsPart}
 use Rattle.mdv_store_law.proofs.Anew.{made_lists, plan_lists}
+use Rattle.mdv_store_law.proofs.Fates.{BeginsNoEnd, lives_there, never_ends}
 use Rattle.mdv_store_law.proofs.Logs.{firm_stays}
 use Rattle.mdv_table.specs.Plan.{last_of}
 use Rattle.mdv_databases.proofs.Lists.{key_is}
 use Rattle.mdv_volumes.specs.Below.{Change, Geometry, Key, Lists, Log, One, Place, Table, Two, is_firm}
 use Rattle.mdv_volumes.specs.Databases.{log_of, same_key}
-use Rattle.mdv_volumes.specs.Happening.{IsIssue, MayBeFound, issued_by}
-use Rattle.mdv_volumes.specs.History.{Acknowledges, Boots, Changed, Crashes, Created, Creation, Deed, Deleted, Deletes, Event, OfDatabase, OfVolume, Reads, Saw, Shows, Stops, Wrote}
-use Rattle.mdv_volumes.specs.HistoryLaws.{AllLists, KeepPlaces, ListsStay, database_deeds, lists_by, log_events_of}
+use Rattle.mdv_volumes.specs.Happening.{IsCourse, IsIssue, MayBeFound, issued_by}
+use Rattle.mdv_volumes.specs.History.{Acknowledges, Boots, Changed, Crashes, Created, Creation, Deed, Deleted, Deletes, Event, History, OfDatabase, OfVolume, Reads, Saw, Shows, Stops, Wrote, history_after_all}
+use Rattle.mdv_volumes.specs.HistoryLaws.{AllLists, HasFirm, KeepDatabase, KeepPlaces, ListsStay, TellLists, database_deeds, lists_by, log_events_of}
+use Rattle.mdv_volumes.proofs.Ending.{firm_lasts, none_begins}
 use Rattle.mdv_volumes.proofs.Found.{AllFound, begun_found, kept_all, lasting_at, written_found}
 use Rattle.mdv_volumes.proofs.Keys.{databases_live}
 use Rattle.mdv_volumes.proofs.Lists.{all_both, contains_behind, contains_first, first_or_behind}
@@ -92,17 +94,19 @@ module _ (g : Geometry) (may : List (List Place)) where
       subst (λ (t : Table). AllLists (with_made change may) t.plan.lists) (sym is)
       (with_more change may (last_of old.plan.lists) last, Contains-append_right may (map (list_after change) may) (list_after change (last_of old.plan.lists)) (mapped_has (list_after change) may (last_of old.plan.lists) last))
 
-  made_listed : (change : Change) (old next : Table) → IsMade g (Some change) old next → Listed old → AllLists (with_made change may) next.plan.lists
-  made_listed (OfPlan change) old next is all = more_lists may (with_made (OfPlan change) may) (with_more (OfPlan change) may) next.plan.lists (subst (AllLists may) (sym (plan_lists g change old next is)) all)
-  made_listed (AddPlaces slices count blocks) old next is all = moved_listed (AddPlaces slices count blocks) old next is all
-  made_listed (DropPlaces slices) old next is all = moved_listed (DropPlaces slices) old next is all
-  made_listed FirstPlace old next is all = moved_listed FirstPlace old next is all
+  made_listed : (change : Change) (old next : Table) → TellsList change → IsMade g (Some change) old next → Listed old → AllLists (with_made change may) next.plan.lists
+  made_listed (OfPlan change) old next tells is all = more_lists may (with_made (OfPlan change) may) (with_more (OfPlan change) may) next.plan.lists (subst (AllLists may) (sym (plan_lists g change old next is)) all)
+  made_listed (AddPlaces slices count blocks) old next tells is all = moved_listed (AddPlaces slices count blocks) old next is all
+  made_listed (AddListed number) old next tells is all = absurd tells
+  made_listed (DropPlaces slices) old next tells is all = moved_listed (DropPlaces slices) old next is all
+  made_listed FirstPlace old next tells is all = moved_listed FirstPlace old next is all
 
   -- a change that moves none
   kept_listed : (asked : Option Change) (old next : Table) → IsAskable PlacesStay asked → IsMade g asked old next → Listed old → Listed next
   kept_listed None old next keeps is all = same_listed old next is all
   kept_listed (Some (OfPlan change)) old next keeps is all = subst (AllLists may) (sym (plan_lists g change old next is)) all
   kept_listed (Some (AddPlaces slices count blocks)) old next keeps is all = absurd keeps
+  kept_listed (Some (AddListed number)) old next keeps is all = absurd keeps
   kept_listed (Some (DropPlaces slices)) old next keeps is all = absurd keeps
   kept_listed (Some FirstPlace) old next keeps is all = absurd keeps
 
@@ -113,26 +117,23 @@ module _ (g : Geometry) where
   parent_found lg asked before table firm (inl first) = absurd (let none = subst (λ (f : List Version). list_any (λ v. v.is_written) f ≡ true) first.none firm in cc none)
   parent_found lg asked before table firm (inr next) = (next.parent, (next.one_of, next.not_older), next.made)
 
-  lists_made : (lg : Log) (es : List log.Event) (may : List (List Place)) → log.IsCourse g lg es → is_firm lg ≡ true → AllFound (Listed g may) lg.family → AllFound (Listed g (lists_by (log.begun_by es) may)) (log.log_after_all lg es).family
-  lists_made lg [] may course firm all = all
-  lists_made lg (log.Issued identity ∷ es) may course firm all = absurd (let loose = course.0 in cc (loose, firm))
-  lists_made lg (log.Writing mark None before table ∷ es) may course firm all =
+  lists_made : (lg : Log) (es : List log.Event) (may : List (List Place)) → log.IsCourse g lg es → AreAll BeginsNoEnd es → TellLists (log.begun_by es) → lg.fate ≡ log.Lives → is_firm lg ≡ true → AllFound (Listed g may) lg.family → AllFound (Listed g (lists_by (log.begun_by es) may)) (log.log_after_all lg es).family
+  lists_made lg [] may course none tell lives firm all = all
+  lists_made lg (log.Issued identity ∷ es) may course none tell lives firm all = absurd (elim course.0 [ inl loose ↦ cc (loose, firm) | inr over ↦ lives_there lg.fate lives over ])
+  lists_made lg (log.Writing mark None before table ∷ es) may course none tell lives firm all =
       let from = parent_found lg None before table firm course.0.1 in
-      lists_made (log.log_after lg (log.Writing mark None before table)) es may course.1 firm (begun_found (Listed g may) lg mark None before table (same_listed g may from.0.table table from.2 (all from.0 from.1)) all)
-  lists_made lg (log.Writing mark (Some change) before table ∷ es) may course firm all =
+      lists_made (log.log_after lg (log.Writing mark None before table)) es may course.1 none.1 tell refl firm (begun_found (Listed g may) lg mark None before table (same_listed g may from.0.table table from.2 (all from.0 from.1)) all)
+  lists_made lg (log.Writing mark (Some change) before table ∷ es) may course none tell lives firm all =
       let from = parent_found lg (Some change) before table firm course.0.1 in
-      lists_made (log.log_after lg (log.Writing mark (Some change) before table)) es (with_made change may) course.1 firm
-      (begun_found (Listed g (with_made change may)) lg mark (Some change) before table (made_listed g may change from.0.table table from.2 (all from.0 from.1))
+      lists_made (log.log_after lg (log.Writing mark (Some change) before table)) es (with_made change may) course.1 none.1 tell.1 refl firm
+      (begun_found (Listed g (with_made change may)) lg mark (Some change) before table (made_listed g may change from.0.table table tell.0 from.2 (all from.0 from.1))
       (λ v found. more_lists may (with_made change may) (with_more change may) v.table.plan.lists (all v found)))
-  lists_made lg (log.Written ∷ es) may course firm all = lists_made (log.log_after lg log.Written) es may course.1 (firm_stays g lg log.Written course.0 firm) (written_found (Listed g may) lg.family course.0 all)
-  lists_made lg (log.Told which before ∷ es) may course firm all = lists_made (log.log_after lg (log.Told which before)) es may course.1 firm all
-  lists_made lg (log.Placing places ∷ es) may course firm all = lists_made (log.log_after lg (log.Placing places)) es may course.1 firm all
-  lists_made lg (log.Clearing ∷ es) may course firm all = lists_made (log.log_after lg log.Clearing) es may course.1 firm all
-  lists_made lg (log.Gone ∷ es) may course firm all = lists_made (log.log_after lg log.Gone) es may course.1 firm all
-
-  still_firm : (lg : Log) (es : List log.Event) → log.IsCourse g lg es → is_firm lg ≡ true → is_firm (log.log_after_all lg es) ≡ true
-  still_firm lg [] course firm = firm
-  still_firm lg (e ∷ es) course firm = still_firm (log.log_after lg e) es course.1 (firm_stays g lg e course.0 firm)
+  lists_made lg (log.Written ∷ es) may course none tell lives firm all =
+      lists_made (log.log_after lg log.Written) es may course.1 none.1 tell lives (firm_stays g lg log.Written course.0 (lives_there lg.fate lives) firm) (written_found (Listed g may) lg.family course.0 all)
+  lists_made lg (log.Told which before ∷ es) may course none tell lives firm all = lists_made (log.log_after lg (log.Told which before)) es may course.1 none.1 tell lives firm all
+  lists_made lg (log.Placing places ∷ es) may course none tell lives firm all = lists_made (log.log_after lg (log.Placing places)) es may course.1 none.1 tell lives firm all
+  lists_made lg (log.Clearing ∷ es) may course none tell lives firm all = absurd none.0
+  lists_made lg (log.Gone ∷ es) may course none tell lives firm all = absurd (never_ends lg.fate lives course.0)
 
 -- more lists may come where more is asked
 made_more : (change : Change) (may more : List (List Place)) → Lies may more → Lies (with_made change may) (with_made change more)
@@ -164,26 +165,48 @@ lists_part (x ∷ part) [] may within list is = absurd within
 lists_part (x ∷ part) (y ∷ asks) may (inl within) list is = lists_both y part asks may (λ more. lists_part part asks more within.1) list (subst (λ (o : Option Change). Contains (lists_by (o ∷ part) may) list) within.0 is)
 lists_part (x ∷ part) (y ∷ asks) may (inr within) list is = lists_besides y asks may list (lists_part (x ∷ part) asks may within list is)
 
+-- and each that is asked tells its list
+tell_part : (part asks : List (Option Change)) → IsPart part asks → TellLists asks → TellLists part
+tell_part [] asks within tell = tt
+tell_part (x ∷ part) [] within tell = absurd within
+tell_part (None ∷ part) (None ∷ asks) (inl within) tell = tell_part part asks within.1 tell
+tell_part (None ∷ part) (Some change ∷ asks) (inl within) tell = tell_part part asks within.1 tell.1
+tell_part (Some change ∷ part) (None ∷ asks) (inl within) tell = absurd (let same = within.0 in cc (same))
+tell_part (Some change ∷ part) (Some asked ∷ asks) (inl within) tell =
+    let same : change ≡ asked = (let both = within.0 in cc (both)) in
+    (subst TellsList (sym same) tell.0, tell_part part asks within.1 tell.1)
+tell_part (x ∷ part) (None ∷ asks) (inr within) tell = tell_part (x ∷ part) asks within tell
+tell_part (x ∷ part) (Some asked ∷ asks) (inr within) tell = tell_part (x ∷ part) asks within tell.1
+
+-- what no change takes from a table that moves no place stays so of each that a boot may find
+tables_stay : (g : Geometry) (key : Key) (h : History) (es : List Event) → IsCourse g h es → KeepDatabase key es → HasFirm key h → AreAll (IsAskable PlacesStay) (log.begun_by (log_events_of key es)) → (P : Table → Type 0)
+    → ((asked : Option Change) (old next : Table) → IsAskable PlacesStay asked → IsMade g asked old next → P old → P next) → AllFound P (log_of h.databases key).family → AllFound P (log_of (history_after_all h es).databases key).family
+tables_stay g key h es course keep firm asks P stays all = subst (λ (l : Log). AllFound P l.family) (sym (databases_live.is key g h es course))
+    (kept_all g P PlacesStay stays (log_of h.databases key) (log_events_of key es) (databases_live.may key g h es course) (none_begins key es keep) asks firm.0 firm.1 all)
+
 pub lists_stay : ListsStay
 lists_stay = record {
-  still = λ g key may h es course keep has.
-      let asks = keep_asked key es keep in
-      subst (λ (l : Log). (is_firm l ≡ true) × AllFound (Listed g may) l.family) (sym (databases_live.is key g h es course))
-      (kept_all g (Listed g may) PlacesStay (kept_listed g may) (log_of h.databases key) (log_events_of key es) (databases_live.may key g h es course) asks has.0 has.1);
-  alone = λ g key places h es course keep has.
-      let asks = keep_asked key es keep in
-      subst (λ (l : Log). (is_firm l ≡ true) × AllFound (λ (t : Table). t.plan.lists ≡ One places) l.family) (sym (databases_live.is key g h es course))
-      (kept_all g (λ (t : Table). t.plan.lists ≡ One places) PlacesStay (λ asked old next. made_lists g asked old next places) (log_of h.databases key) (log_events_of key es) (databases_live.may key g h es course) asks has.0 has.1);
-  by = λ g key may h es asks course within has.
+  still = λ g key may h es course keep stay has. (
+    firm_lasts key g h es course keep has.0,
+    tables_stay g key h es course keep has.0 (keep_asked key es stay) (Listed g may) (kept_listed g may) has.1,
+  );
+  alone = λ g key places h es course keep stay has. (
+    firm_lasts key g h es course keep has.0,
+    tables_stay g key h es course keep has.0 (keep_asked key es stay) (λ (t : Table). t.plan.lists ≡ One places) (λ asked old next. made_lists g asked old next places) has.1,
+  );
+  by = λ g key may h es asks course keep within tell has.
       let lg = log_of h.databases key in
       let events = log_events_of key es in
       let could = databases_live.may key g h es course in
       let part : IsPart (log.begun_by events) asks = subst (λ (l : List (Option Change)). IsPart l asks) (sym (databases_live.begins key es)) within in
-      subst (λ (l : Log). (is_firm l ≡ true) × AllFound (Listed g (lists_by asks may)) l.family) (sym (databases_live.is key g h es course))
-      (still_firm g lg events could has.0, λ v found. more_lists (lists_by (log.begun_by events) may) (lists_by asks may) (lists_part (log.begun_by events) asks may part) v.table.plan.lists (lists_made g lg events may could has.0 has.1 v found));
-  one = λ g key h newest older places logs family written one.
-      let is = lasting_at g (λ (t : Table). t.plan.lists ≡ One places) (log_of h.databases key) newest older (logs key) family written one in
-      (is.firm, is.all);
+      let made = lists_made g lg events may could (none_begins key es keep) (tell_part (log.begun_by events) asks part tell) has.0.0 has.0.1 has.1 in (
+        firm_lasts key g h es course keep has.0,
+        subst (λ (l : Log). AllFound (Listed g (lists_by asks may)) l.family) (sym (databases_live.is key g h es course))
+            (λ v found. more_lists (lists_by (log.begun_by events) may) (lists_by asks may) (lists_part (log.begun_by events) asks may part) v.table.plan.lists (made v found)),
+      );
+  one = λ g key h newest older places logs family written one lives.
+      let is = lasting_at g (λ (t : Table). t.plan.lists ≡ One places) (log_of h.databases key) newest older (logs key) family written lives one in
+      ((lives, is.firm), is.all);
   are = λ key places h has. (has.0, λ v found. subst (AllLists (places ∷ [])) (sym (has.1 v found)) (contains_first places []));
 }
 

@@ -3,7 +3,7 @@ use Rattle.std.proofs.Common.{◌≡◌, inl, inr, Option, Some, None, sym, subs
 use Rattle.mdv_shelf.specs.Tale.{Tale}
 use Rattle.mdv_store_law.specs.Log.{IsMade, IsSameOrSettled}
 use Rattle.mdv_table.specs.Plan.{settled}
-use Rattle.mdv_store_law.specs.Changes.{AddPlaces, DropPlaces, FirstPlace, OfPlan, moved}
+use Rattle.mdv_store_law.specs.Changes.{AddListed, AddPlaces, DropPlaces, FirstPlace, OfPlan, moved}
 use Rattle.mdv_volumes.specs.Below.{Change, Geometry, Key, MakeStripe, Map, Table, VolId}
 use Rattle.mdv_volumes.specs.History.{History}
 use Rattle.mdv_volumes.specs.HistoryLaws.{IsReady}
@@ -52,5 +52,6 @@ map_stays g volume v None old next (inl same) map = subst (λ (table : Table). I
 map_stays g volume v None old next (inr over) map = subst (λ (table : Table). IsMapOf g table volume v) (sym over) (map_settled g old volume v map)
 map_stays g volume v (Some (OfPlan (MakeStripe other slice))) old next made map = tables_lie.stays g old next other slice volume v made.0 map
 map_stays g volume v (Some (AddPlaces slices count blocks)) old next made map = map_moved g (AddPlaces slices count blocks) old next volume v made map
+map_stays g volume v (Some (AddListed number)) old next made map = map_moved g (AddPlaces made.slices made.count made.blocks) old next volume v made.is map
 map_stays g volume v (Some (DropPlaces slices)) old next made map = map_moved g (DropPlaces slices) old next volume v made map
 map_stays g volume v (Some FirstPlace) old next made map = map_moved g FirstPlace old next volume v made map

@@ -3,7 +3,7 @@ use Rattle.std.proofs.Common.{◌≡◌, inl, inr, List, [], ◌∷◌, Option, 
 use Rattle.mdv_shelf.proofs.Blocks.{both_ways}
 use Rattle.mdv_store_law.specs.Log as log
 use Rattle.mdv_databases.proofs.Lists.{key_differs, key_is}
-use Rattle.mdv_databases.proofs.Telling.{told_anew, told_stand}
+use Rattle.mdv_databases.proofs.Telling.{told_stand}
 use Rattle.mdv_volumes.specs.Below.{Change, Geometry, IsCurrentOf, Key, KeptOutside, Log, Table, Tale, site_area, site_of}
 use Rattle.mdv_volumes.specs.Databases.{Database, current_of, log_of, same_key}
 use Rattle.mdv_volumes.specs.Happening.{deed_of}
@@ -36,7 +36,6 @@ module _ (g : Geometry) (h : History) (t : Tale) (stands : Stands g h t) where
     goes : IsLifted g h key es t
     goes = databases_go g h key its.0.identity es t t stands its.1 (tt, tt) (can.may.may, tt)
         (told_stand (log.with_asked asked []) can.may.before g h.databases key t its.0.identity stands.databases its.1 can.may.may)
-        (told_anew (log.with_asked asked []) can.may.before g h.databases key t its.0.identity stands.databases its.1 can.may.may stands.anew)
         (all_kept g key t) (λ table is. absurd (never table is))
 
     abbrev events : List Event
@@ -63,17 +62,17 @@ tells_go g h (Deleted key) t can stands = told_one g h t stands (Deleted key) (D
   course = (((can.0.1, can.0.2), can.1), tt);
   begins = refl;
   tells = refl;
-  stands = record { databases = stands.databases; anew = stands.anew; laid = stands.laid; apart = stands.apart; volumes = stands.volumes };
+  stands = record { databases = stands.databases; laid = stands.laid; apart = stands.apart; volumes = stands.volumes };
 }) refl refl
 tells_go g h (Wrote key volume at blocks) t can stands = told_one g h t stands (Wrote key volume at blocks) (Acknowledges can.untold.0 key volume at blocks) (record {
   course = (((can.untold.1, can.untold.2), can.range, can.only), tt);
   begins = refl;
   tells = refl;
-  stands = record { databases = stands.databases; anew = stands.anew; laid = stands.laid; apart = stands.apart; volumes = stands.volumes };
+  stands = record { databases = stands.databases; laid = stands.laid; apart = stands.apart; volumes = stands.volumes };
 }) refl refl
 tells_go g h (Saw key volume at blocks) t can stands = told_one g h t stands (Saw key volume at blocks) (Shows can.0 key volume at blocks) (record {
   course = ((can.1, can.2), tt);
   begins = refl;
   tells = refl;
-  stands = record { databases = stands.databases; anew = stands.anew; laid = stands.laid; apart = stands.apart; volumes = stands.volumes };
+  stands = record { databases = stands.databases; laid = stands.laid; apart = stands.apart; volumes = stands.volumes };
 }) refl refl

@@ -123,7 +123,7 @@ reads_go g h key volume at blocks t range stands copies read = record {
     course = ((range, reads_stand.seen range.map at blocks (h.volumes key volume) t range.within copies read (follows g h key volume at blocks t range stands)), tt);
     begins = refl;
     tells = refl;
-    stands = record { databases = stands.databases; anew = stands.anew; laid = stands.laid; apart = stands.apart; volumes = stands.volumes };
+    stands = record { databases = stands.databases; laid = stands.laid; apart = stands.apart; volumes = stands.volumes };
   };
   untold = (0, omega arith, refl);
 }

@@ -80,7 +80,6 @@ module _ (g : Geometry) (h : History) (key : Key) (volume : VolId) (e : VolumeEv
       → Stands g (history_after h (OfVolume key volume e)) m
   stands_after databases own others = record {
     databases = databases;
-    anew = stands.anew;
     laid = stands.laid;
     apart = stands.apart;
     volumes = λ other beside w named. elim (both_ways (is_volume other beside key volume)) [

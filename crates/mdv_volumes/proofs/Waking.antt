@@ -130,7 +130,7 @@ module _ (g : Geometry) (h : History) (key : Key) (newest : Version) (up : â„• â
       let w : Waking = record { volume = of.number; count = v.blocks; content = one.0 } in
       let found : IsFoundBy g h.databases key t w = record {
         map = v;
-        there = record { newest = newest; older = booted.older; family = booted.family; written = booted.written; map = map };
+        there = record { lives = booted.lives; newest = newest; older = booted.older; family = booted.family; written = booted.written; map = map };
         long = refl;
         one = one.1;
       } in record {

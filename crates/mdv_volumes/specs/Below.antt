@@ -19,7 +19,7 @@ pub use Rattle.mdv_store_law.specs.Laws.{restarted}
 pub use Rattle.mdv_store_law.specs.Log.{Log, Version, empty_log, is_firm}
 pub use Rattle.mdv_databases.specs.Going.{IsCurrentOf, with_events}
 pub use Rattle.mdv_databases.specs.Lasting.{IsElsewhere as IsBeside}
-pub use Rattle.mdv_databases.specs.Standing.{AreAnew, Stand}
+pub use Rattle.mdv_databases.specs.Standing.{Stand}
 pub use Rattle.mdv_shown.specs.Site.{site_area}
 pub use Rattle.mdv_shown.specs.Sites.{site_of}
 pub use Rattle.mdv_standing.specs.Holding.{HasNoReplica, IsFresh}

@@ -1,5 +1,5 @@
 -- When each event of a history may happen, what it tells and what it begins.
-use Rattle.std.specs.Prelude.{◌++◌, ◌≡◌, ℕ, ◌+◌, ◌<◌, ◌≤◌, true, false, List, [], ◌∷◌, length, map, slice_index_or, Option, None, Some}
+use Rattle.std.specs.Prelude.{◌++◌, ◌≡◌, ◌⊎◌, ℕ, ◌+◌, ◌<◌, ◌≤◌, true, false, List, [], ◌∷◌, length, map, slice_index_or, Option, None, Some}
 use Rattle.mdv_volumes.specs.Below.{Change, Geometry, Identity, IsFresh, Key, Map, Version, VolId, VolumeLog, is_firm, only}
 use Rattle.mdv_store_law.specs.Log as log
 use Rattle.mdv_store_law.specs.Machine.{all_of}
@@ -17,8 +17,9 @@ pub record IsNamed (g : Geometry) (databases : List Database) (key : Key) (volum
   pub found : MayBeFound (log_of databases key).family version
   pub map : IsMapOf g version.table volume v
 
--- the newest table of the key was written, and has the volume with this map
+-- the key's database isn't about to be deleted, and its newest table was written, and has the volume with this map
 pub record IsThere (g : Geometry) (databases : List Database) (key : Key) (volume : VolId) (v : Map) : Type 0 where
+  pub lives : (log_of databases key).fate ≡ log.Lives
   pub newest : Version
   pub older : List Version
   pub family : (log_of databases key).family ≡ newest ∷ older
@@ -50,10 +51,14 @@ pub record IsOfCurrent (g : Geometry) (databases : List Database) (key : Key) (i
   pub later : IsLater e
   pub may : log.MayHappen g database.log e
 
--- a creation of a key that has no database whose table was written, under an identity that none has
+-- the key's current database is over
+abbrev pub IsOver : List Database → Key → Type 0
+IsOver databases key = (log_of databases key).fate ≡ log.Over
+
+-- a creation of a key that has no database whose table was written, or had one that was deleted, under an identity that none has
 pub record MayBegin (databases : List Database) (key : Key) (identity : Identity) : Type 0 where
   pub fresh : IsFresh databases identity
-  pub free : is_firm (log_of databases key) ≡ false
+  pub free : (is_firm (log_of databases key) ≡ false) ⊎ IsOver databases key
 
 -- Blocks are issued, and answered, of a volume that the one table has which a boot may find; a log begins where no table that a boot may find has the
 -- volume with blocks from there on; drives begin anew all at once.
@@ -64,10 +69,6 @@ IsPlaced g h key volume (Flushes at count) = Unit {0}
 IsPlaced g h key volume (Begins from logs) = (v : Map) → IsNamed g h.databases key volume v → v.blocks ≤ from
 IsPlaced g h key volume lives.Crashes = ⊥
 IsPlaced g h key volume (Woke count content) = Unit {0}
-
--- the key's current database is over
-abbrev pub IsOver : List Database → Key → Type 0
-IsOver databases key = (log_of databases key).fate ≡ log.Over
 
 -- this deed is done and not told, at that place of the list
 abbrev pub IsUntoldAt : List Deed → ℕ → Deed → Type 0

@@ -1,7 +1,7 @@
 -- How the drives stand with a history, and how it goes on.
 use Rattle.std.specs.Prelude.{◌≡◌, List}
 use Rattle.mdv_store_law.specs.Log.{Issue}
-use Rattle.mdv_volumes.specs.Below.{AreAnew, AreDisjoint, Follows, Geometry, Key, Map, Stand, Tale, Version, VolId}
+use Rattle.mdv_volumes.specs.Below.{AreDisjoint, Follows, Geometry, Key, Map, Stand, Tale, Version, VolId}
 use Rattle.mdv_store_law.specs.Machine as machine
 use Rattle.mdv_volumes.specs.Databases.{log_of}
 use Rattle.mdv_volumes.specs.Happening.{Adds, IsCourse, IsNamed, MayBeFound, MayHappen, issued_by, told_by}
@@ -9,10 +9,9 @@ use Rattle.mdv_volumes.specs.History.{Deed, Event, History, history_after, histo
 use Rattle.mdv_volumes.specs.Tables.{AreLaid}
 
 -- The drives stand with the history: with all databases that were ever begun; and of each volume of each table that a boot may find they follow the log,
--- whatever a crash leaves; and no places of a database come and go yet. No block of a drive belongs to two volumes of one table, or of two keys, or to a volume and a slice with replicas.
+-- whatever a crash leaves. No block of a drive belongs to two volumes of one table, or of two keys, or to a volume and a slice with replicas.
 pub record Stands (g : Geometry) (h : History) (t : Tale) : Type 0 where
   pub databases : Stand g h.databases t
-  pub anew : AreAnew h.databases
   pub laid : (key : Key) (version : Version) → MayBeFound (log_of h.databases key).family version → AreLaid g version.table
   pub apart : (key other : Key) (volume beside : VolId) (v w : Map) → (key ≡ other → ⊥) → IsNamed g h.databases key volume v → IsNamed g h.databases other beside w → AreDisjoint v w
   pub volumes : (key : Key) (volume : VolId) (v : Map) → IsNamed g h.databases key volume v → Follows v (h.volumes key volume) t

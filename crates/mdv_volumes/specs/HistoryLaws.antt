@@ -1,7 +1,7 @@
 -- Laws of histories: of each volume, of databases and of deeds, over crashes, boots, writes and reads.
 use Rattle.std.specs.Prelude.{◌≡◌, ◌⊎◌, ◌+◌, ◌<◌, ◌≤◌, ℕ, true, List, [], ◌∷◌, ◌++◌, length, slice_index_or, Bool, if◌then◌else◌, map, Option, Some, None, All, Contains}
-use Rattle.mdv_volumes.specs.Below.{AllOnDisk, AllRead, Among, AreApart, AreDisjoint, Area, Change, Follows, Geometry, HasDriveBlock, HasNoReplica, Identity, Image, IsBeside, IsCurrentOf, IsOfGeometry, Key, KeptOutside, Map, MayLeave, One, Place, Rewriting, Spells, Stand, Table, Tale, Version, VolId, area_of_map, is_firm, last, only, opening, restarted, site_area, site_of, with_events, AreAnew, Lists, Two}
-use Rattle.mdv_store_law.specs.Changes.{KeepsPlaces, list_after}
+use Rattle.mdv_volumes.specs.Below.{AllOnDisk, AllRead, Among, AreApart, AreDisjoint, Area, Change, Follows, Geometry, HasDriveBlock, HasNoReplica, Identity, Image, IsBeside, IsCurrentOf, IsOfGeometry, Key, KeptOutside, Map, MayLeave, One, Place, Rewriting, Spells, Stand, Table, Tale, Version, VolId, area_of_map, is_firm, last, only, opening, restarted, site_area, site_of, with_events, Lists, Two}
+use Rattle.mdv_store_law.specs.Changes.{KeepsPlaces, TellsList, list_after}
 use Rattle.mdv_store_law.specs.Log as log
 use Rattle.mdv_store_law.specs.Machine.{AreAll, all_of}
 use Rattle.mdv_store_law.specs.Part.{IsPart}
@@ -92,13 +92,17 @@ abbrev pub AllLists : List (List Place) → Lists → Type 0
 AllLists may (One places) = Contains may places
 AllLists may (Two old new) = Contains may old × Contains may new
 
--- a write of a table of the key was answered, and the lists of each table that a boot may find are some of these
+-- a write of a table of the key was answered, and its database isn't about to be deleted
+abbrev pub HasFirm : Key → History → Type 0
+HasFirm key h = ((log_of h.databases key).fate ≡ log.Lives) × (is_firm (log_of h.databases key) ≡ true)
+
+-- so it is, and the lists of each table that a boot may find are some of these
 abbrev pub HasLists : Key → List (List Place) → History → Type 0
-HasLists key may h = (is_firm (log_of h.databases key) ≡ true) × ((v : Version) → MayBeFound (log_of h.databases key).family v → AllLists may v.table.plan.lists)
+HasLists key may h = HasFirm key h × ((v : Version) → MayBeFound (log_of h.databases key).family v → AllLists may v.table.plan.lists)
 
 -- and each of these tables lists these places, in one list
 abbrev pub ListsAlone : Key → List Place → History → Type 0
-ListsAlone key places h = (is_firm (log_of h.databases key) ≡ true) × ((v : Version) → MayBeFound (log_of h.databases key).family v → v.table.plan.lists ≡ One places)
+ListsAlone key places h = HasFirm key h × ((v : Version) → MayBeFound (log_of h.databases key).family v → v.table.plan.lists ≡ One places)
 
 -- those lists, and the ones that these changes may make of them, each of the changes or none
 abbrev pub lists_by : List (Option Change) → List (List Place) → List (List Place)
@@ -106,20 +110,30 @@ lists_by [] may = may
 lists_by (None ∷ asks) may = lists_by asks may
 lists_by (Some change ∷ asks) may = lists_by asks (may ++ map (list_after change) may)
 
+-- each of these changes tells which list comes
+abbrev pub TellLists : List (Option Change) → Type 0
+TellLists [] = Unit {0}
+TellLists (None ∷ asks) = TellLists asks
+TellLists (Some change ∷ asks) = TellsList change × TellLists asks
+
 -- none of the changes of the key's table that these events begin moves a place
 abbrev pub KeepPlaces : Key → List Event → Type 0
 KeepPlaces key es = (change : Change) → Contains (issued_by es) (Changed key change) → KeepsPlaces change
 
--- Which places the tables list that a boot may find. No creation of the key begins any more.
+-- no end of the key's database begins: so no creation of the key does, once a table of it was answered
+abbrev pub KeepDatabase : Key → List Event → Type 0
+KeepDatabase key es = Contains (issued_by es) (Deleted key) → ⊥
+
+-- Which places the tables list that a boot may find, as long as no end of the key's database begins.
 pub record ListsStay : Type 0 where
   -- they stay, whatever happens, if no change moves a place
-  pub still : (g : Geometry) (key : Key) (may : List (List Place)) (h : History) (es : List Event) → IsCourse g h es → KeepPlaces key es → HasLists key may h → HasLists key may (history_after_all h es)
-  pub alone : (g : Geometry) (key : Key) (places : List Place) (h : History) (es : List Event) → IsCourse g h es → KeepPlaces key es → ListsAlone key places h → ListsAlone key places (history_after_all h es)
-  -- or they are made of them by the changes that are asked, of which none, some or all begin
-  pub by : (g : Geometry) (key : Key) (may : List (List Place)) (h : History) (es : List Event) (asks : List (Option Change)) → IsCourse g h es → IsPart (database_deeds key (issued_by es)) asks
-      → HasLists key may h → HasLists key (lists_by asks may) (history_after_all h es)
+  pub still : (g : Geometry) (key : Key) (may : List (List Place)) (h : History) (es : List Event) → IsCourse g h es → KeepDatabase key es → KeepPlaces key es → HasLists key may h → HasLists key may (history_after_all h es)
+  pub alone : (g : Geometry) (key : Key) (places : List Place) (h : History) (es : List Event) → IsCourse g h es → KeepDatabase key es → KeepPlaces key es → ListsAlone key places h → ListsAlone key places (history_after_all h es)
+  -- or they are made of them by the changes that are asked, each of which tells its list, and of which none, some or all begin
+  pub by : (g : Geometry) (key : Key) (may : List (List Place)) (h : History) (es : List Event) (asks : List (Option Change)) → IsCourse g h es → KeepDatabase key es → IsPart (database_deeds key (issued_by es)) asks
+      → TellLists asks → HasLists key may h → HasLists key (lists_by asks may) (history_after_all h es)
   -- where the newest table was written, and has one list, a boot finds that one alone
-  pub one : (g : Geometry) (key : Key) (h : History) (newest : Version) (older : List Version) (places : List Place) → HasLogs g h → (log_of h.databases key).family ≡ newest ∷ older → newest.is_written ≡ true → newest.table.plan.lists ≡ One places
+  pub one : (g : Geometry) (key : Key) (h : History) (newest : Version) (older : List Version) (places : List Place) → HasLogs g h → (log_of h.databases key).family ≡ newest ∷ older → newest.is_written ≡ true → newest.table.plan.lists ≡ One places → (log_of h.databases key).fate ≡ log.Lives
       → ListsAlone key places h
   pub are : (key : Key) (places : List Place) (h : History) → ListsAlone key places h → HasLists key (places ∷ []) h
 
@@ -199,7 +213,7 @@ AreLater = AreAll IsLater
 -- each table that is made by a change is ready.
 abbrev pub DatabasesGo : Type 0
 DatabasesGo = (g : Geometry) (h : History) (key : Key) (identity : Identity) (es : List log.Event) (t m : Tale) → Stands g h t → IsCurrentOf h.databases key identity → AreLater es
-    → log.IsCourse g (log_of h.databases key) es → Stand g (with_events key es h.databases) m → AreAnew (with_events key es h.databases) → KeptOutside (site_area (site_of g key)) t m
+    → log.IsCourse g (log_of h.databases key) es → Stand g (with_events key es h.databases) m → KeptOutside (site_area (site_of g key)) t m
     → ((table : Table) → IsAsked es table → IsReady g h key t table) → IsLifted g h key es m
 
 -- a database of the key was begun, and its earlier one is over
@@ -207,9 +221,9 @@ pub record IsNewlyBegun (g : Geometry) (h : History) (key : Key) (identity : Ide
   pub happens : Happens g h (Creation key identity ∷ []) (Created key ∷ []) [] t
   pub its : IsCurrentOf (history_after h (Creation key identity)).databases key identity
 
--- A creation begins, where no table of its key was written, so that all stand.
+-- A creation begins, where no table of its key was written, or its database was deleted, so that all stand.
 abbrev pub CreationsGo : Type 0
-CreationsGo = (g : Geometry) (h : History) (key : Key) (identity : Identity) (t : Tale) → Stands g h t → MayBegin h.databases key identity → Stand g (with_creation key identity h.databases) t → AreAnew (with_creation key identity h.databases) → IsNewlyBegun g h key identity t
+CreationsGo = (g : Geometry) (h : History) (key : Key) (identity : Identity) (t : Tale) → Stands g h t → MayBegin h.databases key identity → Stand g (with_creation key identity h.databases) t → IsNewlyBegun g h key identity t
 
 -- the creation of a key's database, or a change of it, came to the newest table, and wasn't told
 pub record IsTellable (g : Geometry) (h : History) (key : Key) (asked : Option Change) : Type 0 where
@@ -264,8 +278,9 @@ IsUpon up v = (b drive block : ℕ) → b < v.blocks → HasDriveBlock (v.copies
 abbrev pub AreWoken : Geometry → Table → (ℕ → Bool) → History → Key → Type 0
 AreWoken g table up h key = (volume : VolId) (v : Map) → IsMapOf g table volume v → IsUpon up v → h.woken key volume ≡ v.blocks
 
--- the newest table of a key was written and is one of the geometry, and a crash leaves of each block of its volumes on drives that are up what a read gives
+-- a key's database isn't about to be deleted, its newest table was written and is one of the geometry, and a crash leaves of each block of its volumes on drives that are up what a read gives
 pub record IsBooted (g : Geometry) (h : History) (key : Key) (newest : Version) (up : ℕ → Bool) (t : Tale) : Type 0 where
+  pub lives : (log_of h.databases key).fate ≡ log.Lives
   pub older : List Version
   pub family : (log_of h.databases key).family ≡ newest ∷ older
   pub written : newest.is_written ≡ true
@@ -294,7 +309,7 @@ pub record Lasts (h : History) (es later : List Event) (place : ℕ) (key : Key)
   pub lasts : (k : ℕ) (x : List ℕ) → k < length blocks → MayBe ((history_after_all h (es ++ Acknowledges place key volume at blocks ∷ later)).volumes key volume) (at + k) x
       → (x ≡ slice_index_or blocks k []) ⊎ Among (lives.issued_to (at + k) (events_of key volume later)) x
 
--- so it is of every write that is told
+-- so it is of every write that is told, until an end of its database begins
 abbrev pub ToldWritesLast : Type 0
 ToldWritesLast = (g : Geometry) (h : History) (es later : List Event) (place : ℕ) (key : Key) (volume : VolId) (at : ℕ) (blocks : List (List ℕ)) → HasLogs g h
-    → IsCourse g h (es ++ Acknowledges place key volume at blocks ∷ later) → Lasts h es later place key volume at blocks
+    → IsCourse g h (es ++ Acknowledges place key volume at blocks ∷ later) → KeepDatabase key later → Lasts h es later place key volume at blocks

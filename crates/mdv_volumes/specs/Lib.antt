@@ -9,3 +9,5 @@ pub mod History
 pub mod Happening
 pub mod Histories
 pub mod HistoryLaws
+pub mod Striking
+pub mod Vacant

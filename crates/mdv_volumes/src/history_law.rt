@@ -1,4 +1,6 @@
 ghost use Rattle.mdv_volumes.specs.HistoryLaws.{BeginningsGo, BootsGo, CreationsGo, DatabasesGo, DatabasesLive, ListsStay, ReadsGo, RestartsGo, TellsGo, ToldWritesLast, VolumesLive, WritesGo};
+ghost use Rattle.mdv_volumes.specs.Striking.{StrikesGo};
+ghost use Rattle.mdv_volumes.specs.Vacant.{VacantStay};
 
 /// What a history says of a volume is what happened to that volume, each where it may.
 pub fn volumes_live()
@@ -25,7 +27,7 @@ pub fn databases_go()
     ensures { DatabasesGo }
 {}
 
-/// A creation begins, where no table of its key was written.
+/// A creation begins, where no table of its key was written, or its database was deleted.
 pub fn creations_go()
     ensures { CreationsGo }
 {}
@@ -45,7 +47,8 @@ pub fn beginnings_go()
     ensures { BeginningsGo }
 {}
 
-/// A write whose `ok` was told was answered and put on the disk before: every later read gives it and every crash leaves it, or what was issued since.
+/// A write whose `ok` was told was answered and put on the disk before: every later read gives it and every crash leaves it, or what was issued since, as
+/// long as no end of its database begins.
 pub fn told_writes_last()
     ensures { ToldWritesLast }
 {}
@@ -55,7 +58,20 @@ pub fn databases_live()
     ensures { DatabasesLive }
 {}
 
-/// Once a write of a key's table was answered, each table that a boot may find lists places that were listed, or that the changes which began make of those.
+/// As long as no end of a key's database begins: once a write of a table of it was answered, each table that a boot may find lists places that were listed, or that the changes
+/// which began make of those.
 pub fn lists_stay()
     ensures { ListsStay }
+{}
+
+/// Where each of a key's databases shows no table, as a creation leaves it that failed, or was deleted, the current one may count as over: the drives stand with
+/// that history too, in which the key has no database, until one is created.
+pub fn strikes_go()
+    ensures { StrikesGo }
+{}
+
+/// A history without a current database of a key, with which the drives stand, is one of drives on which no replica of the key shows a table; so it stays until a
+/// database of the key is created, and behind creations that failed, once their database is struck.
+pub fn vacant_stay()
+    ensures { VacantStay }
 {}

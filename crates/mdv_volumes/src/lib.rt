@@ -7,7 +7,7 @@ mod law;
 
 pub use history_law::{
     beginnings_go, boots_go, creations_go, databases_go, databases_live, lists_stay, reads_go,
-    restarts_go, tells_go, told_writes_last, volumes_live, writes_go,
+    restarts_go, strikes_go, tells_go, told_writes_last, vacant_stay, volumes_live, writes_go,
 };
 pub use law::{
     beginnings_stand, boots_settle, boots_stand, frames_stand, issues_alone_add, reads_stand,

@@ -40,6 +40,11 @@ standard input, with a command on each line:
     metadb -a -f c0t0d0s7    makes a state database, of a replica on each slice that is named; the
                              first ones need the -f; -c COUNT, 1 to 50, puts so many on each slice,
                              -l BLOCKS, 16 to 8192, makes them shorter than 8192 blocks
+    metadb -a c0t1d0s7       adds replicas to the open database, with -c and -l as above; metadb -a
+                             mddb01 those of the entry mddb01 in the last block of lines between
+                             tab and end
+    metadb -d c0t1d0s7       takes the replicas on each slice away; with -f all of them, and with
+                             these the database
     metainit d0 1 1 c0t0d0s0 makes the volume d0 of all blocks of a slice
     write d0 5 ab            writes block 5 of d0: bytes in hexadecimal, and zeros behind
     read d0 5 1              tells 1 block of d0, from block 5 on; at most 1024 at a time

@@ -5,5 +5,5 @@ use Rattle.mdv_databases.proofs.law.databases_meet.Goals as goal
 pub returns : goal.returns
 returns c = record {
   shown = databases_meet;
-  enough = λ g all key places up survey readable needed t sound stand lives is of firm lists most. never_short g all key up survey t sound stand is of lives firm places lists most readable needed;
+  enough = λ g all key up survey readable needed t sound stand lives is of firm most. never_short g all key up survey t sound stand is of lives firm most readable needed;
 }

@@ -1,5 +1,5 @@
 use Rattle.std.proofs.Common.{refl}
-use Rattle.mdv_engine.proofs.Places.{slice_is}
+use Rattle.mdv_engine.proofs.Located.{slice_is}
 use Rattle.mdv_engine.proofs.transfer.slice_of.Goals as goal
 
 pub returns : goal.returns

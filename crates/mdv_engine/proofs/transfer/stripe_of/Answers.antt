@@ -1,5 +1,5 @@
 use Rattle.std.proofs.Common.{refl}
-use Rattle.mdv_engine.proofs.Places.{stripe_is}
+use Rattle.mdv_engine.proofs.Located.{stripe_is}
 use Rattle.mdv_engine.proofs.transfer.stripe_of.Goals as goal
 
 pub returns : goal.returns

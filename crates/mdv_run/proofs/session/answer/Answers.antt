@@ -1,3 +1,4 @@
+use Rattle.mdv_run_law.proofs.Since.{end_since, since_weaker}
 use Rattle.mdv_run.proofs.Counting.{exec_calls, refused_calls, spelled_calls, text_some}
 use Rattle.mdv_shelf.specs.Calls.{RoseByAtMost}
 use Rattle.mdv_shelf.proofs.Counts.{rose_at_most}
@@ -6,24 +7,23 @@ use Rattle.mdv_shelf.proofs.Between.{between_of}
 use Rattle.mdv_engine_law.specs.declared.answer.Outcome.TheVariants as outcome
 use Rattle.std.proofs.Common.{ℕ, ◌≤◌, ◌+◌, refl, inl, inr, ap, subst, sym, arith}
 use Rattle.mdv_engine_law.specs.Line.{Nothing}
-use Rattle.mdv_run.specs.Below.{line, Ends, IsWell, OnReplies, Boot, IsLine, IsLostOnSite, asked_by, IsAnswered, Knows, meant, TellsFront, TurnMoment, Engine, LinesMoment}
+use Rattle.mdv_run.specs.Below.{line, Ends, IsWell, OnReplies, Boot, IsLine, IsLostOnSite, asked_by, meant, TurnMoment, Engine, LinesMoment}
 use Rattle.mdv_words.specs.Line as words
 use Rattle.mdv_run_law.specs.Run.{IsNoCommand}
 use Rattle.mdv_words.proofs.Form.{commands_are_in_form}
 use Rattle.mdv_engine_law.specs.Answers.{refusing}
 use Rattle.mdv_base.specs.declared.refusal.Refusal.TheVariants.{BadLine}
 use Rattle.mdv_shelf.specs.Shelves.{DriveFailures, GivingFailed}
-use Rattle.mdv_shelf.proofs.Moments.{moments_weaker}
 use Rattle.mdv_engine_law.proofs.Plain.{bad_line_plain}
 use Rattle.mdv_engine_law.proofs.Staying.{stays_still, turn_stays}
-use Rattle.mdv_run_law.proofs.Turning.{line_moment, line_ran}
+use Rattle.mdv_run_law.proofs.Turning.{command_met, line_moment, line_ran, nothing_met}
 use Rattle.mdv_run_law.proofs.Entries.{command_entries, tab_entries}
 use Rattle.mdv_run.specs.Promise.{IsWorkOf, LineEnd}
-use Rattle.mdv_engine_law.specs.Standing.{LeavesDone}
+use Rattle.mdv_engine_law.specs.Standing.{LeavesDone, LeavesTorn}
 use Rattle.mdv_words.specs.declared.command.Command.{Command}
 use Rattle.mdv_shelf.proofs.InTime.{in_time_of_on}
-use Rattle.mdv_shelf.proofs.Noted.{moment_weaker}
-use Rattle.mdv_run.proofs.Fronts.{AnswerFront, LineFront, front_of, only_refused}
+use Rattle.mdv_run.proofs.Fronts.{fronts_led, only_refused}
+use Rattle.mdv_run.proofs.Led.{command_led, refused_led, tab_led}
 use Rattle.mdv_engine.specs.Ends.{CarriesOut, OnlyAnswers}
 use Rattle.mdv_engine.specs.Tab.{KeepsLines}
 use Rattle.mdv_engine.proofs.Entering.{kept_begun, kept_host, kept_well}
@@ -47,8 +47,8 @@ returns-in-Ok-Command-clause-moments g c = λ more.
     let old = c.args.engine.now.state in
     let command = c.in-Ok-Command.command in
     let is : IsLine c.args.line.now (words.Exec c.in-Ok-Command.command) = rw c.in-Ok-Command.field-0-is at c.in-Ok-Command.ensures.value in
-    moments_weaker (TurnMoment host (asked_by host command) old) (LinesMoment host (line c.args.line.now more) old) _ _
-    (λ t m turn. line_moment host c.args.line.now (asked_by host command) more old t m turn (inl (inr (words.Exec command, is, refl))) (inl (no_boot c.args.line.now (words.Exec command) is (λ same. cc (same))))) c.exec.ensures.moments.each
+    since_weaker (TurnMoment host (asked_by host command) old) (LinesMoment host (line c.args.line.now more) old) _ _
+    (λ t m since turn. line_moment host c.args.line.now (asked_by host command) more old t m (command_met host command t) since turn (inl (inr (words.Exec command, is, refl))) (inl (no_boot c.args.line.now (words.Exec command) is (λ same. cc (same))))) c.exec.ensures.moments.each
 
 pub returns-in-Ok-Command-clause-end : goal.returns-in-Ok-Command-clause-end
 returns-in-Ok-Command-clause-end g c = λ t told.
@@ -65,8 +65,9 @@ returns-in-Ok-Command-clause-end g c = λ t told.
       end.1,
       record {
         answered = λ knows. line_executed c.args.line.now (words.Exec command) is outcomes replies made host old new c.exec.result t end.0 (end.2.answered knows) (turn_writes host (asked_by host command) old _ _ c.exec.ensures.moments.each t end.0 told end.1)
-            end.2.quiet (λ still. end.2.spent (command_still _ _ _ c.exec.result c.exec.ensures.answer.cause still)) (λ same none. absurd (cc (same))) (λ ok other same. subst (λ (x : Command). LeavesDone host old (meant old.entries x) end.0) (cc (same)) (end.2.done ok)) (λ ok same. absurd (cc (same)));
-        ran = λ on more. line_ran host c.args.line.now (asked_by host command) more old new t end.0 (end.2.turned on) (turn_home host (asked_by host command) old _ _ c.exec.ensures.moments.each t end.0 told end.1) (inl (inr (words.Exec command, is, refl))) (inl (no_boot c.args.line.now (words.Exec command) is (λ same. cc (same))))
+            end.2.quiet (λ still. end.2.spent (command_still _ _ _ c.exec.result c.exec.ensures.answer.cause still)) (λ same none. absurd (cc (same))) (λ ok other same. subst (λ (x : Command). LeavesDone outcomes host old (meant old.entries x) end.0) (cc (same)) (end.2.done knows ok)) (λ ok same. absurd (cc (same)))
+            (λ ended other same. subst (λ (x : Command). LeavesTorn outcomes host old (meant old.entries x) end.0) (cc (same)) (end.2.torn knows ended));
+        ran = λ on more. line_ran host c.args.line.now (asked_by host command) more old new t end.0 (command_met host command t) (end_since (TurnMoment host (asked_by host command) old) _ _ c.exec.ensures.moments.each t end.0 told end.1) (end.2.turned on) (turn_home host (asked_by host command) old _ _ c.exec.ensures.moments.each t end.0 told end.1) (inl (inr (words.Exec command, is, refl))) (inl (no_boot c.args.line.now (words.Exec command) is (λ same. cc (same))))
             (λ knows. command_entries outcomes replies made host old new c.exec.result t end.0 c.args.line.now (end.2.turned on).bytes (end.2.turned on).is_told command is (end.2.answered knows) on);
         knows = end.2.knows;
       },
@@ -81,8 +82,8 @@ returns-in-Ok-Command-clause-stays g c = record {
   writes = command_works c.args.engine.now c.args.line.now c.in-Ok-Command.command (rw c.in-Ok-Command.field-0-is at c.in-Ok-Command.ensures.value) _ _ c.exec.ensures.moments.each;
   tells =
       let is : IsLine c.args.line.now (words.Exec c.in-Ok-Command.command) = rw c.in-Ok-Command.field-0-is at c.in-Ok-Command.ensures.value in
-      moment_weaker g.B.Shelf (λ t m. Knows c.args.engine.now.host c.args.engine.now.state t.tale → TellsFront (CarriesOut c.args.engine.now.host c.in-Ok-Command.command) c.args.engine.now.state t m) (LineFront c.args.engine.now.host c.args.line.now c.args.engine.now.state) _ _
-      (λ t m up down here known. front_of (CarriesOut c.args.engine.now.host c.in-Ok-Command.command) (λ outcomes kept answer next. IsAnswered outcomes c.args.engine.now.host kept c.args.line.now answer next) c.args.engine.now.state t m (λ outcomes kept answer next came. inr (inl (words.Exec c.in-Ok-Command.command, is, came))) (here known)) c.exec.ensures.moments.fronts;
+      fronts_led g.B.Shelf g.met.B.Shelf.telling _ _ (CarriesOut c.args.engine.now.host c.in-Ok-Command.command) c.args.engine.now.host (asked_by c.args.engine.now.host c.in-Ok-Command.command) c.args.engine.now.state c.args.line.now
+      (λ outcomes kept answer next came. inr (inl (words.Exec c.in-Ok-Command.command, is, came))) (λ t m since home. command_led c.args.engine.now.host c.args.line.now c.args.engine.now.state t m since home c.in-Ok-Command.command is) c.exec.ensures.moments.fronts c.exec.ensures.moments.each;
 }
 
 pub returns-in-Ok-Command-clause-answer : goal.returns-in-Ok-Command-clause-answer
@@ -91,7 +92,7 @@ returns-in-Ok-Command-clause-answer g c = record {
       let calls = DriveFailures g.B.Shelf c.args.bench.now c.exec.new.bench in
       let host = c.args.engine.now.host in
       let command = meant c.args.engine.now.state.entries c.in-Ok-Command.command in
-      command_reply (blame_of calls host c.args.engine.now.state command) (IsLostOnSite calls host) (MaySpend command) _ c.exec.result c.exec.ensures.answer.lost c.exec.ensures.answer.cause;
+      command_reply (blame_of calls host c.args.engine.now.state command) (IsLostOnSite calls host) (MaySpend c.args.engine.now.state command) _ c.exec.result c.exec.ensures.answer.lost c.exec.ensures.answer.cause;
   same = c.exec.ensures.answer.host;
   well = λ on. c.exec.ensures.answer.well (not_lost c.exec.result on);
   begun = c.exec.ensures.answer.begun;
@@ -111,8 +112,8 @@ returns-in-Ok-Tab-clause-moments g c = λ more.
     let host = c.args.engine.now.host in
     let old = c.args.engine.now.state in
     let is : IsLine c.args.line.now (words.Tab c.in-Ok-Tab.lines.now) = rw c.in-Ok-Tab.field-0-is at c.in-Ok-Tab.ensures.value in
-    moments_weaker (TurnMoment host Nothing old) (LinesMoment host (line c.args.line.now more) old) _ _
-    (λ t m turn. line_moment host c.args.line.now Nothing more old t m turn (inl (inr (words.Tab c.in-Ok-Tab.lines.now, is, refl))) (inl (no_boot c.args.line.now (words.Tab c.in-Ok-Tab.lines.now) is (λ same. cc (same))))) c.keep_tab.ensures.moments.each
+    since_weaker (TurnMoment host Nothing old) (LinesMoment host (line c.args.line.now more) old) _ _
+    (λ t m since turn. line_moment host c.args.line.now Nothing more old t m (nothing_met host t) since turn (inl (inr (words.Tab c.in-Ok-Tab.lines.now, is, refl))) (inl (no_boot c.args.line.now (words.Tab c.in-Ok-Tab.lines.now) is (λ same. cc (same))))) c.keep_tab.ensures.moments.each
 
 pub returns-in-Ok-Tab-clause-end : goal.returns-in-Ok-Tab-clause-end
 returns-in-Ok-Tab-clause-end g c = λ t told.
@@ -128,8 +129,8 @@ returns-in-Ok-Tab-clause-end g c = λ t told.
       end.0,
       end.1,
       record {
-        answered = λ knows. line_executed c.args.line.now (words.Tab lines) is outcomes replies made host old new c.keep_tab.result t end.0 end.2.answered end.2.kept (λ quiet. end.2.kept) (λ still. absurd (said_still _ c.keep_tab.ensures.answer.said c.keep_tab.result c.keep_tab.ensures.answer.cause still)) (λ same none. absurd (cc (same))) (λ ok command same. absurd (cc (same))) (λ ok same. absurd (cc (same)));
-        ran = λ on more. line_ran host c.args.line.now Nothing more old new t end.0 (end.2.turned on) (stays_still host t end.0 end.2.kept) (inl (inr (words.Tab lines, is, refl))) (inl (no_boot c.args.line.now (words.Tab lines) is (λ same. cc (same))))
+        answered = λ knows. line_executed c.args.line.now (words.Tab lines) is outcomes replies made host old new c.keep_tab.result t end.0 end.2.answered end.2.kept (λ quiet. end.2.kept) (λ still. absurd (said_still _ c.keep_tab.ensures.answer.said c.keep_tab.result c.keep_tab.ensures.answer.cause still)) (λ same none. absurd (cc (same))) (λ ok command same. absurd (cc (same))) (λ ok same. absurd (cc (same))) (λ ended command same. absurd (cc (same)));
+        ran = λ on more. line_ran host c.args.line.now Nothing more old new t end.0 (nothing_met host t) (end_since (TurnMoment host Nothing old) _ _ c.keep_tab.ensures.moments.each t end.0 told end.1) (end.2.turned on) (stays_still host t end.0 end.2.kept) (inl (inr (words.Tab lines, is, refl))) (inl (no_boot c.args.line.now (words.Tab lines) is (λ same. cc (same))))
             (λ knows. tab_entries outcomes replies made host old new c.keep_tab.result t end.0 c.args.line.now (end.2.turned on).bytes (end.2.turned on).is_told lines is end.2.answered on);
         knows = λ kept. end.2.knows;
       },
@@ -144,8 +145,8 @@ returns-in-Ok-Tab-clause-stays g c = record {
   writes = asks_none c.args.engine.now.host c.args.engine.now.state (IsWorkOf c.args.engine.now c.args.line.now) (λ s m within more. inl within) _ _ c.keep_tab.ensures.moments.each;
   tells =
       let is : IsLine c.args.line.now (words.Tab c.in-Ok-Tab.lines.now) = rw c.in-Ok-Tab.field-0-is at c.in-Ok-Tab.ensures.value in
-      moment_weaker g.B.Shelf (λ t m. Knows c.args.engine.now.host c.args.engine.now.state t.tale → TellsFront (KeepsLines c.in-Ok-Tab.lines.now) c.args.engine.now.state t m) (LineFront c.args.engine.now.host c.args.line.now c.args.engine.now.state) _ _
-      (λ t m up down here known. front_of (KeepsLines c.in-Ok-Tab.lines.now) (λ outcomes kept answer next. IsAnswered outcomes c.args.engine.now.host kept c.args.line.now answer next) c.args.engine.now.state t m (λ outcomes kept answer next came. inr (inl (words.Tab c.in-Ok-Tab.lines.now, is, came))) (here known)) c.keep_tab.ensures.moments.fronts;
+      fronts_led g.B.Shelf g.met.B.Shelf.telling _ _ (KeepsLines c.in-Ok-Tab.lines.now) c.args.engine.now.host Nothing c.args.engine.now.state c.args.line.now
+      (λ outcomes kept answer next came. inr (inl (words.Tab c.in-Ok-Tab.lines.now, is, came))) (λ t m since home. tab_led c.args.engine.now.host c.args.line.now c.args.engine.now.state t m since home c.in-Ok-Tab.lines.now is) c.keep_tab.ensures.moments.fronts c.keep_tab.ensures.moments.each;
 }
 
 pub returns-in-Ok-Tab-clause-answer : goal.returns-in-Ok-Tab-clause-answer
@@ -165,8 +166,8 @@ returns-in-Err-BadLine-clause-moments g c = λ more.
     let host = c.args.engine.now.host in
     let old = c.args.engine.now.state in
     let never : IsNoCommand c.args.line.now = rw c.in-Err-BadLine.field-0-is at c.in-Err-BadLine.ensures.fault in
-    moments_weaker (TurnMoment host Nothing old) (LinesMoment host (line c.args.line.now more) old) _ _
-    (λ t m turn. line_moment host c.args.line.now Nothing more old t m turn (inl (inl (never, refl))) (inl (never Boot))) (c.refuse.ensures.moments.line Nothing).each
+    since_weaker (TurnMoment host Nothing old) (LinesMoment host (line c.args.line.now more) old) _ _
+    (λ t m since turn. line_moment host c.args.line.now Nothing more old t m (nothing_met host t) since turn (inl (inl (never, refl))) (inl (never Boot))) (c.refuse.ensures.moments.line Nothing).each
 
 pub returns-in-Err-BadLine-clause-end : goal.returns-in-Err-BadLine-clause-end
 returns-in-Err-BadLine-clause-end g c =
@@ -182,8 +183,8 @@ returns-in-Err-BadLine-clause-end g c =
       end.0,
       end.1,
       record {
-        answered = λ knows. record { answer = refusing BadLine; done = inl (never, c.refuse.ensures.answer.calm, refused_down host old BadLine bad_line_plain replies c.refuse.result t end.0 end.2); calls = inl (never, between_of g.B.Shelf.calls g.B.Shelf.written _ _ 1 0 1 1 0 (omega arith) (omega arith) (omega arith) c.refuse.ensures.counted.once); writes = inl end.2.kept; unwritten = λ on quiet. end.2.kept; still = λ ends. absurd ends; leaves = λ on ok. absurd (cc (ok)); replied = end.2.replied };
-        ran = λ on more. line_ran host c.args.line.now Nothing more old old t end.0 (refused_turned host old BadLine bad_line_plain replies c.refuse.result t end.0 end.2 Nothing on) (stays_still host t end.0 end.2.kept) (inl (inl (never, refl))) (inl (never Boot)) (λ knows. refused_keeps host old BadLine bad_line_plain replies c.refuse.result t end.0 end.2 c.args.line.now Nothing on);
+        answered = λ knows. record { answer = refusing BadLine; done = inl (never, c.refuse.ensures.answer.calm, refused_down host old BadLine bad_line_plain replies c.refuse.result t end.0 end.2); calls = inl (never, between_of g.B.Shelf.calls g.B.Shelf.written _ _ 1 0 1 1 0 (omega arith) (omega arith) (omega arith) c.refuse.ensures.counted.once); writes = inl end.2.kept; unwritten = λ on quiet. end.2.kept; still = λ ends. absurd ends; leaves = λ on ok. absurd (cc (ok)); torn = λ on ended. absurd (cc (ended)); replied = end.2.replied };
+        ran = λ on more. line_ran host c.args.line.now Nothing more old old t end.0 (nothing_met host t) (end_since (TurnMoment host Nothing old) _ _ (c.refuse.ensures.moments.line Nothing).each t end.0 told end.1) (refused_turned host old BadLine bad_line_plain replies c.refuse.result t end.0 end.2 Nothing on) (stays_still host t end.0 end.2.kept) (inl (inl (never, refl))) (inl (never Boot)) (λ knows. refused_keeps host old BadLine bad_line_plain replies c.refuse.result t end.0 end.2 c.args.line.now Nothing on);
         knows = λ kept. refused_knows host old BadLine bad_line_plain replies c.refuse.result t end.0 end.2;
       },
     )))
@@ -197,8 +198,9 @@ returns-in-Err-BadLine-clause-stays g c = record {
   writes = asks_none c.args.engine.now.host c.args.engine.now.state (IsWorkOf c.args.engine.now c.args.line.now) (λ s m within more. inl within) _ _ (c.refuse.ensures.moments.line Nothing).each;
   tells =
       let never : IsNoCommand c.args.line.now = rw c.in-Err-BadLine.field-0-is at c.in-Err-BadLine.ensures.fault in
-      moment_weaker g.B.Shelf (AnswerFront c.args.engine.now.host (refusing BadLine) c.args.engine.now.state) (LineFront c.args.engine.now.host c.args.line.now c.args.engine.now.state) _ _
-      (λ t m up down here known. front_of (OnlyAnswers (refusing BadLine)) (λ outcomes kept answer next. IsAnswered outcomes c.args.engine.now.host kept c.args.line.now answer next) c.args.engine.now.state t m (λ outcomes kept answer next is. inl (never, is.0, only_refused BadLine outcomes kept answer next is)) (here known)) (c.refuse.ensures.moments.line Nothing).fronts;
+      fronts_led g.B.Shelf g.met.B.Shelf.telling _ _ (OnlyAnswers (refusing BadLine)) c.args.engine.now.host Nothing c.args.engine.now.state c.args.line.now
+      (λ outcomes kept answer next is. inl (never, is.0, only_refused BadLine outcomes kept answer next is)) (λ t m since home. refused_led c.args.engine.now.host c.args.line.now c.args.engine.now.state t m since home BadLine (λ bytes is. inl (inl (never, refl))) (λ bytes is. inl (never Boot)))
+      (c.refuse.ensures.moments.line Nothing).fronts (c.refuse.ensures.moments.line Nothing).each;
 }
 
 pub returns-in-Err-BadLine-clause-answer : goal.returns-in-Err-BadLine-clause-answer

@@ -1,17 +1,19 @@
+use Rattle.mdv_run_law.proofs.Since.{end_since, moments_since, since_more, since_weaker}
+use Rattle.mdv_shelf.specs.Moments.{IsSince}
 use Rattle.mdv_run.proofs.Counting.{accepted_calls, over_calls}
 use Rattle.mdv_run.proofs.Whole.{ended_unwritten, none_opened}
 use Rattle.mdv_engine_law.specs.declared.answer.Outcome.TheVariants as outcome
-use Rattle.std.proofs.Common.{◌≡◌, ◌≤◌, ◌+◌, ℕ, List, [], inl, inr, Option, refl, sym, ◌∙◌, ap, subst, arith}
+use Rattle.std.proofs.Common.{◌≡◌, ◌≤◌, ◌+◌, ℕ, List, [], inl, inr, Option, Some, refl, sym, ◌∙◌, ap, subst, arith}
 use Rattle.mdv_engine_law.specs.Line.{Nothing, ToBoot}
 use Rattle.std.proofs.lemmas.List.{append-nil}
 use Rattle.mdv_shelf.specs.Shelves.{DriveFailures, GivingFailed}
-use Rattle.mdv_run.specs.Below.{IsLine, LinesMoment, Memory, Script, line, OnReplies, Moments, Ends, told, Boot, Host, StaysHome, BootMoment, BootedTo, TurnMoment, Engine, IsLostOnSite, IsWell, Knows, IsRebooted, Tale, kept_at, site_area}
+use Rattle.mdv_run.specs.Below.{IsLine, LinesMoment, Memory, Script, line, OnReplies, Moments, Ends, told, Boot, Host, StaysHome, BootMoment, BootedTo, TurnMoment, Engine, IsLostOnSite, IsWell, IsRebooted, Tale, kept_at, site_area}
 use Rattle.mdv_run.specs.Promise.{IsWorkOf, LineEnd}
 use Rattle.mdv_run.proofs.Answering.{said_still, loud_ok, same_within, uncut_replied, line_executed, accepted_ok, accepted_turned, ended_reply, reply_more, told_reply, turn_writes}
 use Rattle.std.specs.Option.{option_map}
 use Rattle.mdv_shelf.specs.Shelves.{AtEachMoment}
 use Rattle.mdv_shelf.specs.Story.{OfTales, Story, tale_of}
-use Rattle.mdv_shelf.proofs.Noted.{moment_weaker, moments_of_tales}
+use Rattle.mdv_shelf.proofs.Noted.{moment_weaker, moment_with_tales, moments_of_tales}
 use Rattle.mdv_shelf.proofs.Stories.{moment}
 use Rattle.mdv_shelf.proofs.Telling.{each_joined, rests_behind, rests_quiet, told_behind}
 use Rattle.mdv_run.proofs.Fronts.{AnswerFront, LineFront, boot_front}
@@ -47,8 +49,9 @@ module _ (host other : Host) (same : other ≡ host) (old new : Memory) (begun :
       (λ t u m up turn. booted_turn host old new t u up begun m (subst (λ (h : Host). TurnMoment h Nothing new u m) same turn)) boots booted turns
 
   both_lines : (text : List ℕ) (more : Script) → IsLine text Boot → Moments (LinesMoment host (line text more) old) a c
-  both_lines text more is = moments_after (BootMoment host) (BootedTo host new) (TurnMoment other Nothing new) (LinesMoment host (line text more) old) a b c (λ t m moment. boot_line host text more is old t m moment)
-      (λ t u m up turn. booted_line host old new t u up begun text more is m (subst (λ (h : Host). TurnMoment h Nothing new u m) same turn)) boots booted turns
+  both_lines text more is = since_weaker (λ t m. IsSince t m → LinesMoment host (line text more) old t m) (LinesMoment host (line text more) old) a c (λ t m since moment. moment since)
+      (moments_after (BootMoment host) (BootedTo host new) (TurnMoment other Nothing new) (λ t m. IsSince t m → LinesMoment host (line text more) old t m) a b c (λ t m moment since. boot_line host text more is old t m since moment)
+      (λ t u m up turn since. booted_line host old new t u up begun text more is m since (subst (λ (h : Host). TurnMoment h Nothing new u m) same turn)) boots booted turns)
 
 pub returns-in-Ok-clause-moments : goal.returns-in-Ok-clause-moments
 returns-in-Ok-clause-moments g c = λ text more is.
@@ -79,8 +82,10 @@ returns-in-Ok-clause-end g c = λ text boots.
             (boot_too (DriveFailures g.B.Shelf c.args.bench.now c.reboot.new.shelf) (DriveFailures g.B.Shelf c.args.bench.now c.reboot.new.shelf) (same_within (DriveFailures g.B.Shelf c.args.bench.now c.reboot.new.shelf)) (made_of g.B.Shelf c.args.bench.now c.reboot.new.shelf) (and_more 1 made) (with_more g.B.Shelf.calls g.B.Shelf.written _ _ _ 1 c.accept.ensures.counted.once) host accepted new (contents t) up.2.effort))
             (turn_writes host ToBoot old _ _ (both_turns host c.reboot.new.self.host c.in-Ok.ensures.answer.host old new c.in-Ok.ensures.answer.begun _ _ _ c.reboot.ensures.moments (λ s start. (let there = c.in-Ok.ensures.end s start in (there.0, there.1, there.2.booted refl))) c.accept.ensures.moments.each) t end.0 is end.1)
             (λ quiet. absurd (loud_ok _ c.accept.result c.accept.ensures.answer.cause quiet)) (λ still. absurd (said_still _ outcome.Ok c.accept.result c.accept.ensures.answer.cause still)) (λ same none. kept_outside_more nowhere t up.0 end.0 (none_opened up.2 none) end.2.kept) (λ ok command same. absurd (cc (same)))
-            (λ ok same drive own calm. synced_still drive.0 up.0 end.0 (λ block. end.2.kept drive.0 block refl) (up.2.synced refl drive own (λ once. calm ((within_calm _ _ _ (c.accept.ensures.answer.calm drive.0)).some once))));
-        ran = λ on more. booted_ran host old new t up.0 (up.2.booted refl) c.in-Ok.ensures.answer.begun text more boots c.in-Ok.ensures.answer.fresh end.0 (accepted_turned host new _ c.accept.result up.0 end.0 end.2 on) (stays_still host up.0 end.0 end.2.kept) (accepted_ok host new _ c.accept.result up.0 end.0 end.2 on);
+            (λ ok same drive own calm. synced_still drive.0 up.0 end.0 (λ block. end.2.kept drive.0 block refl) (up.2.synced refl drive own (λ once. calm ((within_calm _ _ _ (c.accept.ensures.answer.calm drive.0)).some once))))
+            (λ ended command same. absurd (cc (same)));
+        ran = λ on more. booted_ran host old new t up.0 (up.2.booted refl) c.in-Ok.ensures.answer.begun text more boots c.in-Ok.ensures.answer.fresh end.0
+            (since_more t up.0 end.0 (end_since (BootMoment host) _ _ c.reboot.ensures.moments t up.0 is up.1) (end_since (TurnMoment c.reboot.new.self.host Nothing new) _ _ c.accept.ensures.moments.each up.0 end.0 up.1 end.1)) (accepted_turned host new _ c.accept.result up.0 end.0 end.2 on) (stays_still host up.0 end.0 end.2.kept) (accepted_ok host new _ c.accept.result up.0 end.0 end.2 on);
         knows = λ kept known. knows_kept host up.0 end.0 end.2.kept new (up.2.booted refl).knows;
       },
     )))
@@ -98,15 +103,20 @@ returns-in-Ok-clause-stays g c =
       rests = rests_behind g.B.Shelf g.met.B.Shelf.telling _ _ _ c.reboot.ensures.kept.goes quiet c.accept.ensures.moments.rests;
       writes = moments_weaker (TurnMoment host ToBoot old) (BootWorks c.args.engine.now) _ _ (λ s m turn text boots more. inr (text, more, refl, Boot, boots, turn.within))
           (both_turns host c.reboot.new.self.host c.in-Ok.ensures.answer.host old new c.in-Ok.ensures.answer.begun _ _ _ c.reboot.ensures.moments (λ s start. (let there = c.in-Ok.ensures.end s start in (there.0, there.1, there.2.booted refl))) c.accept.ensures.moments.each);
-      tells = λ text boots. each_joined (OfTales (λ t m. told m ≡ told t)) (AnswerFront host accepted new) (LineFront host text old) _ _ _ _ _ _
+      tells = λ text boots. each_joined (OfTales (λ t m. told m ≡ told t)) (λ t m. AnswerFront host accepted new t m × OfTales (λ x y. IsSince x y × TurnMoment host Nothing new x y) t m) (LineFront host text old) _ _ _ _ _ _
           (λ s u v first mid last turn there ahead m here within knows. inl here)
           (λ s u v first mid last turn m here within ahead knows.
-          let up = c.in-Ok.ensures.end (tale_of s) (g.met.B.Shelf.telling c.args.bench.now ∙ ap (λ (o : Option Story). option_map tale_of o) first) in
-          let same = some_is (g.B.Shelf.tale c.reboot.new.shelf) up.0 (tale_of u) up.1 (g.met.B.Shelf.telling c.reboot.new.shelf ∙ ap (λ (o : Option Story). option_map tale_of o) mid) in
+          let from : g.B.Shelf.tale c.args.bench.now ≡ Some (tale_of s) = g.met.B.Shelf.telling c.args.bench.now ∙ ap (λ (o : Option Story). option_map tale_of o) first in
+          let by : g.B.Shelf.tale c.reboot.new.shelf ≡ Some (tale_of u) = g.met.B.Shelf.telling c.reboot.new.shelf ∙ ap (λ (o : Option Story). option_map tale_of o) mid in
+          let up = c.in-Ok.ensures.end (tale_of s) from in
+          let same = some_is (g.B.Shelf.tale c.reboot.new.shelf) up.0 (tale_of u) up.1 by in
+          let booted : BootedTo host new (tale_of s) (tale_of u) = subst (BootedTo host new (tale_of s)) same (up.2.booted refl) in
           boot_front host old new text boots (moment s _) (moment u _) m turn (subst (λ (x : Tale). IsRebooted (DriveFailures g.B.Shelf c.args.bench.now c.reboot.new.shelf) host (kept_at old (tale_of s)) accepted (kept_at new x)) same up.2.rebooted)
-          (here (subst (λ (x : Tale). Knows host new x) same (up.2.booted refl).knows)))
+          booted c.in-Ok.ensures.answer.begun c.in-Ok.ensures.answer.fresh (since_more (tale_of s) (tale_of u) m.tale (end_since (BootMoment host) _ _ c.reboot.ensures.moments (tale_of s) (tale_of u) from by) here.1.0) here.1.1.home (here.0 booted.knows))
           (moments_of_tales g.B.Shelf g.met.B.Shelf.telling _ _ (λ t m. told m ≡ told t) c.reboot.ensures.kept.goes quiet)
-          (subst (λ (h : Host). AtEachMoment g.B.Shelf (AnswerFront h accepted new) c.reboot.new.shelf c.accept.new.bench) c.in-Ok.ensures.answer.host c.accept.ensures.moments.fronts);
+          (moment_with_tales g.B.Shelf g.met.B.Shelf.telling _ _ (AnswerFront host accepted new) (λ x y. IsSince x y × TurnMoment host Nothing new x y)
+          (subst (λ (h : Host). AtEachMoment g.B.Shelf (AnswerFront h accepted new) c.reboot.new.shelf c.accept.new.bench) c.in-Ok.ensures.answer.host c.accept.ensures.moments.fronts)
+          (moments_since (TurnMoment host Nothing new) _ _ (subst (λ (h : Host). Moments (TurnMoment h Nothing new) (g.B.Shelf.tale c.reboot.new.shelf) (g.B.Shelf.tale c.accept.new.bench)) c.in-Ok.ensures.answer.host c.accept.ensures.moments.each)));
     }
 
 -- a boot that wasn't answered
@@ -125,6 +135,7 @@ returns-in-Err-clause-end g c = λ text boots t is.
           unwritten = λ on quiet. absurd (never_ended c.in-Err.end (subst IsReplied c.reply_at.ensures on));
           still = ended_unwritten c.in-Err.end done.2;
           leaves = λ on ok. absurd (cc (ok));
+          torn = λ on ended. absurd (cc (ended));
           writes = inr (Boot, boots, subst (KeptOutside (site_area host.site) t) (some_is _ quiet.0 done.0 quiet.1 done.1) quiet.2.kept);
           replied = record { piece = []; is_told = ap told (some_is _ done.0 quiet.0 done.1 quiet.1) ∙ quiet.2.quiet ∙ sym (append-nil (told t)); as_told = (c.reply_at.ensures, refl) };
         };
@@ -137,7 +148,7 @@ pub returns-in-Err-clause-moments : goal.returns-in-Err-clause-moments
 returns-in-Err-clause-moments g c = λ text more is.
     let host = c.args.engine.now.host in
     let old = c.args.engine.now.state in
-    moments_weaker (BootMoment host) (LinesMoment host (line text more) old) _ _ (λ t m moment. boot_line host text more is old t m moment) c.reboot.ensures.moments
+    since_weaker (BootMoment host) (LinesMoment host (line text more) old) _ _ (λ t m since moment. boot_line host text more is old t m since moment) c.reboot.ensures.moments
 
 pub returns-in-Err-clause-stays : goal.returns-in-Err-clause-stays
 returns-in-Err-clause-stays g c = record {

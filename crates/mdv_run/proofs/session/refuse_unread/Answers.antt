@@ -1,9 +1,8 @@
+use Rattle.mdv_run_law.proofs.Since.{end_since, since_weaker}
 use Rattle.std.proofs.Common.{ℕ, List, ◌≤◌, ◌+◌, refl, inl, inr, ap, subst, sym, arith}
 use Rattle.mdv_base.specs.declared.refusal.Refusal.TheVariants.{OutOfMemory}
 use Rattle.mdv_shelf.proofs.Between.{between_of}
 use Rattle.mdv_shelf.proofs.Counts.{rose_at_most}
-use Rattle.mdv_shelf.proofs.Moments.{moments_weaker}
-use Rattle.mdv_shelf.proofs.Noted.{moment_weaker}
 use Rattle.mdv_shelf.specs.Made.{made_of}
 use Rattle.mdv_shelf.specs.Shelves.{DriveFailures, GivingFailed}
 use Rattle.mdv_engine_law.specs.Answers.{refusing}
@@ -14,11 +13,13 @@ use Rattle.mdv_engine_law.specs.declared.answer.Outcome.TheVariants as outcome
 use Rattle.mdv_engine_law.proofs.Plain.{memory_plain}
 use Rattle.mdv_engine_law.proofs.Staying.{turn_stays}
 use Rattle.mdv_engine.specs.Ends.{OnlyAnswers}
-use Rattle.mdv_run.specs.Below.{line, Ends, Engine, IsAnswered, IsWell, LinesMoment}
+use Rattle.mdv_run.specs.Below.{line, Ends, Engine, IsWell, LinesMoment}
 use Rattle.mdv_run.specs.Promise.{IsWorkOf, LineEnd}
-use Rattle.mdv_run.proofs.Answering.{asks_none, refused_down, refused_knows, told_reply, uncut_replied, unread_moment, unread_ran}
+use Rattle.mdv_run.proofs.Answering.{asks_none, refused_down, refused_knows, told_reply, uncut_replied, unread_moment, unread_ran, wanting_whole}
 use Rattle.mdv_run.proofs.Counting.{wider}
-use Rattle.mdv_run.proofs.Fronts.{AnswerFront, LineFront, front_of, only_refused}
+use Rattle.mdv_run.proofs.Fronts.{fronts_led, only_refused}
+use Rattle.mdv_run.proofs.Led.{refused_led}
+use Rattle.mdv_run_law.specs.Standing.{IsWanting}
 use Rattle.mdv_run.proofs.session.refuse_unread.Goals as goal
 
 pub refuse-requires : goal.refuse-requires
@@ -26,7 +27,7 @@ refuse-requires g c = memory_plain
 
 pub returns-clause-moments : goal.returns-clause-moments
 returns-clause-moments g c = λ text more.
-    moments_weaker (TellMoment (text_of (refusing OutOfMemory))) (LinesMoment c.args.engine.now.host (line text more) c.args.engine.now.state) _ _ (unread_moment c.args.engine.now.host text c.args.engine.now.state more) c.refuse.ensures.moments.tells
+    since_weaker (TellMoment (text_of (refusing OutOfMemory))) (LinesMoment c.args.engine.now.host (line text more) c.args.engine.now.state) _ _ (unread_moment c.args.engine.now.host text c.args.engine.now.state more) c.refuse.ensures.moments.tells
 
 pub returns-clause-end : goal.returns-clause-end
 returns-clause-end g c = λ text.
@@ -49,9 +50,10 @@ returns-clause-end g c = λ text.
           unwritten = λ on quiet. end.2.kept;
           still = λ ends. absurd ends;
           leaves = λ on ok. absurd (cc (ok));
+          torn = λ on ended. absurd (cc (ended));
           replied = end.2.replied;
         };
-        ran = λ on more. unread_ran host text old replies c.refuse.result t end.0 end.2 on more;
+        ran = λ on more. unread_ran host text old replies c.refuse.result t end.0 (end_since (TellMoment (text_of (refusing OutOfMemory))) _ _ c.refuse.ensures.moments.tells t end.0 told end.1) end.2 on more;
         knows = λ kept. refused_knows host old OutOfMemory memory_plain replies c.refuse.result t end.0 end.2;
       },
     )))
@@ -63,8 +65,10 @@ returns-clause-stays g c = record {
   given = λ uncut. c.refuse.ensures.counted.given (uncut_replied _ (outcome.Refused OutOfMemory) c.refuse.result c.refuse.ensures.answer.cause uncut);
   rests = (c.refuse.ensures.moments.line Nothing).rests;
   writes = asks_none c.args.engine.now.host c.args.engine.now.state (λ s m. (text : List ℕ) → Unit {0} → IsWorkOf c.args.engine.now text s m) (λ s m within text any more. inl within) _ _ (c.refuse.ensures.moments.line Nothing).each;
-  tells = λ text any. moment_weaker g.B.Shelf (AnswerFront c.args.engine.now.host (refusing OutOfMemory) c.args.engine.now.state) (LineFront c.args.engine.now.host text c.args.engine.now.state) _ _
-      (λ t m up down here known. front_of (OnlyAnswers (refusing OutOfMemory)) (λ outcomes kept answer next. IsAnswered outcomes c.args.engine.now.host kept text answer next) c.args.engine.now.state t m (λ outcomes kept answer next is. inr (inr (is.0, only_refused OutOfMemory outcomes kept answer next is))) (here known)) (c.refuse.ensures.moments.line Nothing).fronts;
+  tells = λ text any. fronts_led g.B.Shelf g.met.B.Shelf.telling _ _ (OnlyAnswers (refusing OutOfMemory)) c.args.engine.now.host Nothing c.args.engine.now.state text
+      (λ outcomes kept answer next is. inr (inr (is.0, only_refused OutOfMemory outcomes kept answer next is)))
+      (λ t m since home. refused_led c.args.engine.now.host text c.args.engine.now.state t m since home OutOfMemory (λ bytes is. inr (refl, subst IsWanting (sym is) wanting_whole)) (λ bytes is. inr (subst IsWanting (sym is) wanting_whole)))
+      (c.refuse.ensures.moments.line Nothing).fronts (c.refuse.ensures.moments.line Nothing).each;
 }
 
 pub returns-clause-answer : goal.returns-clause-answer

@@ -1,3 +1,5 @@
+use Rattle.mdv_run_law.proofs.Since.{end_since}
+use Rattle.mdv_shelf.specs.Moments.{IsSince}
 use Rattle.mdv_run.proofs.Counting.{booted_calls, only_boot, run_calls}
 use Rattle.mdv_engine_law.proofs.Kept.{kept_itself}
 use Rattle.mdv_shelf.specs.Made.{effort_of}
@@ -42,6 +44,8 @@ returns-in-Ok-clause-has_run g c = record {
       inr (whole_lines host (between g.B.Shelf c.args.bench.now c.run_lines.new.bench) start t (asked_of input) _ mid end (boot_calm g.B.Shelf c.args.bench.now c.boot.new.shelf c.args.host.site.drives (g.I.Source.faults c.args.script.now) c.boot.ensures.kept)
       done.0 lines.0 c.in-Ok.engine.state c.run_lines.result (g.B.Shelf.story c.boot.new.shelf) (effort_of g.B.Shelf c.boot.new.shelf) (point_between g.B.Shelf g.met.B.Shelf.telling _ c.boot.new.shelf _ (g.I.Source.faults c.args.script.now) done.0 done.1 (in_time_of_among c.boot.ensures.kept) silent c.run_lines.ensures.kept.goes) lines.1 (ap told (some_is _ done.0 quiet.0 done.1 quiet.1) ∙ quiet.2.quiet) done.2.rebooted (boot_too (drive_failures start mid) (drive_failures start mid) (same_within (drive_failures start mid)) _ _ (by_efforts g.B.Shelf c.args.bench.now c.boot.new.shelf) host accepted c.in-Ok.engine.state (contents t) done.2.effort) (boot_writes g.B.Shelf g.met.B.Shelf.telling host _ _ c.boot.ensures.moments)
       (λ none. from_ends g.B.Shelf g.met.B.Shelf.telling (KeptOutside nowhere) _ _ (λ s start. (let up = c.in-Ok.ensures.end s start in (up.0, up.1, none_opened up.2 none))))
+      (from_ends g.B.Shelf g.met.B.Shelf.telling (λ x y. BootedTo host c.in-Ok.engine.state x y × IsSince x y) _ _
+      (λ s start. (let up = c.in-Ok.ensures.end s start in (up.0, up.1, (up.2.booted refl, end_since (BootMoment host) _ _ c.boot.ensures.moments s up.0 start up.1)))))
       (run_earlier host (between g.B.Shelf c.boot.new.shelf c.run_lines.new.bench) (between g.B.Shelf c.args.bench.now c.run_lines.new.bench) (record { quiet = refl; uncalled = refl })
       (λ bytes piece shown some seen. shown_earlier g.B.Shelf g.met.B.Shelf.telling _ _ _ c.boot.ensures.kept.goes silent bytes piece shown some seen)
       (λ bytes drives content seen. last_earlier g.B.Shelf g.met.B.Shelf.telling _ _ _ c.boot.ensures.kept.goes silent bytes drives content seen)
@@ -50,14 +54,14 @@ returns-in-Ok-clause-has_run g c = record {
   stands = λ input left.
       let host = c.args.host in
       moments_of_tales g.B.Shelf g.met.B.Shelf.telling _ _ (RunMoment host (asked_of input)) (kept_more (kept_of_among c.boot.ensures.kept) c.run_lines.ensures.kept).goes
-      (moments_after (BootMoment host) (BootedTo host c.in-Ok.engine.state) (LinesMoment host (asked_of input) c.in-Ok.engine.state) (RunMoment host (asked_of input)) _ _ _
+      (moments_after (BootMoment host) (λ t u. IsSince t u × BootedTo host c.in-Ok.engine.state t u) (LinesMoment host (asked_of input) c.in-Ok.engine.state) (RunMoment host (asked_of input)) _ _ _
       (λ t m moment. boot_run host (asked_of input) t m moment)
-      (λ t u m booted lines. lines_run host (asked_of input) c.in-Ok.engine.state t u m c.in-Ok.ensures.answer.engine.3 c.in-Ok.ensures.answer.engine.2 booted lines)
-      c.boot.ensures.moments (λ t is. (let up = c.in-Ok.ensures.end t is in (up.0, up.1, up.2.booted refl)))
+      (λ t u m booted lines. lines_run host (asked_of input) c.in-Ok.engine.state t u c.in-Ok.ensures.answer.engine.3 c.in-Ok.ensures.answer.engine.2 booted.0 booted.1 m lines)
+      c.boot.ensures.moments (λ t is. (let up = c.in-Ok.ensures.end t is in (up.0, up.1, (end_since (BootMoment host) _ _ c.boot.ensures.moments t up.0 is up.1, up.2.booted refl))))
       (subst (λ (h : Host). Moments (LinesMoment h (asked_of input) c.in-Ok.engine.state) (g.B.Shelf.tale c.boot.new.shelf) (g.B.Shelf.tale c.run_lines.new.bench)) c.in-Ok.ensures.answer.engine.0 (c.run_lines.ensures.lines.moments input left)));
   tells = λ input left. fronts_whole g.B.Shelf g.met.B.Shelf.telling c.args.host (counts (g.B.Shelf.faults c.args.bench.now) (g.I.Source.faults c.args.script.now)) (asked_of input) _ _ _ c.in-Ok.engine.state (in_time_of_among c.boot.ensures.kept)
       (boot_calm g.B.Shelf c.args.bench.now c.boot.new.shelf c.args.host.site.drives (g.I.Source.faults c.args.script.now) c.boot.ensures.kept) c.run_lines.ensures.kept.goes (moments_weaker (BootMoment c.args.host) (IsBooting c.args.host) _ _ (λ t m moment. (moment.quiet, moment.kept)) c.boot.ensures.moments)
-      (λ t is. (let end = c.in-Ok.ensures.end t is in (end.0, end.1, (end.2.rebooted, record { booted = end.2.booted refl; synced = end.2.synced refl }, end.2.effort)))) (boot_writes g.B.Shelf g.met.B.Shelf.telling c.args.host _ _ c.boot.ensures.moments)
+      (λ t is. (let end = c.in-Ok.ensures.end t is in (end.0, end.1, (end.2.rebooted, record { booted = end.2.booted refl; since = end_since (BootMoment c.args.host) _ _ c.boot.ensures.moments t end.0 is end.1; synced = end.2.synced refl }, end.2.effort)))) (boot_writes g.B.Shelf g.met.B.Shelf.telling c.args.host _ _ c.boot.ensures.moments)
       (λ none. from_ends g.B.Shelf g.met.B.Shelf.telling (KeptOutside nowhere) _ _ (λ s start. (let up = c.in-Ok.ensures.end s start in (up.0, up.1, none_opened up.2 none))))
       (subst (λ (h : Host). AtEachMoment g.B.Shelf (RunFront h (between g.B.Shelf c.boot.new.shelf c.run_lines.new.bench) (point_at g.B.Shelf g.I.Source c.boot.new.shelf c.args.script.now) c.in-Ok.engine.state (asked_of input)) c.boot.new.shelf c.run_lines.new.bench) c.in-Ok.ensures.answer.engine.0 (c.run_lines.ensures.lines.tells input left));
   home = let host = c.args.host in

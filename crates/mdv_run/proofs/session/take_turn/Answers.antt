@@ -1,3 +1,6 @@
+use Rattle.mdv_run_law.proofs.Since.{end_since, moments_since, since_weaker}
+use Rattle.mdv_shelf.specs.Moments.{IsSince}
+use Rattle.mdv_shelf.proofs.Noted.{moment_with_tales}
 use Rattle.mdv_run.proofs.Counting.{line_took, long_took}
 use Rattle.mdv_run.specs.Calls.{TurnTook}
 use Rattle.mdv_shelf.proofs.Counts.{rose_at_most}
@@ -15,7 +18,7 @@ use Rattle.mdv_engine_law.proofs.Kept.{kept_itself}
 use Rattle.mdv_run.proofs.Keeping.{in_time_itself}
 use Rattle.mdv_run.proofs.Fronts.{AnswerFront, LineFront, ScriptFront, line_front, long_front, still_front}
 use Rattle.mdv_shelf.proofs.Moments.{moments_none, moments_weaker, some_is}
-use Rattle.mdv_shelf.specs.Story.{tale_of}
+use Rattle.mdv_shelf.specs.Story.{OfTales, tale_of}
 use Rattle.mdv_engine_law.proofs.Plain.{too_long_plain}
 use Rattle.mdv_run.specs.declared.session.Turn.{Turn}
 use Rattle.mdv_run.specs.Promise.{IsWorkOf, TurnEnd, TurnWrites, point_at}
@@ -25,7 +28,7 @@ use Rattle.mdv_shelf.specs.Area.{nowhere}
 use Rattle.mdv_run.specs.Turns.{HasTurnCause}
 use Rattle.mdv_run_law.proofs.Lining.{lines_start}
 use Rattle.mdv_run_law.proofs.Turning.{long_moment, long_ran}
-use Rattle.mdv_run.proofs.Leading.{passes_in_time, end_is, spent_is, long_is, item_is, leads_line, leads_long, on_replied, led_on, lost_reply, ended_turn, unread_turn, same_left, turn_cause}
+use Rattle.mdv_run.proofs.Leading.{passes_in_time, end_is, spent_is, long_is, item_is, leads_line, leads_long, on_replied, lost_reply, ended_turn, unread_turn, same_left, turn_cause}
 use Rattle.mdv_engine_law.proofs.Staying.{nothing_stays, stays_still, turn_stays}
 use Rattle.mdv_base.specs.declared.refusal.Refusal.TheVariants.{LineTooLong}
 use Rattle.mdv_run.proofs.Answering.{answered_too, asks_none, uncut_replied, told_reply, refused_turned, refused_down, refused_knows}
@@ -61,7 +64,7 @@ returns-in-Ok-Item-clause-end g c = λ lines before t told.
           (record {
             turns = λ knows. leads_line now last c.answer_item.result (record { drives = λ drive. c.answer_item.ensures.kept.keeps.no_fewer_faults (OnDrive drive); source = c.in-Ok-Item.ensures.cause.calm; replies = c.answer_item.ensures.kept.keeps.no_fewer_faults OnReplies; given = c.answer_item.ensures.stays.given })
                 host old new c.args.any_refused lines script.0 script.1 rest t end.0 (passes_in_time g.B.Shelf g.met.B.Shelf.telling _ _ _ _ t end.0 c.answer_item.ensures.kept told end.1) script.2 script.4 (answered_too (made_between now.effort last.effort) (by_efforts g.B.Shelf c.args.bench.now c.answer_item.new.bench) (end.2.answered knows))
-                (λ on. led_on host (line script.1 script.0) script.0 old new t end.0 (end.2.ran on script.0));
+                (λ on. end.2.ran on script.0);
             ran = λ on left is. subst (λ (s : Script). RanTo host s old new left t end.0) (sym script.2)
                 (subst (λ (s : Script). RanTo host (line script.1 s) old new left t end.0) (sym (same_left left script.0 is script.4)) (end.2.ran (on_replied c.answer_item.result c.args.any_refused _ refl on) left));
             knows = λ kept. end.2.knows (λ lost. kept (lost_reply c.answer_item.result c.args.any_refused lost));
@@ -112,8 +115,8 @@ returns-in-Ok-TooLong-clause-moments g c = λ lines before.
     let old = c.args.engine.now.state in
     let reads : IsItemTurn lines TooLong c.next.new.self (g.I.Source.left c.next.new.source) = rw c.in-Ok-TooLong.field-0-is at (c.in-Ok-TooLong.ensures.reads lines before) in
     let script = long_is lines c.next.new.self (g.I.Source.left c.next.new.source) reads in
-    moments_weaker (TurnMoment host Nothing old) (LinesMoment host lines old) _ _
-    (λ t m turn. subst (λ (s : Script). LinesMoment host s old t m) (sym script.1) (long_moment host script.0 old t m turn)) (c.refuse.ensures.moments.line Nothing).each
+    since_weaker (TurnMoment host Nothing old) (LinesMoment host lines old) _ _
+    (λ t m since turn. subst (λ (s : Script). LinesMoment host s old t m) (sym script.1) (long_moment host script.0 old t m since turn)) (c.refuse.ensures.moments.line Nothing).each
 
 pub returns-in-Ok-TooLong-clause-end : goal.returns-in-Ok-TooLong-clause-end
 returns-in-Ok-TooLong-clause-end g c = λ lines before t told.
@@ -124,7 +127,8 @@ returns-in-Ok-TooLong-clause-end g c = λ lines before t told.
     let rest = asked_before c.next.new.self.reader (g.I.Source.left c.next.new.source) in
     let reads : IsItemTurn lines TooLong c.next.new.self (g.I.Source.left c.next.new.source) = rw c.in-Ok-TooLong.field-0-is at (c.in-Ok-TooLong.ensures.reads lines before) in
     let script = long_is lines c.next.new.self (g.I.Source.left c.next.new.source) reads in
-    let end = c.refuse.ensures.end t told in (
+    let end = c.refuse.ensures.end t told in
+    let since = end_since (TurnMoment host Nothing old) _ _ (c.refuse.ensures.moments.line Nothing).each t end.0 told end.1 in (
       end.0,
       end.1,
       subst (λ (e : Engine). TurnEnd host now last old e.state c.args.any_refused lines rest c.turn_of-in-Ok-TooLong.result t end.0) (sym c.refuse.ensures.answer.same)
@@ -133,11 +137,11 @@ returns-in-Ok-TooLong-clause-end g c = λ lines before t told.
             turns = λ knows. leads_long now last c.refuse.result (record { drives = λ drive. c.refuse.ensures.kept.keeps.no_fewer_faults (OnDrive drive); source = c.in-Ok-TooLong.ensures.cause.calm; replies = c.refuse.ensures.kept.keeps.no_fewer_faults OnReplies; given = λ uncut. c.refuse.ensures.counted.given (uncut_replied _ (outcome.Refused LineTooLong) c.refuse.result c.refuse.ensures.answer.cause uncut) }) c.refuse.ensures.answer.calm
                 host old c.args.any_refused lines script.0 rest t end.0 (passes_in_time g.B.Shelf g.met.B.Shelf.telling _ _ _ _ t end.0 c.refuse.ensures.kept told end.1) script.1 script.2 (refused_down host old LineTooLong too_long_plain _ c.refuse.result t end.0 end.2) end.2.replied end.2.kept
                 ((by_efforts g.B.Shelf c.args.bench.now c.refuse.new.bench).within 1 1 0 (between_of g.B.Shelf.calls g.B.Shelf.written _ _ 1 0 1 1 0 (omega arith) (omega arith) (omega arith) c.refuse.ensures.counted.once))
-                (λ on. led_on host (too_long script.0) script.0 old old t end.0 (long_ran host script.0 old t end.0 (refused_turned host old LineTooLong too_long_plain _ c.refuse.result t end.0 end.2 Nothing on) (stays_still host t end.0 end.2.kept)));
+                (λ on. long_ran host script.0 old t end.0 since (refused_turned host old LineTooLong too_long_plain _ c.refuse.result t end.0 end.2 Nothing on) (stays_still host t end.0 end.2.kept));
             ran = λ on left is.
                 let turned = refused_turned host old LineTooLong too_long_plain _ c.refuse.result t end.0 end.2 Nothing (on_replied c.refuse.result c.args.any_refused _ refl on) in
                 subst (λ (s : Script). RanTo host s old old left t end.0) (sym script.1)
-                (subst (λ (s : Script). RanTo host (too_long s) old old left t end.0) (sym (same_left left script.0 is script.2)) (long_ran host left old t end.0 turned (stays_still host t end.0 end.2.kept)));
+                (subst (λ (s : Script). RanTo host (too_long s) old old left t end.0) (sym (same_left left script.0 is script.2)) (long_ran host left old t end.0 since turned (stays_still host t end.0 end.2.kept)));
             knows = λ kept. refused_knows host old LineTooLong too_long_plain _ c.refuse.result t end.0 end.2;
           })),
     )
@@ -171,8 +175,10 @@ returns-in-Ok-TooLong-clause-stays g c = record {
   tells = λ lines before.
       let reads : IsItemTurn lines TooLong c.next.new.self (g.I.Source.left c.next.new.source) = rw c.in-Ok-TooLong.field-0-is at (c.in-Ok-TooLong.ensures.reads lines before) in
       let script = long_is lines c.next.new.self (g.I.Source.left c.next.new.source) reads in
-      each_within (AnswerFront c.args.engine.now.host (refusing LineTooLong) c.args.engine.now.state) (ScriptFront c.args.engine.now.host (point_at g.B.Shelf g.I.Source c.args.bench.now c.args.script.now) c.args.engine.now.state c.args.any_refused lines) _ _ _ _
-      (λ s u first last m there here within known. long_front c.args.engine.now.host c.args.engine.now.state (point_at g.B.Shelf g.I.Source c.args.bench.now c.args.script.now) c.args.any_refused (moment s _) m refl within.counts.0 (λ x at. ap tale_of (some_is _ x s at first)) lines script.0 script.1 (here known)) (c.refuse.ensures.moments.line Nothing).fronts;
+      each_within (λ t m. AnswerFront c.args.engine.now.host (refusing LineTooLong) c.args.engine.now.state t m × OfTales (λ x y. IsSince x y × TurnMoment c.args.engine.now.host Nothing c.args.engine.now.state x y) t m) (ScriptFront c.args.engine.now.host (point_at g.B.Shelf g.I.Source c.args.bench.now c.args.script.now) c.args.engine.now.state c.args.any_refused lines) _ _ _ _
+      (λ s u first last m there here within known. long_front c.args.engine.now.host c.args.engine.now.state (point_at g.B.Shelf g.I.Source c.args.bench.now c.args.script.now) c.args.any_refused (moment s _) m refl within.counts.0 (λ x at. ap tale_of (some_is _ x s at first)) lines script.0 script.1 here.1.0 here.1.1.home (here.0 known))
+      (moment_with_tales g.B.Shelf g.met.B.Shelf.telling _ _ (AnswerFront c.args.engine.now.host (refusing LineTooLong) c.args.engine.now.state) (λ x y. IsSince x y × TurnMoment c.args.engine.now.host Nothing c.args.engine.now.state x y) (c.refuse.ensures.moments.line Nothing).fronts
+      (moments_since (TurnMoment c.args.engine.now.host Nothing c.args.engine.now.state) _ _ (c.refuse.ensures.moments.line Nothing).each));
 }
 
 -- the end of the script, a limit, and a source that failed

@@ -1,3 +1,4 @@
+use Rattle.mdv_run_law.proofs.Fair.{fair_lines_meet_none}
 use Rattle.mdv_run_law.proofs.Living.{lives_stand, hosts_see, database_is_found, blocks_hold}
 use Rattle.mdv_run_law.proofs.law.lives_stand.Goals as goal
 
@@ -12,3 +13,6 @@ returns-clause-found c = database_is_found
 
 pub returns-clause-blocks : goal.returns-clause-blocks
 returns-clause-blocks c = blocks_hold
+
+pub returns-clause-fair : goal.returns-clause-fair
+returns-clause-fair c = fair_lines_meet_none

@@ -1,6 +1,6 @@
 use Rattle.mdv_theorem.proofs.Alone.{runs_find_enough, runs_find_one}
-use Rattle.mdv_theorem.proofs.Bearing.{runs_keep_enough}
 use Rattle.mdv_theorem.proofs.Databases.{databases_stay}
+use Rattle.mdv_theorem.proofs.Keeping.{runs_keep_enough}
 use Rattle.mdv_theorem.proofs.law.databases_stay.Goals as goal
 
 pub returns-clause-stay : goal.returns-clause-stay

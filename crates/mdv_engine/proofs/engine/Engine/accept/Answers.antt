@@ -8,7 +8,7 @@ use Rattle.mdv_engine_law.specs.Answers.{accepted}
 use Rattle.mdv_engine_law.proofs.Executing.{reply_cause}
 use Rattle.mdv_engine_law.proofs.Fronts.{fronts_alone, telling_rests}
 use Rattle.mdv_engine_law.proofs.Longer.{replied_more}
-use Rattle.mdv_engine_law.proofs.Turning.{ok_told}
+use Rattle.mdv_engine_law.proofs.Turning.{accepted_none, ok_told}
 use Rattle.mdv_engine.specs.Ends.{OnlyAnswers}
 use Rattle.mdv_engine.proofs.Counting.{calm_given, only_told}
 use Rattle.mdv_engine.proofs.engine.Engine.accept.Goals as goal
@@ -18,7 +18,7 @@ returns-clause-moments g c =
     let host = c.args.self.now.host in
     let memory = c.args.self.now.state in record {
       each = moments_weaker (TellMoment (text_of accepted)) (TurnMoment host Nothing memory) _ _ (ok_told host memory) c.tell.ensures.fronts;
-      fronts = fronts_alone g.B.Shelf g.met.B.Shelf.telling _ _ (OnlyAnswers accepted) host memory accepted memory (λ failures calm content. (calm, refl, refl)) c.tell.ensures.kept.goes (c.tell.ensures.counted.drives) c.tell.ensures.fronts;
+      fronts = fronts_alone g.B.Shelf g.met.B.Shelf.telling _ _ (OnlyAnswers accepted) host Nothing memory accepted memory tt (accepted_none host memory) (λ failures calm content. (calm, refl, refl)) c.tell.ensures.kept.goes (c.tell.ensures.counted.drives) c.tell.ensures.fronts;
       rests = telling_rests g.B.Shelf g.met.B.Shelf.telling _ _ (text_of accepted) c.tell.ensures.kept.goes c.tell.ensures.fronts c.tell.ensures.counted.drives;
     }
 

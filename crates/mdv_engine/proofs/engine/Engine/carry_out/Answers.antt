@@ -1,4 +1,4 @@
-use Rattle.std.proofs.Common.{List, inl, refl, subst, sym}
+use Rattle.std.proofs.Common.{List, refl, subst, sym}
 use Rattle.mdv_base.specs.declared.name.Named.{Named}
 use Rattle.mdv_words.specs.declared.command.Command.{Command}
 use Rattle.mdv_engine_law.specs.declared.answer.Answer.TheVariants.{Said}
@@ -6,17 +6,9 @@ use Rattle.mdv_engine.specs.Counts.{IsCommandCounted}
 use Rattle.mdv_engine.specs.Printing.{HasPrinted}
 use Rattle.mdv_engine_law.specs.Line.{Nothing}
 use Rattle.mdv_shelf.specs.Shelves.{DriveFailures}
-use Rattle.mdv_engine.proofs.Blocks.{moments_still, refused_carried}
+use Rattle.mdv_engine.proofs.Blocks.{moments_still}
 use Rattle.mdv_engine.proofs.Printing.{print_answer, print_counted, print_ends}
-use Rattle.mdv_engine_law.proofs.Plain.{refusal_plain}
-use Rattle.mdv_engine_law.specs.Answers.{refusing}
-use Rattle.mdv_engine_law.specs.Commands as came
-use Rattle.mdv_engine_law.specs.Commands.{MaySpend, blame_of}
-use Rattle.mdv_engine.specs.Below.{DropPlaces, meant}
-use Rattle.mdv_engine.specs.Engine.{case_at}
-use Rattle.mdv_engine.proofs.Counting.{refused_counted}
-use Rattle.mdv_engine.proofs.Ending.{refused_answer, refused_ends}
-use Rattle.mdv_engine.proofs.Judged.{IsJudged, drop_judged, judged_mere, judged_said}
+use Rattle.mdv_engine.specs.Below.{meant}
 use Rattle.mdv_engine.proofs.engine.Engine.carry_out.Goals as goal
 
 pub returns-in-AddPlaces-clause-end : goal.returns-in-AddPlaces-clause-end
@@ -74,30 +66,17 @@ returns-in-Print-clause-counted g c =
     subst (λ (x : Command). IsCommandCounted g.S.Shelf c.args.shelf.now c.args.shelf.now c.args.self.now.host (meant c.args.self.now.state.entries x) (Said c.print.result) c.args.self.now.state.opened c.args.self.now.state.opened) (sym c.in-Print.is)
     (print_counted g.S.Shelf c.args.shelf.now c.args.self.now.host c.in-Print.names c.args.self.now.state c.print.result has c.args.self.now.state.opened)
 
+pub returns-in-DropPlaces-clause-moments : goal.returns-in-DropPlaces-clause-moments
+returns-in-DropPlaces-clause-moments g c = rw (c.in-DropPlaces.is) (rw (← c.as_slice-in-DropPlaces.ensures) c.drop_places.ensures.moments)
+
 pub returns-in-DropPlaces-clause-end : goal.returns-in-DropPlaces-clause-end
-returns-in-DropPlaces-clause-end g c =
-    let v = c.args.self.now in
-    let is = rw c.as_slice-in-DropPlaces.ensures at c.drop_refusal-refusal.ensures in
-    rw (c.in-DropPlaces.is)
-    (refused_ends _ v Nothing (DropPlaces c.in-DropPlaces.slices c.in-DropPlaces.force) c.drop_refusal-refusal.result _ _
-    (λ t start. (t, start, λ known. came.refused (λ drive. refl) c.drop_refusal-refusal.result is (refl, record { memory = refl; content = λ drive block. refl })))
-    (refused_carried v.host Nothing v.state _ _ refl c.drop_refusal-refusal.result))
+returns-in-DropPlaces-clause-end g c = rw (c.in-DropPlaces.is) (rw (← c.as_slice-in-DropPlaces.ensures) c.drop_places.ensures.end)
 
 pub returns-in-DropPlaces-clause-answer : goal.returns-in-DropPlaces-clause-answer
-returns-in-DropPlaces-clause-answer g c =
-    let v = c.args.self.now in
-    let calls = DriveFailures g.S.Shelf c.args.shelf.now c.args.shelf.now in
-    let asked = DropPlaces c.in-DropPlaces.slices c.in-DropPlaces.force in
-    let is = rw c.as_slice-in-DropPlaces.ensures at c.drop_refusal-refusal.ensures in
-    let judged = drop_judged (case_at v) c.in-DropPlaces.slices c.in-DropPlaces.force c.drop_refusal-refusal.result is in
-    rw (c.in-DropPlaces.is)
-    (refused_answer calls asked v c.requires.well c.drop_refusal-refusal.result (judged_said (blame_of calls v.host v.state asked) (MaySpend asked) c.drop_refusal-refusal.result judged (λ drive. refl)) (refusal_plain (case_at v) asked c.drop_refusal-refusal.result is)
-    (inl (judged_mere c.drop_refusal-refusal.result judged)))
+returns-in-DropPlaces-clause-answer g c = rw (c.in-DropPlaces.is) (rw (← c.as_slice-in-DropPlaces.ensures) c.drop_places.ensures.answer)
 
 pub returns-in-DropPlaces-clause-counted : goal.returns-in-DropPlaces-clause-counted
-returns-in-DropPlaces-clause-counted g c =
-    let v = c.args.self.now in
-    let is = rw c.as_slice-in-DropPlaces.ensures at c.drop_refusal-refusal.ensures in
-    subst (λ (x : Command). IsCommandCounted g.S.Shelf c.args.shelf.now c.args.shelf.now v.host (meant v.state.entries x) (refusing c.drop_refusal-refusal.result) v.state.opened v.state.opened) (sym c.in-DropPlaces.is)
-    (refused_counted g.S.Shelf _ _ v.host (DropPlaces c.in-DropPlaces.slices c.in-DropPlaces.force) c.drop_refusal-refusal.result _ _
-    (λ fault. absurd (subst IsJudged fault (drop_judged (case_at v) c.in-DropPlaces.slices c.in-DropPlaces.force c.drop_refusal-refusal.result is))) refl)
+returns-in-DropPlaces-clause-counted g c = rw (c.in-DropPlaces.is) (rw (← c.as_slice-in-DropPlaces.ensures) c.drop_places.ensures.counted)
+
+pub returns-in-DropPlaces-clause-kept : goal.returns-in-DropPlaces-clause-kept
+returns-in-DropPlaces-clause-kept g c = rw (c.in-DropPlaces.is) (rw (← c.as_slice-in-DropPlaces.ensures) c.drop_places.ensures.kept)

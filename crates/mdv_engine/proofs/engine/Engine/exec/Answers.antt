@@ -1,27 +1,24 @@
-use Rattle.std.proofs.Common.{◌≡◌, inl, inr, ◌∙◌, ap, subst, sym, Contains, List}
-use Rattle.mdv_engine_law.proofs.Listing.{meant_asks}
-use Rattle.mdv_engine_law.specs.Line.{deeds}
-use Rattle.mdv_engine_law.specs.Standing.{IsBare}
-use Rattle.mdv_engine.specs.Below.{Created, Deed, key_of, meant, told, KeptOutside, nowhere, OnReplies, Ends, Tale, asked_by, text_of, CarriedTo, CarryMoment, TellMoment, TurnMoment}
+use Rattle.std.proofs.Common.{◌≡◌, inl, inr, ◌∙◌, ap, subst, sym}
+use Rattle.mdv_engine.specs.Below.{IoFault, meant, told, KeptOutside, nowhere, OnReplies, Ends, Tale, asked_by, text_of, CarriedTo, CarryMoment, TellMoment, TurnMoment}
 use Rattle.mdv_shelf.proofs.Moments.{moments_after, moments_end, moments_weaker, some_is}
 use Rattle.mdv_shelf.proofs.Telling.{rests_behind, told_behind, told_once}
 use Rattle.mdv_words.specs.Line as words
 use Rattle.mdv_engine_law.proofs.Executing.{came_more, command_cause, executed}
 use Rattle.mdv_base.proofs.Causes.{calm_before, within_calm}
-use Rattle.mdv_engine_law.proofs.Widening.{AreWithin, blamed_more}
+use Rattle.mdv_engine_law.proofs.Widening.{AreWithin, blamed_more, within_itself}
 use Rattle.mdv_engine_law.proofs.Longer.{replied_more}
 use Rattle.mdv_engine_law.proofs.Fronts.{fronts_then, telling_rests}
-use Rattle.mdv_engine_law.proofs.Writing.{done_still}
+use Rattle.mdv_engine_law.proofs.Writing.{done_more, done_still, torn_more, torn_still}
 use Rattle.mdv_engine_law.proofs.Turning.{Carried, carried_ends, turn_carry, turn_tell, turned, knows_after}
 use Rattle.mdv_engine.specs.Ends.{CarriesOut, LeavesMade}
 use Rattle.mdv_engine_law.specs.Efforts.{LossCalls}
 use Rattle.mdv_engine.specs.Counts.{HasTriedAll}
 use Rattle.mdv_shelf.specs.Made.{made_of}
-use Rattle.mdv_engine_law.specs.Replies.{IsAccepted, IsLost}
+use Rattle.mdv_engine_law.specs.Replies.{IsLost}
 use Rattle.mdv_engine_law.specs.Commands.{MaySpend, blame_of}
 use Rattle.mdv_shelf.specs.Shelves.{DriveFailures}
 use Rattle.mdv_engine.proofs.Asked.{asked_goes, asked_replies, asked_then}
-use Rattle.mdv_engine.proofs.Counting.{calm_given, command_calls, command_most, done_told, replied_calls, then_told, done_then, fault_then, fault_told, lost_told, mere_most, none_within, not_lost, quiet_answer, quiet_told, said_of, spent_told, told_lost, told_ok, unlooked_told, unwritten_told, wanting_told, whole_or_lost}
+use Rattle.mdv_engine.proofs.Counting.{calm_given, command_calls, command_most, done_told, replied_calls, then_told, done_then, fault_then, fault_told, halted_told, lost_told, mere_most, none_within, not_lost, quiet_answer, quiet_told, said_of, spent_told, told_lost, told_ok, told_refusal, unlooked_told, unwritten_told, wanting_told, whole_or_lost}
 use Rattle.mdv_engine.proofs.Ending.{leaves_more}
 use Rattle.mdv_engine.proofs.Losing.{site_more}
 use Rattle.mdv_engine.proofs.engine.Engine.exec.Goals as goal
@@ -40,13 +37,13 @@ returns-clause-moments g c =
     record {
       each = moments_after (CarryMoment host asked old) (Carried host asked old new answer) (TellMoment (text_of answer)) (TurnMoment host asked old) _ _ _
           (λ t m carry. turn_carry host asked old t m carry)
-          (λ t u m both tell. turn_tell host asked old new answer (λ on has. says.free on (subst (λ (deeds : List Deed). Contains deeds (Created (key_of host))) (sym (meant_asks host old.entries c.args.command.now)) has)) says.plain t u both.0 both.1 m tell)
+          (λ t u m both tell. turn_tell host asked old new answer says.plain t u both.0 both.1 m tell)
           c.carry_out-answer.ensures.moments (carried_ends host asked old new answer _ _ c.carry_out-answer.ensures.moments carried) c.tell.ensures.fronts;
-      fronts = fronts_then g.B.Shelf g.met.B.Shelf.telling _ _ _ (CarriesOut host c.args.command.now) host old answer new
+      fronts = fronts_then g.B.Shelf g.met.B.Shelf.telling _ _ _ (CarriesOut host c.args.command.now) host asked old answer new says.plain
           (λ failed more cause kept next is. came_more failed more cause host kept next answer (meant kept.memory.entries c.args.command.now) is)
           goes
           (moments_weaker (CarryMoment host asked old) (λ t m. told m ≡ told t) _ _ (λ t m moment. moment.quiet) c.carry_out-answer.ensures.moments)
-          (λ t is. (let end = c.carry_out-answer.ensures.end t is in (end.0, end.1, end.2.carry.answered)))
+          (λ t is. (let end = c.carry_out-answer.ensures.end t is in (end.0, end.1, record { answered = end.2.carry.answered; carried = end.2.carry.carried })))
           (λ is. quiet_answer g.B.Shelf _ _ host command old.opened new.opened answer is c.carry_out-answer.ensures.counted)
           c.tell.ensures.kept.goes c.tell.ensures.counted.drives c.tell.ensures.fronts;
       rests = rests_behind g.B.Shelf g.met.B.Shelf.telling _ _ _ goes
@@ -64,7 +61,7 @@ returns-clause-end g c = λ t is.
     let says = c.carry_out-answer.ensures.answer in
     let command = meant c.args.self.now.state.entries c.args.command.now in
     let unfailed = asked_replies g.B.Shelf host old _ _ command c.carry_out-answer.ensures.kept in
-    let free : IsAccepted answer → Contains (deeds asked) (Created (key_of host)) → IsBare old = λ on has. says.free on (subst (λ (deeds : List Deed). Contains deeds (Created (key_of host))) (sym (meant_asks host old.entries c.args.command.now)) has) in
+    let calls = DriveFailures g.B.Shelf c.args.bench.now c.carry_out-answer.new.shelf in
     let carry = moments_end (CarryMoment host asked old) _ _ c.carry_out-answer.ensures.moments t is in
     let done = c.carry_out-answer.ensures.end t is in
     let end = c.tell.ensures.told done.0 done.1 in
@@ -76,9 +73,9 @@ returns-clause-end g c = λ t is.
             (λ drive. within_calm _ _ _ (c.tell.ensures.counted.drives drive))
             (calm_before _ _ _ unfailed).some
             quiet (done.2.carry.answered known) end.2
-            (replied_calls g.B.Shelf _ _ _ _ host command old.opened new.opened answer c.tell.result _ c.tell.ensures.answers.1 c.tell.ensures.counted.once c.tell.ensures.counted.silent
+            (replied_calls g.B.Shelf _ _ _ _ host command old.opened new.opened answer c.tell.result _ calls calls (within_itself calls) c.tell.ensures.answers.1 c.tell.ensures.counted.once c.tell.ensures.counted.silent
             (command_calls g.B.Shelf _ _ host command old.opened new.opened answer c.carry_out-answer.ensures.counted));
-        turned = λ on. turned host asked old new _ t done.0 end.0 quiet answer says.plain free done.2.carry.carried c.tell.result on end.2;
+        turned = λ on. turned host asked old new _ t done.0 end.0 quiet answer says.plain done.2.carry.carried c.tell.result on end.2;
         knows = λ on. knows_after host asked old new _ t done.0 end.0 quiet answer done.2.carry.carried c.tell.result on end.2;
         quiet = λ still.
             let same = quiet_told g.B.Shelf _ _ host command old.opened new.opened _ answer c.tell.result _ c.tell.ensures.answers.1 still c.carry_out-answer.ensures.counted in
@@ -86,12 +83,17 @@ returns-clause-end g c = λ t is.
         spent = λ ended.
             let same = ap g.B.Shelf.tale (spent_told g.B.Shelf _ _ host command old.opened new.opened _ answer c.tell.ensures.answers.0 (rw ended at c.tell.ensures.answers.1) c.carry_out-answer.ensures.counted) in
             subst (λ (x : Tale). KeptOutside nowhere x end.0) (some_is _ done.0 t done.1 (same ∙ is)) end.2.kept;
-        done = λ ok. done_still host old command done.0 end.0 end.2.kept (done.2.done (told_ok _ answer _ (rw ok at c.tell.ensures.answers.1)));
-        lost = λ active listed is.
+        done = λ known ok.
+            let within : AreWithin calls (DriveFailures g.B.Shelf c.args.bench.now c.tell.new.bench) = λ drive. within_calm _ _ _ (c.tell.ensures.counted.drives drive) in
+            done_more host old _ _ within command end.0 (done_still host old calls command done.0 end.0 end.2.kept (done.2.done known (told_ok _ answer _ (rw ok at c.tell.ensures.answers.1))));
+        lost = λ known active listed is.
             let same = ap g.B.Shelf.tale (c.tell.ensures.counted.silent (subst IsLost (sym is) tt)) in
             let within : AreWithin (DriveFailures g.B.Shelf c.args.bench.now c.carry_out-answer.new.shelf) (DriveFailures g.B.Shelf c.args.bench.now c.tell.new.bench) = λ drive. within_calm _ _ _ (c.tell.ensures.counted.drives drive) in
             leaves_more _ _ within host old command active listed end.0
-            (subst (LeavesMade _ host old command active listed) (some_is _ done.0 end.0 (same ∙ done.1) end.1) (done.2.lost active listed (told_lost _ answer active listed c.tell.ensures.answers.0 (rw is at c.tell.ensures.answers.1))));
+            (subst (LeavesMade _ host old command active listed) (some_is _ done.0 end.0 (same ∙ done.1) end.1) (done.2.lost known active listed (told_lost _ answer active listed c.tell.ensures.answers.0 (rw is at c.tell.ensures.answers.1))));
+        torn = λ known is.
+            let within : AreWithin calls (DriveFailures g.B.Shelf c.args.bench.now c.tell.new.bench) = λ drive. within_calm _ _ _ (c.tell.ensures.counted.drives drive) in
+            torn_more host old _ _ within command end.0 (torn_still host old calls command done.0 end.0 end.2.kept (done.2.torn known (told_refusal _ answer IoFault _ (rw is at c.tell.ensures.answers.1))));
       },
     )
 
@@ -104,7 +106,7 @@ returns-clause-answer g c = record {
       let all = DriveFailures g.B.Shelf c.args.bench.now c.tell.new.bench in
       let within : AreWithin calls all = λ drive. within_calm _ _ _ (c.tell.ensures.counted.drives drive) in
       let unfailed = asked_replies g.B.Shelf host c.args.self.now.state _ _ command c.carry_out-answer.ensures.kept in
-      command_cause (blame_of calls host c.args.self.now.state command) (blame_of all host c.args.self.now.state command) (blamed_more calls all within host c.args.self.now.state command) (MaySpend command) _ _ c.tell.ensures.answers.0
+      command_cause (blame_of calls host c.args.self.now.state command) (blame_of all host c.args.self.now.state command) (blamed_more calls all within host c.args.self.now.state command) (MaySpend c.args.self.now.state command) _ _ c.tell.ensures.answers.0
       (calm_before _ _ _ unfailed).some
       c.carry_out-answer.result c.tell.result c.carry_out-answer.ensures.answer.cause c.tell.ensures.answers.1;
   lost = λ active listed is.
@@ -127,18 +129,22 @@ returns-clause-counted g c =
     let answers = c.tell.ensures.answers.1 in
     let goes = asked_goes g.B.Shelf host c.args.self.now.state _ _ command c.carry_out-answer.ensures.kept in
     let unfailed = asked_replies g.B.Shelf host c.args.self.now.state _ _ command c.carry_out-answer.ensures.kept in
+    let calls = DriveFailures g.B.Shelf c.args.bench.now c.carry_out-answer.new.shelf in
+    let all = DriveFailures g.B.Shelf c.args.bench.now c.tell.new.bench in
+    let within : AreWithin calls all = λ drive. within_calm _ _ _ (c.tell.ensures.counted.drives drive) in
     record {
       most = then_told g.B.Shelf _ _ _ c.tell.result _ _ (command_most g.B.Shelf _ _ host command before now answer by) c.tell.ensures.counted;
       few = elim c.carry_out-answer.ensures.answer.few [
         | inl mere ↦ inl (then_told g.B.Shelf _ _ _ c.tell.result 1 0 (mere_most g.B.Shelf _ _ host command before now answer mere by) c.tell.ensures.counted)
         | inr few ↦ inr few
       ];
-      done = λ is. done_then g.B.Shelf _ _ _ host command before now (done_told g.B.Shelf _ _ host command before now _ answer piece (rw is at answers) by).exactly (c.tell.ensures.counted.once (λ lost. subst IsLost is lost));
+      done = λ is. done_then g.B.Shelf _ _ _ host command before now calls all within (done_told g.B.Shelf _ _ host command before now _ answer piece (rw is at answers) by).exactly (c.tell.ensures.counted.once (λ lost. subst IsLost is lost));
       wrote = λ is. (_, (done_told g.B.Shelf _ _ host command before now _ answer piece (rw is at answers) by).wrote, c.tell.ensures.counted.once (λ lost. subst IsLost is lost));
       unlooked = λ is. then_told g.B.Shelf _ _ _ c.tell.result 0 0 (none_within g.B.Shelf _ _ 0 0 (unlooked_told g.B.Shelf _ _ host command before now _ answer c.tell.result _ answers is by)) c.tell.ensures.counted;
       unwritten = λ is. then_told g.B.Shelf _ _ _ c.tell.result _ 0 (unwritten_told g.B.Shelf _ _ host command before now _ answer c.tell.result _ answers is by) c.tell.ensures.counted;
       wanting = λ is. then_told g.B.Shelf _ _ _ c.tell.result _ 0 (wanting_told g.B.Shelf _ _ host command before now _ answer piece (rw is at answers) by) c.tell.ensures.counted;
-      faulted = λ is. fault_then g.B.Shelf _ _ _ host command (fault_told g.B.Shelf _ _ host command before now _ answer piece (rw is at answers) by) (c.tell.ensures.counted.once (λ lost. subst IsLost is lost));
+      faulted = λ is. fault_then g.B.Shelf _ _ _ host command before calls (within_itself calls) (fault_told g.B.Shelf _ _ host command before now _ answer piece (rw is at answers) by) (c.tell.ensures.counted.once (λ lost. subst IsLost is lost));
+      halted = λ is. (_, halted_told g.B.Shelf _ _ host command before now _ answer piece (rw is at answers) by, c.tell.ensures.counted.once (λ lost. subst IsLost is lost));
       lost = λ active listed is.
           let same = c.tell.ensures.counted.silent (subst IsLost (sym is) tt) in
           subst (λ (x : g.row.B.Denot). LossCalls (made_of g.B.Shelf c.args.bench.now x) command host before × HasTriedAll g.B.Shelf c.args.bench.now x host command before active listed) (sym same) (lost_told g.B.Shelf _ _ host command before now _ answer active listed piece (rw is at answers) by);

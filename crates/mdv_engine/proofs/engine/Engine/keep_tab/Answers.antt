@@ -10,7 +10,7 @@ use Rattle.mdv_engine_law.proofs.Fronts.{fronts_alone, telling_rests}
 use Rattle.mdv_engine_law.proofs.Longer.{replied_more}
 use Rattle.mdv_engine.specs.Tab.{KeepsLines}
 use Rattle.mdv_engine.proofs.Counting.{calm_given, only_told}
-use Rattle.mdv_engine.proofs.Entering.{kept_comes, kept_end, kept_plain, kept_told}
+use Rattle.mdv_engine.proofs.Entering.{kept_carried, kept_comes, kept_end, kept_plain, kept_told}
 use Rattle.mdv_engine.proofs.engine.Engine.keep_tab.Goals as goal
 
 pub tell-requires : goal.tell-requires
@@ -22,7 +22,7 @@ returns-clause-moments g c =
     let old = c.args.self.now.state in
     let answer = Said c.keep-outcome.result in record {
       each = moments_weaker (TellMoment (text_of answer)) (TurnMoment host Nothing old) _ _ (kept_told c.args.lines.now c.args.self.now c.keep-outcome.new.self c.keep-outcome.result c.keep-outcome.ensures) c.tell.ensures.fronts;
-      fronts = fronts_alone g.B.Shelf g.met.B.Shelf.telling _ _ (KeepsLines c.args.lines.now) host old answer c.keep-outcome.new.self.state (kept_comes c.args.lines.now c.args.self.now c.keep-outcome.new.self c.keep-outcome.result c.keep-outcome.ensures) c.tell.ensures.kept.goes (c.tell.ensures.counted.drives) c.tell.ensures.fronts;
+      fronts = fronts_alone g.B.Shelf g.met.B.Shelf.telling _ _ (KeepsLines c.args.lines.now) host Nothing old answer c.keep-outcome.new.self.state (kept_plain c.args.lines.now c.args.self.now c.keep-outcome.new.self c.keep-outcome.result c.keep-outcome.ensures) (kept_carried c.args.lines.now c.args.self.now c.keep-outcome.new.self c.keep-outcome.result c.keep-outcome.ensures) (kept_comes c.args.lines.now c.args.self.now c.keep-outcome.new.self c.keep-outcome.result c.keep-outcome.ensures) c.tell.ensures.kept.goes (c.tell.ensures.counted.drives) c.tell.ensures.fronts;
       rests = telling_rests g.B.Shelf g.met.B.Shelf.telling _ _ (text_of answer) c.tell.ensures.kept.goes c.tell.ensures.fronts c.tell.ensures.counted.drives;
     }
 

@@ -18,10 +18,10 @@ returns-in-Ok-clause-end g c = c.commit.ensures.end c.args.volume c.args.slice c
 
 pub returns-in-Err-clause-end : goal.returns-in-Err-clause-end
 returns-in-Err-clause-end g c =
-    command_ends _ c.args.self.now (command.MakeStripe c.args.volume c.args.slice) (outcome.Refused c.in-Err.refusal) c.args.self.now _ _
+    command_ends _ c.args.self.now _ (command.MakeStripe c.args.volume c.args.slice) (outcome.Refused c.in-Err.refusal) c.args.self.now _ _
     (λ t start. (t, start, λ known. refused_line c.args.self.now.host c.args.self.now.state c.args.volume c.args.slice (DriveFailures g.S.Shelf c.args.shelf.now c.args.shelf.now) (λ drive. refl) t c.in-Err.refusal c.in-Err.ensures.err))
     (refused_carried c.args.self.now.host (ToDo (Changed (key_of c.args.self.now.host) (OfPlan (MakeStripe c.args.volume c.args.slice)))) c.args.self.now.state _ _ refl c.in-Err.refusal)
-    (λ on u. tt)
+    (λ on u. tt) (λ is u. tt)
 
 pub returns-in-Ok-clause-answer : goal.returns-in-Ok-clause-answer
 returns-in-Ok-clause-answer g c = c.commit.ensures.answer c.args.volume c.args.slice c.in-Ok.ensures.ok
@@ -30,12 +30,12 @@ pub returns-in-Err-clause-answer : goal.returns-in-Err-clause-answer
 returns-in-Err-clause-answer g c =
     let calls = DriveFailures g.S.Shelf c.args.shelf.now c.args.shelf.now in
     let asked = command.MakeStripe c.args.volume c.args.slice in
-    refused_answer calls asked c.args.self.now c.requires.well c.in-Err.refusal (change_cause c.args.self.now.host c.args.self.now.state (MakeStripe c.args.volume c.args.slice) (blame_of calls c.args.self.now.host c.args.self.now.state asked) (MaySpend asked) (λ drive. refl) c.in-Err.refusal c.in-Err.ensures.err) (refused_plain c.args.self.now.host c.args.self.now.state c.args.volume c.args.slice c.in-Err.refusal c.in-Err.ensures.err) (inr tt)
+    refused_answer calls asked c.args.self.now c.requires.well c.in-Err.refusal (change_cause c.args.self.now.host c.args.self.now.state (MakeStripe c.args.volume c.args.slice) (blame_of calls c.args.self.now.host c.args.self.now.state asked) (MaySpend c.args.self.now.state asked) (λ drive. refl) c.in-Err.refusal c.in-Err.ensures.err) (refused_plain c.args.self.now.host c.args.self.now.state c.args.volume c.args.slice c.in-Err.refusal c.in-Err.ensures.err) (inr tt)
 
 pub returns-in-Err-clause-counted : goal.returns-in-Err-clause-counted
 returns-in-Err-clause-counted g c =
     refused_counted g.S.Shelf _ _ c.args.self.now.host (command.MakeStripe c.args.volume c.args.slice) c.in-Err.refusal _ _
-    (change_no_fault c.args.self.now.host c.args.self.now.state (MakeStripe c.args.volume c.args.slice) c.in-Err.refusal c.in-Err.ensures.err) refl
+    (λ fault. absurd (change_no_fault c.args.self.now.host c.args.self.now.state (MakeStripe c.args.volume c.args.slice) c.in-Err.refusal c.in-Err.ensures.err fault)) refl
 
 pub returns-in-Ok-clause-counted : goal.returns-in-Ok-clause-counted
 returns-in-Ok-clause-counted g c = c.commit.ensures.counted c.args.volume c.args.slice c.in-Ok.ensures.ok

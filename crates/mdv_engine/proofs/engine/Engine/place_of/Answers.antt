@@ -1,6 +1,6 @@
 use Rattle.std.proofs.Common.{◌+◌, arith, refl, sym, ap, ◌∙◌}
 use Rattle.mdv_engine.specs.declared.engine.Engine.{Engine}
-use Rattle.mdv_engine.proofs.Places.{no_volume, past_its_end, volume_on, within_it}
+use Rattle.mdv_engine.proofs.Located.{no_volume, past_its_end, volume_on, within_it}
 use Rattle.mdv_engine.proofs.engine.Engine.place_of.Goals as goal
 use Rattle.mdv_engine.proofs.engine.Engine.place_of.Goals.{then-at-run-via-then-at-run, then-at-run-via-else-at-run+then-count-run}
 

@@ -18,17 +18,17 @@ returns-in-Ok-clause-moments g c = moments_still c.args.self.now.host (ToSee (ke
 pub returns-in-Ok-clause-end : goal.returns-in-Ok-clause-end
 returns-in-Ok-clause-end g c =
     let read = c.in-Ok.ensures.ok in
-    command_ends _ c.args.self.now (command.Read c.args.volume c.args.at c.args.count) (outcome.Values c.in-Ok.text) c.args.self.now _ _
+    command_ends _ c.args.self.now _ (command.Read c.args.volume c.args.at c.args.count) (outcome.Values c.in-Ok.text) c.args.self.now _ _
     (λ t start. (t, c.values.ensures.same ∙ start, λ known. came.done read.allowed (read.calm, read.place, read.there, ap telling (read.as_told ∙ ap (values_reply c.args.at) (read.as_there t start)), record { memory = refl; content = λ drive block. refl })))
     (λ t start. (t, c.values.ensures.same ∙ start, saw c.args.self.now.host (g.S.Shelf.sizes c.args.shelf.now) c.requires.ready c.args.self.now.state c.args.volume c.args.at c.args.count read.place (omega arith) read.there t c.in-Ok.text (read.as_told ∙ ap (values_reply c.args.at) (read.as_there t start))))
-    (λ on u. tt)
+    (λ on u. tt) (λ is u. tt)
 
 pub returns-in-Ok-clause-answer : goal.returns-in-Ok-clause-answer
 returns-in-Ok-clause-answer g c = record {
   plain = inl (record { at = c.args.at; blocks = c.in-Ok.ensures.ok.blocks; is = c.in-Ok.ensures.ok.as_told });
   cause = c.in-Ok.ensures.ok.calm;
   lost = λ active listed is. absurd (cc (is));
-  free = λ on has. absurd (omega (arith, has.1));
+  free = λ on has closed. absurd (omega (arith, has.1));
   few = inr tt;
   host = refl;
   well = λ on. c.requires.well;
@@ -48,10 +48,10 @@ returns-in-Err-clause-answer g c =
 pub returns-in-Err-clause-end : goal.returns-in-Err-clause-end
 returns-in-Err-clause-end g c =
     let failures = DriveFailures g.S.Shelf c.args.shelf.now c.values.new.shelf in
-    command_ends _ c.args.self.now (command.Read c.args.volume c.args.at c.args.count) (outcome.Refused c.in-Err.refusal) c.args.self.now _ _
+    command_ends _ c.args.self.now _ (command.Read c.args.volume c.args.at c.args.count) (outcome.Refused c.in-Err.refusal) c.args.self.now _ _
     (λ t start. (t, c.values.ensures.same ∙ start, λ known. unread_line c.args.self.now.host c.args.self.now.state c.args.volume c.args.at c.args.count failures t c.in-Err.refusal c.in-Err.ensures.err))
     (refused_carried c.args.self.now.host (ToSee (key_of c.args.self.now.host) c.args.volume c.args.at c.args.count) c.args.self.now.state _ _ c.values.ensures.same c.in-Err.refusal)
-    (λ on u. tt)
+    (λ on u. tt) (λ is u. tt)
 
 pub returns-in-Ok-clause-counted : goal.returns-in-Ok-clause-counted
 returns-in-Ok-clause-counted g c = record { exactly = c.in-Ok.ensures.counted; most = exactly_most g.S.Shelf _ _ c.args.self.now.host 1 0 c.in-Ok.ensures.counted; wrote = tt }

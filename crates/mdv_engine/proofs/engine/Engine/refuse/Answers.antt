@@ -8,7 +8,7 @@ use Rattle.mdv_engine_law.specs.Answers.{refusing}
 use Rattle.mdv_engine_law.proofs.Executing.{reply_cause}
 use Rattle.mdv_engine_law.proofs.Fronts.{fronts_alone, telling_rests}
 use Rattle.mdv_engine_law.proofs.Longer.{replied_more}
-use Rattle.mdv_engine_law.proofs.Turning.{refusal_told}
+use Rattle.mdv_engine_law.proofs.Turning.{refusal_told, refused_none}
 use Rattle.mdv_engine.specs.Ends.{OnlyAnswers}
 use Rattle.mdv_engine.proofs.Counting.{calm_given, only_told}
 use Rattle.mdv_engine.proofs.engine.Engine.refuse.Goals as goal
@@ -19,7 +19,7 @@ returns-clause-moments g c =
     let memory = c.args.self.now.state in record {
       line = λ ask. record {
         each = moments_weaker (TellMoment (text_of (refusing c.args.refusal.now))) (TurnMoment host ask memory) _ _ (refusal_told host memory ask c.args.refusal.now c.requires) c.tell.ensures.fronts;
-        fronts = fronts_alone g.B.Shelf g.met.B.Shelf.telling _ _ (OnlyAnswers (refusing c.args.refusal.now)) host memory (refusing c.args.refusal.now) memory (λ failures calm content. (calm, refl, refl)) c.tell.ensures.kept.goes (c.tell.ensures.counted.drives) c.tell.ensures.fronts;
+        fronts = fronts_alone g.B.Shelf g.met.B.Shelf.telling _ _ (OnlyAnswers (refusing c.args.refusal.now)) host ask memory (refusing c.args.refusal.now) memory c.requires (refused_none host ask memory c.args.refusal.now) (λ failures calm content. (calm, refl, refl)) c.tell.ensures.kept.goes (c.tell.ensures.counted.drives) c.tell.ensures.fronts;
         rests = telling_rests g.B.Shelf g.met.B.Shelf.telling _ _ (text_of (refusing c.args.refusal.now)) c.tell.ensures.kept.goes c.tell.ensures.fronts c.tell.ensures.counted.drives;
       };
       tells = c.tell.ensures.fronts;

@@ -1,4 +1,4 @@
-use Rattle.mdv_engine.proofs.Places.{ends_small, ends_within, lies_on, not_none}
+use Rattle.mdv_engine.proofs.Located.{ends_small, ends_within, lies_on, not_none}
 use Rattle.mdv_engine.proofs.engine.Engine.run_of.Goals as goal
 
 pub returns-in-Some-clause-lies : goal.returns-in-Some-clause-lies

@@ -5,7 +5,7 @@ use Rattle.mdv_engine.specs.Below.{Read, last, values_reply, AreBlocksAt, blocks
 use Rattle.mdv_engine.specs.Engine.{HasBlocksCause}
 use Rattle.mdv_engine_law.specs.Refusals.{read_refusal}
 use Rattle.mdv_shelf.proofs.Between.{between_of}
-use Rattle.mdv_engine.proofs.Counting.{blocks_counted}
+use Rattle.mdv_engine.proofs.Counting.{blocks_counted, read_fault}
 use Rattle.mdv_engine.proofs.ReadJudging.{cause_is}
 use Rattle.mdv_engine.proofs.engine.Engine.values.Goals as goal
 
@@ -44,7 +44,7 @@ new-requires g c =
 
 pub returns-in-Err-clause-counted : goal.returns-in-Err-clause-counted
 returns-in-Err-clause-counted g c =
-    blocks_counted g.S.Shelf _ _ c.args.self.now.host (Read c.args.volume c.args.at c.args.count) _ c.args.self.now.state c.args.volume c.args.at _ c.in-Err.refusal _ _ c.in-Err.ensures.err c.in-Err.ensures.counted.refused (λ is. c.in-Err.ensures.counted.failed (ap Err is))
+    blocks_counted g.S.Shelf _ _ c.args.self.now.host (Read c.args.volume c.args.at c.args.count) _ c.args.self.now.state c.args.volume c.args.at _ c.in-Err.refusal _ _ c.in-Err.ensures.err c.in-Err.ensures.counted.refused (λ is. read_fault g.S.Shelf _ _ c.args.self.now.host c.args.volume c.args.at c.args.count c.args.self.now.state.opened c.args.self.now.state.opened (c.in-Err.ensures.counted.failed (ap Err is)))
 
 -- the text of the blocks that were read had no room
 pub returns-clause-counted : goal.returns-clause-counted
