@@ -1,0 +1,11 @@
+pub mod Alone
+pub mod Apart
+pub mod Beside
+pub mod Deciding
+pub mod Listed
+pub mod Marks
+pub mod Pairs
+pub mod Quiet
+pub mod Settled
+pub mod Taking
+pub mod Testing
