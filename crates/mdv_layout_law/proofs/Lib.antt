@@ -1,0 +1,4 @@
+pub mod Lists
+pub mod Chained
+pub mod Telling
+pub mod Laid

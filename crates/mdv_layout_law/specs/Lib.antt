@@ -1,0 +1,4 @@
+pub mod Below
+pub mod Chained
+pub mod Layout
+pub mod Laid
