@@ -1,6 +1,6 @@
 mod Ahead
 mod Back
 mod Holding
-mod Noting
+pub mod Noting
 mod Parts
-mod Table
+pub mod Table

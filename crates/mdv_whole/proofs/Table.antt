@@ -15,7 +15,7 @@ use Rattle.mdv_whole.specs.Text.{table_text, IsTable, IsDecoded}
 use Rattle.mdv_whole.proofs.Back.{recorded_back, own_pools}
 
 -- keys that ascend do so of the sides too
-ascending_sides : {R T : Type 0} (key : T → ℕ) (side : R → T) (rs : List R) → AllPairs (λ x y. key (side x) < key (side y)) rs → IsAscending key (map side rs)
+pub ascending_sides : {R T : Type 0} (key : T → ℕ) (side : R → T) (rs : List R) → AllPairs (λ x y. key (side x) < key (side y)) rs → IsAscending key (map side rs)
 ascending_sides key side [] up i j d before within = absurd (omega arith)
 ascending_sides {R} {T} key side (q ∷ qs) up i j d before within =
     let inside : j < length (q ∷ qs) = omega (arith, within, length-map (q ∷ qs) side) in

@@ -18,6 +18,7 @@ pub use Rattle.mdv_codec.specs.declared.recorded.RecordedSubmirror.{RecordedSubm
 pub use Rattle.mdv_codec.specs.declared.recorded.RecordedVolume.{RecordedVolume}
 pub use Rattle.mdv_name.specs.Code.{slice_code}
 pub use Rattle.mdv_plan.specs.Sorted.{with_put}
+pub use Rattle.mdv_plan.specs.declared.lists.Lists.{Lists}
 pub use Rattle.mdv_plan.specs.declared.plan.Plan.{Plan}
 pub use Rattle.mdv_plan.specs.declared.pool.Pool.{Pool}
 pub use Rattle.mdv_plan.specs.declared.pool.Spare.{Spare}

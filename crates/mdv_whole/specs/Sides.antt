@@ -1,7 +1,7 @@
 -- The record of a table: each part of the plan with what is noted of it beside it.
 use Rattle.std.specs.Prelude.{◌==◌, ℕ, Bool, List, [], ◌∷◌, ◌++◌, length, drop, map, Option, None, Some, find}
 use Rattle.mdv_whole.specs.Below.{SliceName, VolId, Recorded, RecordedFront, RecordedKind, RecordedMirror, RecordedOptions, RecordedPart, RecordedPool, RecordedRaid, RecordedRow, RecordedSoft, RecordedSpare, RecordedStripe, RecordedSubmirror, RecordedVolume}
-use Rattle.mdv_whole.specs.Below.{slice_code, Plan, Pool, Spare, KindStatus, PartStatus, RaidState, SpareState, SpareStatus, VolumeStatus, Table, Component, Mirror, Raid, Row, Soft, Stripe, Volume, VolumeKind}
+use Rattle.mdv_whole.specs.Below.{slice_code, Lists, Plan, Pool, Spare, KindStatus, PartStatus, RaidState, SpareState, SpareStatus, VolumeStatus, Table, Component, Mirror, Raid, Row, Soft, Stripe, Volume, VolumeKind}
 use Rattle.mdv_codec.specs.declared.recorded.RecordedKind.TheVariants.{Stripe as StripeRecorded, Mirror as MirrorRecorded, Raid as RaidRecorded, Soft as SoftRecorded}
 use Rattle.mdv_plan.specs.declared.status.KindStatus.TheVariants.{Stripe as StripeNoted, Mirror as MirrorNoted, Raid as RaidNoted, Soft as SoftNoted}
 use Rattle.mdv_plan.specs.declared.status.RaidState.TheVariants.{Okay}
@@ -105,14 +105,22 @@ spare_of states s = record { spare = s; state = state_in states s.slice }
 abbrev pub pool_of : List SpareStatus → Pool → RecordedPool
 pool_of states p = record { number = p.number; spares = map (spare_of states) p.spares }
 
-abbrev pub front_of : Plan → RecordedFront
-front_of p = record { lists = p.lists; set = p.set; pending = p.pending }
+-- the front of the record, with these lists of places
+abbrev pub front_with : Plan → Lists → RecordedFront
+front_with p lists = record { lists = lists; set = p.set; pending = p.pending }
 
--- plan and status side by side
-abbrev pub recorded_of : Table → Recorded
-recorded_of t =
+-- plan and status side by side, with these lists in place of the plan's own
+abbrev pub recorded_with : Table → Lists → Recorded
+recorded_with t lists =
     record {
-      front = front_of t.plan;
+      front = front_with t.plan lists;
       pools = map (pool_of t.status.spares) t.plan.pools;
       volumes = beside volume_of t.plan.volumes t.status.volumes;
     }
+
+-- and with the plan's own
+abbrev pub front_of : Plan → RecordedFront
+front_of p = front_with p p.lists
+
+abbrev pub recorded_of : Table → Recorded
+recorded_of t = recorded_with t t.plan.lists

@@ -3,14 +3,14 @@ ghost use Rattle.mdv_codec.specs.Record.{front_text, body_text};
 ghost use Rattle.mdv_codec.specs.Recorded.{pool_part_text, volume_text};
 ghost use Rattle.mdv_fields.specs.Laying.{IsPlaced, IsLaid};
 ghost use Rattle.mdv_fields.specs.Reading.{long_text};
-ghost use Rattle.mdv_whole.specs.Sides.{beside, front_of, pool_of, volume_of, recorded_of};
-ghost use Rattle.mdv_whole.specs.Text.{table_text};
+ghost use Rattle.mdv_whole.specs.Sides.{beside, front_with, pool_of, recorded_with, volume_of};
+ghost use Rattle.mdv_whole.specs.Text.{table_text, text_with};
 
 use crate::beside::{lay_all, lay_pairs};
 use crate::spares::States;
 use mdv_codec::HEAD;
 use mdv_fields::{Spelled, lay, lay_short};
-use mdv_plan::{Plan, Pool, Table, Volume, VolumeStatus};
+use mdv_plan::{Lists, Plan, Pool, Table, Volume, VolumeStatus};
 
 /// The bytes of the head and of the length behind it.
 const HEAD_BYTES: usize = 12;
@@ -26,8 +26,15 @@ pub struct TooLong {
 pub fn text_bytes(table: &Table) -> usize
     ensures { result ≡ min (length (table_text table.now)) (2 ^ 64 - 1) }
 {
+    text_bytes_with(table, &table.plan.lists)
+}
+
+/// How many bytes the table's text would have with these lists of places in place of its own; 2^64 - 1 where it had more.
+pub fn text_bytes_with(table: &Table, lists: &Lists) -> usize
+    ensures { result ≡ min (length (text_with table.now lists.now)) (2 ^ 64 - 1) }
+{
     let mut nothing: [u8; 0] = [];
-    lay_body(&mut nothing, HEAD_BYTES, table)
+    lay_body(&mut nothing, HEAD_BYTES, table, lists)
 }
 
 /// Writes the table's text to the front of `out`, and tells how many bytes it has. It takes no memory. After TooLong all
@@ -56,15 +63,15 @@ fn lay_table(out: &mut [u8], table: &Table, bytes: u32) -> usize
 {
     let used = lay(out, 0, HEAD);
     let used = bytes.lay(out, used);
-    lay_body(out, used, table)
+    lay_body(out, used, table, &table.plan.lists)
 }
 
-// What stands behind the length.
-fn lay_body(out: &mut [u8], used: usize, table: &Table) -> usize
-    ensures { IsLaid used out.old out.new (body_text (recorded_of table.now)) result }
+// What stands behind the length, with these lists of places.
+fn lay_body(out: &mut [u8], used: usize, table: &Table, lists: &Lists) -> usize
+    ensures { IsLaid used out.old out.new (body_text (recorded_with table.now lists.now)) result }
 {
     let Table { plan, status } = table;
-    let used = lay_front(out, used, plan);
+    let used = lay_front(out, used, plan, lists);
     let used = lay_pools(out, used, plan.pools.as_slice(), &status.spares);
     lay_volumes(
         out,
@@ -74,10 +81,10 @@ fn lay_body(out: &mut [u8], used: usize, table: &Table) -> usize
     )
 }
 
-fn lay_front(out: &mut [u8], used: usize, plan: &Plan) -> usize
-    ensures { IsLaid used out.old out.new (front_text (front_of plan.now)) result }
+fn lay_front(out: &mut [u8], used: usize, plan: &Plan, lists: &Lists) -> usize
+    ensures { IsLaid used out.old out.new (front_text (front_with plan.now lists.now)) result }
 {
-    let used = plan.lists.lay(out, used);
+    let used = lists.lay(out, used);
     let used = plan.set.lay(out, used);
     lay_short(out, used, plan.pending.as_slice())
 }

@@ -15,7 +15,7 @@ mod spares;
 mod volumes;
 
 pub use decoding::decode;
-pub use encoding::{TooLong, encode, text_bytes};
+pub use encoding::{TooLong, encode, text_bytes, text_bytes_with};
 pub use law::{noted_tables_have_texts, reads_what_was_written};
 pub use noted::part_states;
 pub use spares::{States, state_in};
