@@ -293,6 +293,28 @@ fn what_was_written_is_read(rt: HostRuntime) -> Result<(), Fail> {
     Ok(())
 }
 
+// A call of a write, by its number, that fails, and the drive that the write tells.
+const FAILURES: &[(u64, u32)] = &[(0, 0), (1, 1), (2, 0), (3, 1)];
+
+// What a write of five blocks of a stripe answers, the first two of them in another unit than the others.
+fn put(shelf: &mut MemShelf) -> Result<Result<(), DriveNo>, Fail>
+    requires { shelf_sizes shelf.old ≡ 170 ∷ (79 ∷ []) }
+{
+    let stripe = Stripe::new(PAIR, 16).map_err(|_| "a stripe")?;
+    let mut blocks = [[1; 512]; 5];
+    Ok(write_blocks(&stripe, shelf, 14, &mut blocks))
+}
+
+#[test]
+fn a_failed_write_tells_its_drive(rt: HostRuntime) -> Result<(), Fail> {
+    for (number, drive) in FAILURES {
+        let mut shelf = MemShelf::new(rt.alloc(), &[170, 79])?;
+        shelf.fail_call(*number)?;
+        assert_eq!(rt; put(&mut shelf)?, Err(DriveNo(*drive)), "call {number}");
+    }
+    Ok(())
+}
+
 #[test]
 fn stripes_follow_one_another(rt: HostRuntime) -> Result<(), Fail> {
     let volume = Chain {

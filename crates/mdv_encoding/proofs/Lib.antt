@@ -1,0 +1,9 @@
+pub mod Fits
+pub mod Fitting
+pub mod Lengths
+pub mod Parsed
+pub mod Placed
+pub mod Quiet
+pub mod Reading
+pub mod Rooms
+pub mod Settling
