@@ -1,0 +1,9 @@
+pub mod Adding
+pub mod Apart
+pub mod Judged
+pub mod Keeping
+pub mod Lists
+pub mod Making
+pub mod Places
+pub mod Rows
+pub mod Unrefused

@@ -1,0 +1,4 @@
+pub mod Below
+pub mod Built
+pub mod Keeping
+pub mod Refused
