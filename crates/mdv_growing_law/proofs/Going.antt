@@ -8,35 +8,35 @@ use Rattle.std.proofs.lemmas.List.Elements.{All-append, All-cons, All-map, All-n
 use Rattle.std.proofs.lemmas.List.Folds.{list_any_none}
 use Rattle.std.proofs.lemmas.Option.{none-some}
 use Rattle.mdv_change.specs.declared.change.Change.TheVariants.{MakeRaid, MakeMirror, MakeSoft, Attach, Detach, Offline, Online, EnablePart, ReplacePart, Grow, AddSpares, AddSparesToAll, DeleteSpares, ReplaceSpare, EnableSpares, Clear, ClearBelow, ClearAll}
-use Rattle.mdv_change.specs.Change.{condition, refusal_of, row_behind, table_after, with_changed}
-use Rattle.mdv_components.proofs.Causes.{is_none, name_free}
-use Rattle.mdv_components.specs.Causes.{first_of, order}
+use Rattle.mdv_change.specs.Change.{refusal_of, row_behind, table_after, with_changed}
+use Rattle.mdv_components.proofs.Causes.{is_none}
 use Rattle.mdv_components.specs.Room.{component_on}
 use Rattle.mdv_components.specs.Stripes.{row_blocks, row_on, stripe_on}
 use Rattle.mdv_config.specs.Table.{IsKindOf, IsPartOn, row_depth}
+use Rattle.mdv_keeping.proofs.Unrefused.{unrefused}
 use Rattle.mdv_layout_law.proofs.Chained.{chained_lie, fronts_lie}
 use Rattle.mdv_layout_law.proofs.Laid.{tables_lie}
-use Rattle.mdv_layout_law.proofs.Lists.{All-changed, All-with_item, changed_found, changed_others, find_found, with_others}
+use Rattle.mdv_layout_law.proofs.Lists.{All-changed, All-with_item, changed_found, changed_others, find_found, with_new, with_others}
 use Rattle.mdv_layout_law.proofs.Telling.{rows_same, volumes_tell}
 use Rattle.mdv_layout_law.specs.Chained.{IsFrontOf, chained}
 use Rattle.mdv_layout_law.specs.Layout.{IsMapOf, component_map, kind_map, map_at, map_of, row_map, rows_map}
 use Rattle.mdv_plan.specs.Parents.{has_parent, is_component, is_in_row, is_volume, names_volume}
 use Rattle.mdv_plan.specs.Sorted.{changed, with_item}
 use Rattle.mdv_rows.specs.Adding.{kind_with, with_row}
-use Rattle.mdv_growing_law.specs.Below.{AddRow, Base, Change, Component, DriveNo, Geometry, HasDriveBlock, IsMade, IsOfGeometry, IsSound, MakeStripe, Map, Mirror, OneVolume, Plan, PoolId, Raid, Row, RowAsked, Slice, Soft, Stripe, Table, VolId, Volume, VolumeKind, volume_of}
-use Rattle.mdv_growing_law.specs.Going.{blocks_at, IsBuilt, IsFresh, IsOfSlices, IsSlice, IsStep, MapsGo, Went, stayed, grew, began}
+use Rattle.mdv_growing_law.specs.Below.{AddRow, Base, Change, Component, DriveNo, Geometry, HasDriveBlock, IsBuilt, IsMade, IsOfGeometry, IsOfSlices, IsSlice, IsSound, IsStepOf, MakeStripe, Map, Mirror, OneVolume, Plan, PoolId, Raid, Row, RowAsked, Slice, Soft, Stripe, Table, VolId, Volume, VolumeKind, volume_of}
+use Rattle.mdv_growing_law.specs.Going.{blocks_at, IsFresh, IsMadeAnew, MapsGo, Went, stayed, grew, began}
 
 -- rows of slices alone
-abbrev IsRowSlices : Row → Type 0
+abbrev pub IsRowSlices : Row → Type 0
 IsRowSlices row = All (λ (c : Component). IsSlice c.on) row.components
 
-abbrev OnSlices : VolumeKind → Type 0
+abbrev pub OnSlices : VolumeKind → Type 0
 OnSlices (Stripe s) = All IsRowSlices s.rows
 OnSlices (Mirror m) = ⊥
 OnSlices (Raid r) = ⊥
 OnSlices (Soft s) = ⊥
 
-abbrev AllOnSlices : Table → Type 0
+abbrev pub AllOnSlices : Table → Type 0
 AllOnSlices t = All (λ (w : OneVolume). OnSlices w.kind) t.plan.volumes
 
 part_on : (g : Geometry) (blocks : ℕ) (c : Component) (base : Base) → IsPartOn g blocks c base → IsSlice base
@@ -50,7 +50,7 @@ kind_on g (Mirror m) is = is
 kind_on g (Raid r) is = is
 kind_on g (Soft s) is = is
 
-of_geometry : (g : Geometry) (t : Table) → IsOfGeometry g t → AllOnSlices t
+pub of_geometry : (g : Geometry) (t : Table) → IsOfGeometry g t → AllOnSlices t
 of_geometry g t is k d lt = kind_on g (get_or t.plan.volumes k d).kind (is.kinds k d lt)
 
 -- such volumes are no part of others
@@ -65,11 +65,11 @@ unnamed volume (Mirror m) is = absurd is
 unnamed volume (Raid r) is = absurd is
 unnamed volume (Soft s) is = absurd is
 
-no_parent : (t : Table) (volume : VolId) → AllOnSlices t → has_parent t.plan volume ≡ false
+pub no_parent : (t : Table) (volume : VolId) → AllOnSlices t → has_parent t.plan volume ≡ false
 no_parent t volume are = list_any_none (λ (w : OneVolume). names_volume volume w.kind) t.plan.volumes (λ k d lt. unnamed volume (get_or t.plan.volumes k d).kind (are k d lt))
 
 -- so the map of one is that of its kind
-map_alone : (g : Geometry) (t : Table) (volume : VolId) → AllOnSlices t → map_of g t volume ≡ map_at g t (volume_of t.plan volume)
+pub map_alone : (g : Geometry) (t : Table) (volume : VolId) → AllOnSlices t → map_of g t volume ≡ map_at g t (volume_of t.plan volume)
 map_alone g t volume are = ap (λ (used : Bool). if used then None else map_at g t (volume_of t.plan volume)) (no_parent t volume are)
 
 part_same : (g : Geometry) (p q : Plan) (c : Component) (base : Base) → IsSlice base → component_map g p c base ≡ component_map g q c base
@@ -99,14 +99,17 @@ module _ (g : Geometry) (old next : Table) (were : AllOnSlices old) (are : AllOn
   kind_same (Soft s) is = absurd is
 
   -- a volume that is what it was
-  stays : (volume : VolId) → volume_of next.plan volume ≡ volume_of old.plan volume → Moves (map_of g old volume) (map_of g next volume)
-  stays volume found = by (volume_of old.plan volume) refl where
-    by : (o : Option OneVolume) → volume_of old.plan volume ≡ o → Moves (map_of g old volume) (map_of g next volume)
-    by None is = as_was (map_alone g next volume are ∙ ap (map_at g next) (found ∙ is) ∙ sym (map_alone g old volume were ∙ ap (map_at g old) is))
+  lies_as_was : (volume : VolId) → volume_of next.plan volume ≡ volume_of old.plan volume → map_of g next volume ≡ map_of g old volume
+  lies_as_was volume found = by (volume_of old.plan volume) refl where
+    by : (o : Option OneVolume) → volume_of old.plan volume ≡ o → map_of g next volume ≡ map_of g old volume
+    by None is = map_alone g next volume are ∙ ap (map_at g next) (found ∙ is) ∙ sym (map_alone g old volume were ∙ ap (map_at g old) is)
     by (Some of) is =
         let at = find_found (λ (w : OneVolume). w.number.0 == volume.0) old.plan.volumes of is in
         let kind : OnSlices of.kind = subst (λ (w : OneVolume). OnSlices w.kind) at.is (were at.at of at.within) in
-        as_was (map_alone g next volume are ∙ ap (map_at g next) (found ∙ is) ∙ kind_same of.kind kind ∙ sym (map_alone g old volume were ∙ ap (map_at g old) is))
+        map_alone g next volume are ∙ ap (map_at g next) (found ∙ is) ∙ kind_same of.kind kind ∙ sym (map_alone g old volume were ∙ ap (map_at g old) is)
+
+  stays : (volume : VolId) → volume_of next.plan volume ≡ volume_of old.plan volume → Moves (map_of g old volume) (map_of g next volume)
+  stays volume found = as_was (lies_as_was volume found)
 
 module _ (g : Geometry) (old next : Table) (were : AllOnSlices old) (volume : VolId) where
   asked_slices : (n : ℕ) (bases : List Base) → All IsSlice bases → All (λ (c : Component). IsSlice c.on) (map (component_on g old.plan n) bases)
@@ -128,13 +131,32 @@ module _ (g : Geometry) (old next : Table) (were : AllOnSlices old) (volume : Vo
     now_are : AllOnSlices next
     now_are = subst (All (λ (w : OneVolume). OnSlices w.kind)) (sym made_volumes) (All-with_item number stripe (λ (w : OneVolume). OnSlices w.kind) stripe_slices old.plan.volumes were)
 
+    had_none : map_of g old volume ≡ None
+    had_none = map_alone g old volume were ∙ ap (map_at g old) free
+
+    others_stay : (other : VolId) → volume.0 == other.0 ≡ false → volume_of next.plan other ≡ volume_of old.plan other
+    others_stay other differs = ap (find (λ (w : OneVolume). w.number.0 == other.0)) made_volumes ∙ with_others number stripe old.plan.volumes other.0 differs
+
     made_moves : (other : VolId) → Moves (map_of g old other) (map_of g next other)
     made_moves other = elim (cases_Bool (volume.0 == other.0)) [
-      | inl is ↦
-          let named = same_id volume other is in
-          as_new (map_alone g old other were ∙ ap (map_at g old) (subst (λ (v : VolId). volume_of old.plan v ≡ None) named free))
-      | inr differs ↦ stays g old next were now_are other (ap (find (λ (w : OneVolume). w.number.0 == other.0)) made_volumes ∙ with_others number stripe old.plan.volumes other.0 differs)
+      | inl is ↦ as_new (subst (λ (v : VolId). map_of g old v ≡ None) (same_id volume other is) had_none)
+      | inr differs ↦ stays g old next were now_are other (others_stay other differs)
     ]
+
+    -- it is there, on its rows
+    found_new : volume_of next.plan volume ≡ Some stripe
+    found_new = ap (find (λ (w : OneVolume). w.number.0 == volume.0)) made_volumes ∙ with_new number stripe old.plan.volumes free
+
+    made_anew : IsMadeAnew g volume old next
+    made_anew = record {
+      none = had_none;
+      map = rows_map g next.plan (map (row_on g old.plan) rows);
+      lies = map_alone g next volume now_are ∙ ap (map_at g next) found_new;
+      others = λ other differ. elim (cases_Bool (volume.0 == other.0)) [
+        | inl is ↦ absurd (differ (sym (same_id volume other is)))
+        | inr differs ↦ lies_as_was g old next were now_are other (others_stay other differs)
+      ];
+    }
 
   module _ (asked : RowAsked) (slices : IsOfSlices asked) (made : next ≡ table_after g old (AddRow volume asked)) where
     abbrev row : Row
@@ -204,16 +226,13 @@ module _ (g : Geometry) (old next : Table) (were : AllOnSlices old) (volume : Vo
 
 -- what nothing refuses has a free name
 free_name : (g : Geometry) (drives : List DriveNo) (old : Table) (volume : VolId) (rows : List RowAsked) (pool : Option PoolId) → refusal_of g drives old (MakeStripe volume rows pool) ≡ None → volume_of old.plan volume ≡ None
-free_name g drives old volume rows pool allowed = is_none (volume_of old.plan volume) (name_free (condition g drives old (MakeStripe volume rows pool)) (untold _ (first_of (condition g drives old (MakeStripe volume rows pool)) order) allowed)) where
-  untold : {A B : Type 0} (f : A → B) (o : Option A) → option_map f o ≡ None → o ≡ None
-  untold f None is = refl
-  untold f (Some a) is = cc
+free_name g drives old volume rows pool allowed = is_none (volume_of old.plan volume) (unrefused g drives old (MakeStripe volume rows pool) allowed).free
 
-moves : (g : Geometry) (old next : Table) (step : IsStep g old next) (volume : VolId) → Moves (map_of g old volume) (map_of g next volume)
-moves g old next step volume = by step.change step.built step.made where
+moves : (g : Geometry) (change : Change) (old next : Table) (step : IsStepOf g change old next) (volume : VolId) → Moves (map_of g old volume) (map_of g next volume)
+moves g change old next step volume = by change step.built step.made where
   by : (change : Change) → IsBuilt change → IsMade g step.drives change old next → Moves (map_of g old volume) (map_of g next volume)
-  by (MakeStripe v rows pool) built made = made_moves g old next (of_geometry g old step.of_geometry) v rows pool built.2 made.after (free_name g step.drives old v rows pool made.allowed) volume
-  by (AddRow v asked) built made = added_moves g old next (of_geometry g old step.of_geometry) v asked built made.after volume
+  by (MakeStripe v rows pool) built made = made_moves g old next (of_geometry g old step.old_of) v rows pool built.2 made.after (free_name g step.drives old v rows pool made.allowed) volume
+  by (AddRow v asked) built made = added_moves g old next (of_geometry g old step.old_of) v asked built made.after volume
   by (MakeRaid v raid) built made = absurd built
   by (MakeMirror v mirror) built made = absurd built
   by (MakeSoft v asked) built made = absurd built
@@ -233,24 +252,24 @@ moves g old next step volume = by step.change step.built step.made where
   by (ClearBelow volumes pools) built made = absurd built
   by ClearAll built made = absurd built
 
-went : (g : Geometry) (old next : Table) (volume : VolId) (v : Map) → IsStep g old next → IsMapOf g next volume v → Went g old volume v
-went g old next volume v step map = elim (moves g old next step volume) [
+went : (g : Geometry) (change : Change) (old next : Table) (volume : VolId) (v : Map) → IsStepOf g change old next → IsMapOf g next volume v → Went g old volume v
+went g change old next volume v step map = elim (moves g change old next step volume) [
   | as_was is ↦ stayed (sym is ∙ map)
   | longer u w was now front ↦ let is : w ≡ v = (let both = sym now ∙ map in cc both) in grew u was (subst (IsFrontOf u) is front)
   | as_new was ↦ began was
 ]
 
-keeps : (g : Geometry) (old next : Table) (volume : VolId) (w : Map) → IsStep g old next → IsMapOf g old volume w → (v : Map) × IsMapOf g next volume v × IsFrontOf w v
-keeps g old next volume w step map = elim (moves g old next step volume) [
+keeps : (g : Geometry) (change : Change) (old next : Table) (volume : VolId) (w : Map) → IsStepOf g change old next → IsMapOf g old volume w → (v : Map) × IsMapOf g next volume v × IsFrontOf w v
+keeps g change old next volume w step map = elim (moves g change old next step volume) [
   | as_was is ↦ (w, is ∙ map, fronts_lie.itself w)
   | longer u v was now front ↦ let is : u ≡ w = (let both = sym was ∙ map in cc both) in (v, now, subst (λ (x : Map). IsFrontOf x v) is front)
   | as_new was ↦ absurd (none-some w (sym was ∙ map))
 ]
 
-fresh : (g : Geometry) (old next : Table) (volume : VolId) (v : Map) → IsSound g → IsOfGeometry g next → IsStep g old next → IsMapOf g next volume v → IsFresh g old (blocks_at (map_of g old volume)) v
-fresh g old next volume v sound is step map other u a b drive block there below from above in_a in_b =
-    let laid = tables_lie g next sound is in
-    let kept = keeps g old next other u step there in
+fresh : (g : Geometry) (change : Change) (old next : Table) (volume : VolId) (v : Map) → IsSound g → IsStepOf g change old next → IsMapOf g next volume v → IsFresh g old (blocks_at (map_of g old volume)) v
+fresh g change old next volume v sound step map other u a b drive block there below from above in_a in_b =
+    let laid = tables_lie g next sound step.next_of in
+    let kept = keeps g change old next other u step there in
     let within = kept.2.blocks in
     let in_kept : HasDriveBlock (kept.0.places a) drive block = subst (λ ss. HasDriveBlock ss drive block) (sym (kept.2.places a below)) in_a in
     elim (cases_Bool (other.0 == volume.0)) [
@@ -266,5 +285,9 @@ fresh g old next volume v sound is step map other u a b drive block there below 
           apart a b drive block (omega arith) above in_kept in_b
     ]
 
+made_new : (g : Geometry) (volume : VolId) (rows : List RowAsked) (pool : Option PoolId) (old next : Table) → IsStepOf g (MakeStripe volume rows pool) old next → IsMadeAnew g volume old next
+made_new g volume rows pool old next step =
+    made_anew g old next (of_geometry g old step.old_of) volume rows pool step.built.2 step.made.after (free_name g step.drives old volume rows pool step.made.allowed)
+
 pub maps_go : MapsGo
-maps_go = record { went = went; keeps = keeps; fresh = fresh }
+maps_go = record { went = went; keeps = keeps; fresh = fresh; made = made_new }

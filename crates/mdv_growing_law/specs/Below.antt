@@ -9,6 +9,8 @@ pub use Rattle.mdv_components.specs.Bases.{volume_of}
 pub use Rattle.mdv_components.specs.declared.asked.RowAsked.{RowAsked}
 pub use Rattle.mdv_config.specs.Slices.{IsSound}
 pub use Rattle.mdv_config.specs.Table.{IsOfGeometry}
+pub use Rattle.mdv_keeping.specs.Built.{IsBuilt, IsOfSlices, IsSlice}
+pub use Rattle.mdv_keeping.specs.Keeping.{IsStepOf}
 pub use Rattle.mdv_map.specs.Maps.{HasDriveBlock, Map}
 pub use Rattle.mdv_name.specs.declared.geometry.Geometry.{Geometry}
 pub use Rattle.mdv_plan.specs.declared.plan.Plan.{Plan}
