@@ -1,0 +1,4 @@
+pub mod Below
+pub mod Leaves
+pub mod Layouts
+pub mod OneCopy
