@@ -1,6 +1,7 @@
 -- How calls on the drives came out, one stretch of them after another.
-use Rattle.std.proofs.Common.{◌≡◌, ◌==◌, ◌+◌, ◌-◌, ◌^◌, ℕ, inl, inr, false, min, subst, sym, ap, ◌∙◌, arith}
+use Rattle.std.proofs.Common.{◌≡◌, ◌==◌, ◌+◌, ◌-◌, ◌^◌, ℕ, inl, inr, false, min, Result, Err, IsErrAnd, subst, sym, ap, ◌∙◌, arith}
 use Rattle.std.proofs.lemmas.Bool.Decides.{nat_tests}
+use Rattle.std.proofs.lemmas.Result.{err_from_is_err_and}
 use Rattle.mdv_shelf.specs.Calls.{OnDrive}
 use Rattle.mdv_shelf.specs.Shelves.{DriveFailures, KeptOn}
 use Rattle.mdv_shelf.specs.declared.shelf.Shelf.{Ghosts}
@@ -35,3 +36,7 @@ module _ {S : Type 0} (shelf : Ghosts S) (a b c : S) (calm : AreCalm (DriveFailu
     here = failed.here ∙ ap (λ (n : ℕ). min (n + 1) (2 ^ 64 - 1)) (calm drive);
     others = λ other differs. failed.others other differs ∙ calm other;
   }
+
+-- an error that is handed on
+pub handed_on : {T E : Type 0} (result : Result T E) (e : E) → IsErrAnd result (λ told. told ≡ e) → result ≡ Err e
+handed_on result e is = let there = err_from_is_err_and result is in there.1 ∙ ap Err there.2

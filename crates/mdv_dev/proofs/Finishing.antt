@@ -1,5 +1,5 @@
 -- A request, turn after turn.
-use Rattle.std.proofs.Common.{◌≡◌, ◌⊎◌, inl, inr, ℕ, ◌+◌, ◌-◌, ◌<◌, ◌≤◌, true, List, length, take, Result, Ok, Err, OnOk, refl, sym, ◌∙◌, ap, subst, arith}
+use Rattle.std.proofs.Common.{◌≡◌, ◌⊎◌, inl, inr, ℕ, ◌+◌, ◌-◌, ◌<◌, ◌≤◌, true, List, length, take, Result, Ok, Err, refl, sym, ◌∙◌, ap, subst, arith}
 use Rattle.std.proofs.lemmas.List.{take-take}
 use Rattle.mdv_shelf.specs.Calls.{Took}
 use Rattle.mdv_shelf.specs.Shelves.{AtEachTale, AtEnd, DriveFailures}
@@ -10,18 +10,17 @@ use Rattle.mdv_shelf.proofs.Moments.{ends_more, moments_more}
 use Rattle.mdv_map.specs.Maps.{Map}
 use Rattle.mdv_map.specs.Requests.{Rewriting}
 use Rattle.mdv_map.proofs.Joining.{rewritings_join}
-use Rattle.mdv_dev.specs.Below.{AreCalm}
+use Rattle.mdv_dev.specs.Below.{AreCalm, DriveNo}
 use Rattle.mdv_dev.specs.Drives.{KeptOnDrives}
-use Rattle.mdv_dev.specs.Works.{Carries, FailedAt, HasRoom, IsFinished, IsOpen, IsRewriting, IsTurned, IsTurnCounted, LeavesBuffer, MakesTurns, TookExactly, is_turn, news, turns, turns_left, written_of}
+use Rattle.mdv_dev.specs.Works.{Carries, FailedAt, HasRoom, IsFinished, IsOpen, IsRewriting, IsTurned, IsTurnCounted, LeavesBuffer, MakesTurns, TookExactly, is_turn, news, turns, written_of}
 use Rattle.mdv_dev.specs.declared.work.Work.{Work}
 use Rattle.mdv_dev.specs.declared.work.WorkKind.{WorkKind}
 use Rattle.mdv_dev.specs.declared.work.WorkKind.TheVariants.{Read, Write, Flush}
 use Rattle.mdv_dev.proofs.Drives.{drives_more}
 use Rattle.mdv_dev.proofs.Failing.{calm_more, failed_more}
-use Rattle.mdv_dev.proofs.Turning.{no_ok, on_err}
 
 -- one turn, from one state to the next
-pub record OneTurn {S T E : Type 0} (shelf : Ghosts S) (v : Map) (now next : S) (work more : Work) (after later : List (List ℕ)) (result : Result T E) : Type 0 where
+pub record OneTurn {S T : Type 0} (shelf : Ghosts S) (v : Map) (now next : S) (work more : Work) (after later : List (List ℕ)) (result : Result T DriveNo) : Type 0 where
   pub moments : IsRewriting shelf now next v work after
   pub done : AtEnd shelf (Carries v work after more later) now next
   pub turned : IsTurned v (DriveFailures shelf now next) work after more later result
@@ -53,7 +52,7 @@ abbrev pub SoFar : {S : Type 0} → Ghosts S → Map → S → S → Work → Wo
 SoFar shelf v before now start work buffer after = IsStill before now start work buffer after ⊎ HasGone shelf v before now start work buffer after
 
 -- all that a request says at its end
-pub record HasFinished {S T E : Type 0} (shelf : Ghosts S) (v : Map) (before now : S) (start work : Work) (buffer after : List (List ℕ)) (result : Result T E) : Type 0 where
+pub record HasFinished {S T : Type 0} (shelf : Ghosts S) (v : Map) (before now : S) (start work : Work) (buffer after : List (List ℕ)) (result : Result T DriveNo) : Type 0 where
   pub moments : IsRewriting shelf before now v start buffer
   pub done : AtEnd shelf (Carries v start buffer work after) before now
   pub finished : IsFinished v (DriveFailures shelf before now) start buffer work after result
@@ -90,7 +89,7 @@ written_grows Write a b le = le
 written_grows Flush a b le = omega arith
 
 module _ {S : Type 0} (shelf : Ghosts S) (v : Map) (before : S) (start : Work) (buffer : List (List ℕ)) where
-  pub gone_first : {T E : Type 0} (x : T) (next : S) (more : Work) (later : List (List ℕ)) → OneTurn {T = T} {E = E} shelf v before next start more buffer later (Ok x) → HasGone shelf v before next start more buffer later
+  pub gone_first : {T : Type 0} (x : T) (next : S) (more : Work) (later : List (List ℕ)) → OneTurn {T = T} shelf v before next start more buffer later (Ok x) → HasGone shelf v before next start more buffer later
   gone_first x next more later turn =
       let one : 1 ≡ turns v start.kind start.at more.done - turns v start.kind start.at start.done = omega (arith, turn.turned.rose.1) in
       record {
@@ -126,10 +125,10 @@ module _ {S : Type 0} (shelf : Ghosts S) (v : Map) (before : S) (start : Work) (
     kept_on : KeptOnDrives shelf now next v work.at work.count → KeptOnDrives shelf before next v start.at start.count
     kept_on kept = drives_more shelf before now v start.at start.count gone.calm gone.kept next (subst (λ (u : Work). KeptOnDrives shelf now next v u.at u.count) gone.same kept)
 
-    pub gone_more : {T E : Type 0} (x : T) → OneTurn {T = T} {E = E} shelf v now next work more after later (Ok x) → HasGone shelf v before next start more buffer later
-    gone_more {T} {E} x turn =
-        let turned = subst (λ (u : Work). IsTurned {T = T} {E = E} v (DriveFailures shelf now next) u after more later (Ok x)) gone.same turn.turned in
-        let counted = subst (λ (u : Work). IsTurnCounted {T = T} {E = E} shelf now next u more (Ok x)) gone.same turn.counted in
+    pub gone_more : {T : Type 0} (x : T) → OneTurn {T = T} shelf v now next work more after later (Ok x) → HasGone shelf v before next start more buffer later
+    gone_more {T} x turn =
+        let turned = subst (λ (u : Work). IsTurned {T = T} v (DriveFailures shelf now next) u after more later (Ok x)) gone.same turn.turned in
+        let counted = subst (λ (u : Work). IsTurnCounted {T = T} {E = DriveNo} shelf now next u more (Ok x)) gone.same turn.counted in
         let up = gone.rose in
         let fewer = gone.fewer in
         record {
@@ -167,17 +166,17 @@ module _ {S : Type 0} (shelf : Ghosts S) (v : Map) (before : S) (start : Work) (
   same_drives now work after (inl still) = sym (ap shelf.sizes still.same_shelf)
   same_drives now work after (inr gone) = sym gone.kept.keeps.same_sizes
 
-  pub so_far_more : {T E : Type 0} (x : T) (now next : S) (work more : Work) (after later : List (List ℕ)) → SoFar shelf v before now start work buffer after → OneTurn {T = T} {E = E} shelf v now next work more after later (Ok x)
+  pub so_far_more : {T : Type 0} (x : T) (now next : S) (work more : Work) (after later : List (List ℕ)) → SoFar shelf v before now start work buffer after → OneTurn {T = T} shelf v now next work more after later (Ok x)
       → SoFar shelf v before next start more buffer later
-  so_far_more {T} {E} x now next work more after later (inl still) turn =
-      let a = subst (λ (s : S). OneTurn {T = T} {E = E} shelf v s next work more after later (Ok x)) still.same_shelf turn in
-      let b = subst (λ (u : Work). OneTurn {T = T} {E = E} shelf v before next u more after later (Ok x)) still.same_work a in
-      let c = subst (λ (xs : List (List ℕ)). OneTurn {T = T} {E = E} shelf v before next start more xs later (Ok x)) still.same_buffer b in
-      inr (gone_first {T = T} {E = E} x next more later c)
-  so_far_more {T} {E} x now next work more after later (inr gone) turn = inr (gone_more now next work more after later gone {T = T} {E = E} x turn)
+  so_far_more {T} x now next work more after later (inl still) turn =
+      let a = subst (λ (s : S). OneTurn {T = T} shelf v s next work more after later (Ok x)) still.same_shelf turn in
+      let b = subst (λ (u : Work). OneTurn {T = T} shelf v before next u more after later (Ok x)) still.same_work a in
+      let c = subst (λ (xs : List (List ℕ)). OneTurn {T = T} shelf v before next start more xs later (Ok x)) still.same_buffer b in
+      inr (gone_first {T = T} x next more later c)
+  so_far_more {T} x now next work more after later (inr gone) turn = inr (gone_more now next work more after later gone {T = T} x turn)
 
   -- its end
-  pub ends_well : {T E : Type 0} (x : T) (now : S) (work : Work) (after : List (List ℕ)) → SoFar shelf v before now start work buffer after → start.done < start.count → work.count ≤ work.done → HasFinished {T = T} {E = E} shelf v before now start work buffer after (Ok x)
+  pub ends_well : {T : Type 0} (x : T) (now : S) (work : Work) (after : List (List ℕ)) → SoFar shelf v before now start work buffer after → start.done < start.count → work.count ≤ work.done → HasFinished {T = T} shelf v before now start work buffer after (Ok x)
   ends_well x now work after (inl still) left end =
       let same : work.done ≡ start.done = ap (λ (u : Work). u.done) still.same_work in
       let count : work.count ≡ start.count = ap (λ (u : Work). u.count) still.same_work in absurd (omega arith)
@@ -194,8 +193,8 @@ module _ {S : Type 0} (shelf : Ghosts S) (v : Map) (before : S) (start : Work) (
         kept = gone.kept;
       }
 
-  module _ {T E U F : Type 0} (e : F) (result : Result T E) (none : OnOk result ⊥) (next : S) (more : Work) (later : List (List ℕ)) where
-    fails_first : OneTurn {T = U} {E = F} shelf v before next start more buffer later (Err e) → start.done < start.count → is_turn v start.kind start.at start.done ≡ true → HasFinished shelf v before next start more buffer later result
+  module _ {T : Type 0} (e : DriveNo) (next : S) (more : Work) (later : List (List ℕ)) where
+    fails_first : OneTurn {T = T} shelf v before next start more buffer later (Err e) → start.done < start.count → is_turn v start.kind start.at start.done ≡ true → HasFinished {T = T} shelf v before next start more buffer later (Err e)
     fails_first turn left begins = record {
       moments = turn.moments;
       done = turn.done;
@@ -203,29 +202,27 @@ module _ {S : Type 0} (shelf : Ghosts S) (v : Map) (before : S) (start : Work) (
         same = turn.turned.same;
         buffer = turn.turned.buffer;
         front = turn.turned.front;
-        whole = no_ok result ((more.done ≡ start.count) × AreCalm (DriveFailures shelf before next)) none;
+        whole = tt;
         stayed =
             let still : more.done ≡ start.done = turn.turned.stayed.0 in
             let same : start.done ≡ more.done = sym still in
-            on_err result ((start.done ≤ more.done) × FailedAt (DriveFailures shelf before next) v start.kind start.at start.count more.done)
-            (omega arith, subst (λ (k : ℕ). FailedAt (DriveFailures shelf before next) v start.kind start.at start.count k) same (record { below = left; begins = begins; failed = turn.turned.stayed.1 }));
+            (omega arith, subst (λ (k : ℕ). FailedAt (DriveFailures shelf before next) v start.kind start.at start.count k e.0) same (record { below = left; begins = begins; on = turn.turned.stayed.1; failed = turn.turned.stayed.2 }));
       };
       counted = record {
-        done = no_ok result (Took shelf.calls shelf.written before next (turns_left v start) (written_of start.kind (start.count - start.done))) none;
+        done = tt;
         failed =
             let still : more.done ≡ start.done = turn.turned.stayed.0 in
             let same = ap (turns v start.kind start.at) still in
             let one : 1 ≡ turns v start.kind start.at more.done - turns v start.kind start.at start.done + 1 = omega arith in
-            on_err result (TookExactly shelf before next (turns v start.kind start.at more.done - turns v start.kind start.at start.done + 1) (written_of start.kind (start.count - start.done)))
-            (subst (λ (n : ℕ). TookExactly shelf before next n (written_of start.kind (start.count - start.done))) one turn.counted.any);
+            subst (λ (n : ℕ). TookExactly shelf before next n (written_of start.kind (start.count - start.done))) one turn.counted.any;
       };
       kept = turn.kept;
     }
 
-    fails_later : (now : S) (work : Work) (after : List (List ℕ)) → HasGone shelf v before now start work buffer after → OneTurn {T = U} {E = F} shelf v now next work more after later (Err e) → work.done < work.count → HasFinished shelf v before next start more buffer later result
+    fails_later : (now : S) (work : Work) (after : List (List ℕ)) → HasGone shelf v before now start work buffer after → OneTurn {T = T} shelf v now next work more after later (Err e) → work.done < work.count → HasFinished {T = T} shelf v before next start more buffer later (Err e)
     fails_later now work after gone turn left =
-        let turned = subst (λ (u : Work). IsTurned {T = U} {E = F} v (DriveFailures shelf now next) u after more later (Err e)) gone.same turn.turned in
-        let counted = subst (λ (u : Work). IsTurnCounted {T = U} {E = F} shelf now next u more (Err e)) gone.same turn.counted in
+        let turned = subst (λ (u : Work). IsTurned {T = T} v (DriveFailures shelf now next) u after more later (Err e)) gone.same turn.turned in
+        let counted = subst (λ (u : Work). IsTurnCounted {T = T} {E = DriveNo} shelf now next u more (Err e)) gone.same turn.counted in
         let below : work.done < start.count = subst (λ (u : Work). work.done < u.count) gone.same left in
         let up = gone.rose in
         let fewer = gone.fewer in
@@ -239,32 +236,30 @@ module _ {S : Type 0} (shelf : Ghosts S) (v : Map) (before : S) (start : Work) (
             same = turned.same;
             buffer = leaves_more start.kind buffer after later gone.leaves turned.buffer;
             front = front_more start.done work.done buffer after later (omega arith) gone.front turned.front;
-            whole = no_ok result ((more.done ≡ start.count) × AreCalm (DriveFailures shelf before next)) none;
+            whole = tt;
             stayed =
                 let still : more.done ≡ work.done = turned.stayed.0 in
                 let same : work.done ≡ more.done = sym still in
-                let since = failed_more shelf before now next gone.calm _ turned.stayed.1 in
-                on_err result ((start.done ≤ more.done) × FailedAt (DriveFailures shelf before next) v start.kind start.at start.count more.done)
-                (omega arith, subst (λ (k : ℕ). FailedAt (DriveFailures shelf before next) v start.kind start.at start.count k) same (record { below = below; begins = gone.begins below; failed = since }));
+                let since = failed_more shelf before now next gone.calm e.0 turned.stayed.2 in
+                (omega arith, subst (λ (k : ℕ). FailedAt (DriveFailures shelf before next) v start.kind start.at start.count k e.0) same (record { below = below; begins = gone.begins below; on = turned.stayed.1; failed = since }));
           };
           counted = record {
-            done = no_ok result (Took shelf.calls shelf.written before next (turns_left v start) (written_of start.kind (start.count - start.done))) none;
+            done = tt;
             failed =
                 let still : more.done ≡ work.done = turned.stayed.0 in
                 let same = ap (turns v start.kind start.at) still in
                 let calls = turns v start.kind start.at more.done - turns v start.kind start.at start.done + 1 in
-                on_err result (TookExactly shelf before next calls (written_of start.kind (start.count - start.done)))
-                (between_then shelf.calls shelf.written before now next
+                between_then shelf.calls shelf.written before now next
                 (turns v start.kind start.at work.done - turns v start.kind start.at start.done) (turns v start.kind start.at work.done - turns v start.kind start.at start.done) (written_of start.kind (work.done - start.done)) 1 1 (written_of start.kind (start.count - work.done))
-                calls calls (written_of start.kind (start.count - start.done)) (omega arith) (omega arith) (omega (arith, blocks)) took counted.any);
+                calls calls (written_of start.kind (start.count - start.done)) (omega arith) (omega arith) (omega (arith, blocks)) took counted.any;
           };
           kept = kept_on now next work more after later gone turn.kept;
         }
 
-    pub ends_badly : (now : S) (work : Work) (after : List (List ℕ)) → SoFar shelf v before now start work buffer after → OneTurn {T = U} {E = F} shelf v now next work more after later (Err e) → work.done < work.count → is_turn v start.kind start.at start.done ≡ true
-        → HasFinished shelf v before next start more buffer later result
+    pub ends_badly : (now : S) (work : Work) (after : List (List ℕ)) → SoFar shelf v before now start work buffer after → OneTurn {T = T} shelf v now next work more after later (Err e) → work.done < work.count → is_turn v start.kind start.at start.done ≡ true
+        → HasFinished {T = T} shelf v before next start more buffer later (Err e)
     ends_badly now work after (inl still) turn left begins =
-        let a = subst (λ (s : S). OneTurn {T = U} {E = F} shelf v s next work more after later (Err e)) still.same_shelf turn in
-        let b = subst (λ (u : Work). OneTurn {T = U} {E = F} shelf v before next u more after later (Err e)) still.same_work a in
-        fails_first (subst (λ (xs : List (List ℕ)). OneTurn {T = U} {E = F} shelf v before next start more xs later (Err e)) still.same_buffer b) (subst (λ (u : Work). u.done < u.count) still.same_work left) begins
+        let a = subst (λ (s : S). OneTurn {T = T} shelf v s next work more after later (Err e)) still.same_shelf turn in
+        let b = subst (λ (u : Work). OneTurn {T = T} shelf v before next u more after later (Err e)) still.same_work a in
+        fails_first (subst (λ (xs : List (List ℕ)). OneTurn {T = T} shelf v before next start more xs later (Err e)) still.same_buffer b) (subst (λ (u : Work). u.done < u.count) still.same_work left) begins
     ends_badly now work after (inr gone) turn left begins = fails_later now work after gone turn left

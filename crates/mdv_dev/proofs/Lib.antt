@@ -1,6 +1,7 @@
 pub mod Counting
 pub mod Failing
 pub mod Drives
+pub mod Copies
 pub mod Lying
 pub mod Together
 pub mod Chaining

@@ -7,6 +7,7 @@ use Rattle.mdv_shelf.specs.Calls.{InDrive}
 use Rattle.mdv_dev.specs.Below.{HasDriveBlock, Map}
 use Rattle.mdv_dev.specs.Pieces.{IsOn, IsPiece, LiesAt, drive_of, goes_on, has_drive, is_new, is_start}
 use Rattle.mdv_dev.specs.declared.piece.Piece.{Piece}
+use Rattle.mdv_dev.proofs.Copies.{drive_is, one_copy, one_place}
 use Rattle.mdv_dev.proofs.Counting.{has_at, not_true, true_not}
 
 pub next_one : (drive block k : ℕ) → drive == drive && block + (k + 1) == (block + k) + 1 ≡ true
@@ -18,7 +19,7 @@ goes_where v b drive block next other here there = rw (here.copies, there.copies
 
 module _ (v : Map) (at count : ℕ) (piece : Piece) (is : IsPiece v at count piece) where
   pub drive_in : (k : ℕ) → k < piece.count → drive_of (v.copies (at + k)) ≡ piece.drive.0
-  drive_in k lt = ap drive_of (is.lies k lt).copies
+  drive_in k lt = drive_is v (at + k) piece.drive.0 (piece.block + k) (is.lies k lt)
 
   goes_in : (k : ℕ) → k + 1 < piece.count → goes_on v (at + k) ≡ true
   goes_in k lt =
@@ -32,10 +33,10 @@ module _ (v : Map) (at count : ℕ) (piece : Piece) (is : IsPiece v at count pie
 
   -- and the volume's block to no other
   pub owned : (k drive block : ℕ) → k < piece.count → HasDriveBlock (v.places (at + k)) drive block → (drive ≡ piece.drive.0) × (block ≡ piece.block + k)
-  owned k drive block lt has = elim (rw (is.lies k lt).places at has) [ inl here ↦ here | inr none ↦ absurd none ]
+  owned k drive block lt has = one_place v (at + k) piece.drive.0 (piece.block + k) (is.lies k lt) drive block has
 
   pub copied : (k drive block : ℕ) → k < piece.count → HasDriveBlock (v.copies (at + k)) drive block → (drive ≡ piece.drive.0) × (block ≡ piece.block + k)
-  copied k drive block lt has = elim (rw (is.lies k lt).copies at has) [ inl here ↦ here | inr none ↦ absurd none ]
+  copied k drive block lt has = one_copy v (at + k) piece.drive.0 (piece.block + k) (is.lies k lt) drive block has
 
   -- it is on its drive
   pub in_drive : (sizes : List ℕ) → IsOn sizes v → at + count ≤ v.blocks → InDrive sizes piece.drive.0 piece.block piece.count

@@ -1,5 +1,5 @@
 -- Whole requests: a read, and a write with its flush.
-use Rattle.std.proofs.Common.{◌≡◌, ◌⊎◌, inl, inr, ℕ, ◌+◌, ◌-◌, ◌<◌, ◌≤◌, Bool, true, false, List, [], length, Option, Result, Ok, Err, OnOk, refl, sym, ◌∙◌, ap, subst, arith}
+use Rattle.std.proofs.Common.{◌≡◌, inl, inr, ℕ, ◌+◌, ◌-◌, ◌<◌, ◌≤◌, Bool, true, false, List, [], length, Option, Ok, Err, refl, sym, ◌∙◌, ap, subst, arith}
 use Rattle.mdv_shelf.specs.Tale.{Tale}
 use Rattle.mdv_shelf.specs.Calls.{Took}
 use Rattle.mdv_shelf.specs.Shelves.{DriveFailures}
@@ -14,14 +14,14 @@ use Rattle.mdv_map.proofs.Covering.{true_false}
 use Rattle.mdv_map.proofs.Joining.{kept_is_old, rewritings_join}
 use Rattle.mdv_map.proofs.Standing.{requests_stand}
 use Rattle.mdv_dev.specs.Pieces.{IsOneCopy, count_to, drive_of, drives, has_drive, is_new, is_start, pieces}
-use Rattle.mdv_dev.specs.Below.{AreCalm, IsSynced, Outcomes}
+use Rattle.mdv_dev.specs.Below.{AreCalm, DriveNo, IsSynced, Outcomes}
 use Rattle.mdv_dev.specs.Works.{AreOnDisk, Carries, IsFinished, MakesTurns, StopsAt, TakesReads, TakesWrites, TookExactly, is_turn, turns, turns_left, written_of}
 use Rattle.mdv_dev.specs.declared.work.Work.{Work}
 use Rattle.mdv_dev.specs.declared.work.WorkKind.{WorkKind}
 use Rattle.mdv_dev.specs.declared.work.WorkKind.TheVariants.{Read, Write, Flush}
+use Rattle.mdv_dev.proofs.Copies.{drive_is, one_copy}
 use Rattle.mdv_dev.proofs.Counting.{has_at}
 use Rattle.mdv_dev.proofs.Failing.{calm_more, failed_more}
-use Rattle.mdv_dev.proofs.Turning.{no_ok, on_err}
 
 -- a request of which nothing is done
 abbrev pub fresh : WorkKind → ℕ → ℕ → Work
@@ -56,7 +56,7 @@ moments_flushed v at blocks a b c first second =
 copy_drive : (v : Map) (b drive block : ℕ) → IsOneCopy v → b < v.blocks → HasDriveBlock (v.copies b) drive block → drive_of (v.copies b) ≡ drive
 copy_drive v b drive block one lt has =
     let there = one b lt in
-    elim (rw there.2.copies at has) [ inl here ↦ ap drive_of there.2.copies ∙ sym here.0 | inr none ↦ absurd none ]
+    drive_is v b there.0 there.1 there.2 ∙ sym (one_copy v b there.0 there.1 there.2 drive block has).0
 
 module _ (v : Map) (at : ℕ) (blocks : List (List ℕ)) (one : IsOneCopy v) (within : at + length blocks ≤ v.blocks) where
   synced_all : (t : Tale) → OnDrives v (has_drive v at (length blocks)) at (length blocks) t → AllOnDisk v at (length blocks) t
@@ -77,9 +77,9 @@ module _ (v : Map) (at : ℕ) (blocks : List (List ℕ)) (one : IsOneCopy v) (wi
     synced = λ drive. carried.synced drive (λ on. absurd (true_false (has_drive v at 0 drive) on (no_drive v at drive)));
   }
 
-  pub write_ends : (calls later : Outcomes) {T E U F : Type 0} (x : T) (y : U) (a b c : Option Tale) (written flushed : Work) (after last : List (List ℕ))
-      → Ends (Carries v (fresh Write at (length blocks)) blocks written after) a b → IsFinished {T = T} {E = E} v calls (fresh Write at (length blocks)) blocks written after (Ok x)
-      → Ends (Carries v (fresh Flush at (length blocks)) after flushed last) b c → IsFinished {T = U} {E = F} v later (fresh Flush at (length blocks)) after flushed last (Ok y)
+  pub write_ends : (calls later : Outcomes) {T U : Type 0} (x : T) (y : U) (a b c : Option Tale) (written flushed : Work) (after last : List (List ℕ))
+      → Ends (Carries v (fresh Write at (length blocks)) blocks written after) a b → IsFinished {T = T} v calls (fresh Write at (length blocks)) blocks written after (Ok x)
+      → Ends (Carries v (fresh Flush at (length blocks)) after flushed last) b c → IsFinished {T = U} v later (fresh Flush at (length blocks)) after flushed last (Ok y)
       → Moments (Rewriting v at []) b c → Ends (λ _ u. AreOnDisk v at blocks u) a c
   write_ends calls later x y a b c written flushed after last first whole second synced calm =
       let is_written : written ≡ record (fresh Write at (length blocks)) { done = length blocks } = whole.same ∙ ap (λ (n : ℕ). let w : Work = record (fresh Write at (length blocks)) { done = n } in w) whole.whole.0 in
@@ -97,10 +97,10 @@ module _ (v : Map) (at : ℕ) (blocks : List (List ℕ)) (one : IsOneCopy v) (wi
       one_end both
 
 -- how often it calls
-module _ {S : Type 0} (shelf : Ghosts S) (v : Map) (at count : ℕ) where
+module _ {S : Type 0} (shelf : Ghosts S) (v : Map) (at count : ℕ) {T : Type 0} where
   -- where a turn of a request failed
-  stops : {U F : Type 0} (e : F) (kind : WorkKind) (a b : S) (new : Work) (before after : List (List ℕ)) → IsFinished {T = U} {E = F} v (DriveFailures shelf a b) (fresh kind at count) before new after (Err e)
-      → MakesTurns {T = U} {E = F} shelf a b v (fresh kind at count) new (Err e) → StopsAt shelf a b v kind at count 0 (written_of kind count)
+  stops : (e : DriveNo) (kind : WorkKind) (a b : S) (new : Work) (before after : List (List ℕ)) → IsFinished {T = T} v (DriveFailures shelf a b) (fresh kind at count) before new after (Err e)
+      → MakesTurns {T = T} {E = DriveNo} shelf a b v (fresh kind at count) new (Err e) → StopsAt shelf a b v kind at count 0 (written_of kind count) e.0
   stops e kind a b new before after finished makes =
       let none = none_counted (is_turn v kind at) new.done in
       let calls : turns v kind at new.done - turns v kind at 0 ≡ 0 + turns v kind at new.done = omega (arith, none) in
@@ -109,26 +109,17 @@ module _ {S : Type 0} (shelf : Ghosts S) (v : Map) (at count : ℕ) where
       (new.done, finished.stayed.1, subst (λ (n : ℕ). TookExactly shelf a b (0 + turns v kind at new.done + 1) (written_of kind n)) blocks exact)
 
   module _ (a b : S) (work : Work) (before after : List (List ℕ)) where
-    pub reads_took : {T E : Type 0} (x : T) → IsFinished {T = T} {E = E} v (DriveFailures shelf a b) (fresh Read at count) before work after (Ok x) → MakesTurns {T = T} {E = E} shelf a b v (fresh Read at count) work (Ok x) → TakesReads {T = T} {E = E} shelf a b v at count (Ok x)
+    pub reads_took : (x : T) → IsFinished {T = T} v (DriveFailures shelf a b) (fresh Read at count) before work after (Ok x) → MakesTurns {T = T} {E = DriveNo} shelf a b v (fresh Read at count) work (Ok x) → TakesReads {T = T} shelf a b v at count (Ok x)
     reads_took x finished makes = record { calm = finished.whole.1; done = subst (λ (n : ℕ). Took shelf.calls shelf.written a b n 0) (none_counted (is_start v at) count) makes.done; failed = tt }
 
-    module _ {T E U F : Type 0} (e : F) (result : Result T E) (none : OnOk result ⊥) where
-      pub reads_stop : IsFinished {T = U} {E = F} v (DriveFailures shelf a b) (fresh Read at count) before work after (Err e) → MakesTurns {T = U} {E = F} shelf a b v (fresh Read at count) work (Err e) → TakesReads shelf a b v at count result
-      reads_stop finished makes = record {
-        calm = no_ok result (AreCalm (DriveFailures shelf a b)) none;
-        done = no_ok result (Took shelf.calls shelf.written a b (pieces v at count) 0) none;
-        failed = on_err result (StopsAt shelf a b v Read at count 0 0) (stops {U = U} {F = F} e Read a b work before after finished makes);
-      }
+    pub reads_stop : (e : DriveNo) → IsFinished {T = T} v (DriveFailures shelf a b) (fresh Read at count) before work after (Err e) → MakesTurns {T = T} {E = DriveNo} shelf a b v (fresh Read at count) work (Err e) → TakesReads {T = T} shelf a b v at count (Err e)
+    reads_stop e finished makes = record { calm = tt; done = tt; failed = stops e Read a b work before after finished makes }
 
-      pub writes_stop : IsFinished {T = U} {E = F} v (DriveFailures shelf a b) (fresh Write at count) before work after (Err e) → MakesTurns {T = U} {E = F} shelf a b v (fresh Write at count) work (Err e) → TakesWrites shelf a b v at count result
-      writes_stop finished makes = record {
-        calm = no_ok result (AreCalm (DriveFailures shelf a b)) none;
-        done = no_ok result (Took shelf.calls shelf.written a b (pieces v at count + drives v at count) count) none;
-        failed = on_err result (StopsAt shelf a b v Write at count 0 count ⊎ StopsAt shelf a b v Flush at count (pieces v at count) count) (inl (stops {U = U} {F = F} e Write a b work before after finished makes));
-      }
+    pub writes_stop : (e : DriveNo) → IsFinished {T = T} v (DriveFailures shelf a b) (fresh Write at count) before work after (Err e) → MakesTurns {T = T} {E = DriveNo} shelf a b v (fresh Write at count) work (Err e) → TakesWrites {T = T} shelf a b v at count (Err e)
+    writes_stop e finished makes = record { calm = tt; done = tt; failed = inl (stops e Write a b work before after finished makes) }
 
-  module _ (a b c : S) (written flushed : Work) (before after : List (List ℕ)) (calm : AreCalm (DriveFailures shelf a b)) {V G : Type 0} (x : V) (first : MakesTurns {T = V} {E = G} shelf a b v (fresh Write at count) written (Ok x)) where
-    pub writes_took : {U F : Type 0} (y : U) → AreCalm (DriveFailures shelf b c) → MakesTurns {T = U} {E = F} shelf b c v (fresh Flush at count) flushed (Ok y) → TakesWrites {T = U} {E = F} shelf a c v at count (Ok y)
+  module _ (a b c : S) (written flushed : Work) (before after : List (List ℕ)) (calm : AreCalm (DriveFailures shelf a b)) (x : T) (first : MakesTurns {T = T} {E = DriveNo} shelf a b v (fresh Write at count) written (Ok x)) where
+    pub writes_took : (y : T) → AreCalm (DriveFailures shelf b c) → MakesTurns {T = T} {E = DriveNo} shelf b c v (fresh Flush at count) flushed (Ok y) → TakesWrites {T = T} shelf a c v at count (Ok y)
     writes_took y still second =
         let one = none_counted (is_start v at) count in
         let two = none_counted (is_new v at) count in
@@ -138,18 +129,14 @@ module _ {S : Type 0} (shelf : Ghosts S) (v : Map) (at count : ℕ) where
           failed = tt;
         }
 
-    pub syncs_stop : {T E U F : Type 0} (e : F) (result : Result T E) → OnOk result ⊥ → IsFinished {T = U} {E = F} v (DriveFailures shelf b c) (fresh Flush at count) before flushed after (Err e)
-        → MakesTurns {T = U} {E = F} shelf b c v (fresh Flush at count) flushed (Err e) → TakesWrites shelf a c v at count result
-    syncs_stop {T} {E} {U} {F} e result none finished makes =
-        let stop = stops {U = U} {F = F} e Flush b c flushed before after finished makes in
+    pub syncs_stop : (e : DriveNo) → IsFinished {T = T} v (DriveFailures shelf b c) (fresh Flush at count) before flushed after (Err e)
+        → MakesTurns {T = T} {E = DriveNo} shelf b c v (fresh Flush at count) flushed (Err e) → TakesWrites {T = T} shelf a c v at count (Err e)
+    syncs_stop e finished makes =
+        let stop = stops e Flush b c flushed before after finished makes in
         let one = none_counted (is_start v at) count in
-        let since = failed_more shelf a b c calm _ stop.1.failed in
+        let since = failed_more shelf a b c calm e.0 stop.1.failed in
         let took = between_of shelf.calls shelf.written a b (turns_left v (fresh Write at count)) (count - 0) (pieces v at count) (pieces v at count) count (omega arith) (omega arith) (omega arith) first.done in
         let calls = pieces v at count + turns v Flush at stop.0 + 1 in
         let both = between_then shelf.calls shelf.written a b c (pieces v at count) (pieces v at count) count (0 + turns v Flush at stop.0 + 1) (0 + turns v Flush at stop.0 + 1) 0 calls calls count (omega arith) (omega arith) (omega arith) took stop.2 in
-        let stopped : StopsAt shelf a c v Flush at count (pieces v at count) count = (stop.0, record { below = stop.1.below; begins = stop.1.begins; failed = since }, both) in
-        record {
-          calm = no_ok result (AreCalm (DriveFailures shelf a c)) none;
-          done = no_ok result (Took shelf.calls shelf.written a c (pieces v at count + drives v at count) count) none;
-          failed = on_err result (StopsAt shelf a c v Write at count 0 count ⊎ StopsAt shelf a c v Flush at count (pieces v at count) count) (inr stopped);
-        }
+        let stopped : StopsAt shelf a c v Flush at count (pieces v at count) count e.0 = (stop.0, record { below = stop.1.below; begins = stop.1.begins; on = stop.1.on; failed = since }, both) in
+        record { calm = tt; done = tt; failed = inr stopped }

@@ -17,7 +17,7 @@ use Rattle.mdv_map.specs.Requests.{AllOnDisk, AllRead, Rewriting}
 use Rattle.mdv_map.proofs.Combining.{in_run}
 use Rattle.mdv_map.proofs.Covering.{from_of, one_of, to_of, true_false}
 use Rattle.mdv_map.proofs.Covering as covering
-use Rattle.mdv_dev.specs.Below.{FailedOn}
+use Rattle.mdv_dev.specs.Below.{DriveNo, FailedOn}
 use Rattle.mdv_dev.specs.Drives.{KeptOnDrives}
 use Rattle.mdv_dev.specs.Pieces.{IsOn, count_to, drives, goes_on, has_drive, is_new, is_start, pieces}
 use Rattle.mdv_dev.specs.Works.{AreOnDisk, IsRange, StopsAt, TakesReads, TakesWrites, is_turn, turns}
@@ -177,34 +177,34 @@ module _ (drive first size : ℕ) where
     }
 
     -- one call of that kind failed, behind so many earlier ones
-    run_stops : (kind : WorkKind) (earlier blocks : ℕ) → StopsAt shelf old new Run kind at count earlier blocks → FailedOn drive (DriveFailures shelf old new) × TookBetween shelf.calls shelf.written old new (earlier + 1) (earlier + 1) blocks
-    run_stops kind earlier blocks stops =
+    run_stops : (kind : WorkKind) (earlier blocks told : ℕ) → StopsAt shelf old new Run kind at count earlier blocks told → FailedOn drive (DriveFailures shelf old new) × TookBetween shelf.calls shelf.written old new (earlier + 1) (earlier + 1) blocks
+    run_stops kind earlier blocks told stops =
         let begins = run_turn kind at stops.0 stops.1.begins in
         let none : turns Run kind at stops.0 ≡ 0 = ap (turns Run kind at) begins ∙ none_of (is_turn Run kind at) in
         let calls : earlier + turns Run kind at stops.0 + 1 ≡ earlier + 1 = omega arith in
-        (stops.1.failed, subst (λ (n : ℕ). TookBetween shelf.calls shelf.written old new n n blocks) calls stops.2)
+        (subst (λ (d : ℕ). FailedOn d (DriveFailures shelf old new)) stops.1.on stops.1.failed, subst (λ (n : ℕ). TookBetween shelf.calls shelf.written old new n n blocks) calls stops.2)
 
-    module _ {T E : Type 0} (some : 0 < count) where
-      pub run_read_made : (x : T) → TakesReads {T = T} {E = E} shelf old new Run at count (Ok x) → Took shelf.calls shelf.written old new 1 0
+    module _ {T : Type 0} (some : 0 < count) where
+      pub run_read_made : (x : T) → TakesReads {T = T} shelf old new Run at count (Ok x) → Took shelf.calls shelf.written old new 1 0
       run_read_made x took = subst (λ (n : ℕ). Took shelf.calls shelf.written old new n 0) (run_pieces at count some) took.done
 
-      pub run_read_failed : (e : E) → TakesReads {T = T} {E = E} shelf old new Run at count (Err e) → FailedOn drive (DriveFailures shelf old new) × TookBetween shelf.calls shelf.written old new 1 1 0
-      run_read_failed e took = run_stops Read 0 0 took.failed
+      pub run_read_failed : (e : DriveNo) → TakesReads {T = T} shelf old new Run at count (Err e) → FailedOn drive (DriveFailures shelf old new) × TookBetween shelf.calls shelf.written old new 1 1 0
+      run_read_failed e took = run_stops Read 0 0 e.0 took.failed
 
-      pub run_write_made : (x : T) → TakesWrites {T = T} {E = E} shelf old new Run at count (Ok x) → Took shelf.calls shelf.written old new 2 count
+      pub run_write_made : (x : T) → TakesWrites {T = T} shelf old new Run at count (Ok x) → Took shelf.calls shelf.written old new 2 count
       run_write_made x took =
           let one = run_pieces at count some in
           let other = run_drives at count some in
           let both : pieces Run at count + drives Run at count ≡ 2 = omega arith in
           subst (λ (n : ℕ). Took shelf.calls shelf.written old new n count) both took.done
 
-      pub run_write_failed : (e : E) → TakesWrites {T = T} {E = E} shelf old new Run at count (Err e) → FailedOn drive (DriveFailures shelf old new) × TookBetween shelf.calls shelf.written old new 1 2 count
+      pub run_write_failed : (e : DriveNo) → TakesWrites {T = T} shelf old new Run at count (Err e) → FailedOn drive (DriveFailures shelf old new) × TookBetween shelf.calls shelf.written old new 1 2 count
       run_write_failed e took = elim took.failed [
         | inl writing ↦
-            let stop = run_stops Write 0 count writing in
+            let stop = run_stops Write 0 count e.0 writing in
             (stop.0, between_wider shelf.calls shelf.written old new 1 1 count 1 2 count (omega arith) (omega arith) (omega arith) stop.1)
         | inr syncing ↦
-            let stop = run_stops Flush (pieces Run at count) count syncing in
+            let stop = run_stops Flush (pieces Run at count) count e.0 syncing in
             let one = run_pieces at count some in
             (stop.0, between_wider shelf.calls shelf.written old new (pieces Run at count + 1) (pieces Run at count + 1) count 1 2 count (omega arith) (omega arith) (omega arith) stop.1)
       ]

@@ -1,5 +1,5 @@
 -- The moments and the end of a turn.
-use Rattle.std.proofs.Common.{◌≡◌, ◌⊎◌, inl, inr, ℕ, ◌+◌, ◌-◌, ◌<◌, ◌≤◌, true, false, nat_lt, List, [], length, take, drop, slice_index_or, Option, Some, Result, Ok, Err, OnErr, OnOk, refl, sym, ◌∙◌, ap, subst, arith}
+use Rattle.std.proofs.Common.{◌≡◌, ◌⊎◌, inl, inr, ℕ, ◌+◌, ◌-◌, ◌<◌, ◌≤◌, true, false, nat_lt, List, [], length, take, drop, slice_index_or, Option, Some, Result, Ok, Err, refl, sym, ◌∙◌, ap, subst, arith}
 use Rattle.mdv_shelf.specs.Tale.{Tale, Then, Wrote, Tore, Synced, covers, last}
 use Rattle.mdv_shelf.specs.Calls.{Writes, Syncs, IsCounted, Took, and_then}
 use Rattle.mdv_shelf.specs.Moments.{Moments, Ends}
@@ -17,18 +17,14 @@ use Rattle.mdv_map.proofs.Copies.{copy_of, le_of_test, lt_of_test}
 use Rattle.mdv_map.proofs.Covering.{drive_of, from_of, to_of}
 use Rattle.mdv_map.proofs.Joining.{rewritings_join}
 use Rattle.mdv_map.proofs.Standing.{requests_stand}
-use Rattle.mdv_dev.specs.Below.{AreCalm, FailedOn, Outcomes}
+use Rattle.mdv_dev.specs.Below.{AreCalm, DriveNo, FailedOn, Outcomes}
 use Rattle.mdv_dev.specs.Pieces.{IsPiece, has_drive, is_new, is_start}
 use Rattle.mdv_dev.specs.Pieces as pieces
-use Rattle.mdv_dev.specs.Works.{Carries, HasDone, HasSynced, IsRewriting, IsTurned, IsTurnCounted, LeavesBuffer, is_turn, news, turns, written_of}
+use Rattle.mdv_dev.specs.Works.{Carries, HasDone, HasSynced, IsRewriting, IsTurned, IsTurnCounted, LeavesBuffer, is_turn, news, written_of}
 use Rattle.mdv_dev.specs.declared.piece.Piece.{Piece}
 use Rattle.mdv_dev.specs.declared.work.Work.{Work}
 use Rattle.mdv_dev.proofs.Counting.{count_turn, has_back}
 use Rattle.mdv_dev.proofs.Lying.{copied, drive_here, owned, owns}
-
-pub on_err : {T E : Type 0} (result : Result T E) (P : Type 0) → P → OnErr result P
-on_err (Ok x) P here = tt
-on_err (Err e) P here = here
 
 -- the next piece of a request of which so many blocks are done
 module _ (v : Map) (at done count : ℕ) (piece : Piece) (is : IsPiece v (at + done) (count - done) piece) (one : IsDisjoint v) (within : at + count ≤ v.blocks) (more : done < count) where
@@ -146,8 +142,8 @@ module _ (v : Map) (at done count : ℕ) (piece : Piece) (is : IsPiece v (at + d
 
 -- what a turn is, at its end
 module _ (v : Map) (calls : Outcomes) (work : Work) (before after : List (List ℕ)) (buffer : LeavesBuffer work.kind before after) (front : take work.done after ≡ take work.done before) where
-  pub turned : {T E : Type 0} (x : T) (end : ℕ) → drop end after ≡ drop end before → work.done < end → end ≤ work.count → is_turn v work.kind work.at work.done ≡ true → ((j : ℕ) → work.done < j → j < end → is_turn v work.kind work.at j ≡ false)
-      → (end < work.count → is_turn v work.kind work.at end ≡ true) → AreCalm calls → IsTurned {T = T} {E = E} v calls work before (record work { done = end }) after (Ok x)
+  pub turned : {T : Type 0} (x : T) (end : ℕ) → drop end after ≡ drop end before → work.done < end → end ≤ work.count → is_turn v work.kind work.at work.done ≡ true → ((j : ℕ) → work.done < j → j < end → is_turn v work.kind work.at j ≡ false)
+      → (end < work.count → is_turn v work.kind work.at end ≡ true) → AreCalm calls → IsTurned {T = T} v calls work before (record work { done = end }) after (Ok x)
   turned x end behind lt le first none next calm = record {
     same = refl;
     buffer = buffer;
@@ -161,22 +157,18 @@ module _ (v : Map) (calls : Outcomes) (work : Work) (before after : List (List �
   }
 
 -- and where its call failed
-pub no_ok : {T E : Type 0} (result : Result T E) (P : Type 0) → OnOk result ⊥ → OnOk result P
-no_ok (Ok x) P none = absurd none
-no_ok (Err e) P none = tt
-
-pub missed : {T E : Type 0} (v : Map) (calls : Outcomes) (work : Work) (before after : List (List ℕ)) (result : Result T E) → LeavesBuffer work.kind before after → take work.done after ≡ take work.done before → OnOk result ⊥ → work.done < work.count → is_turn v work.kind work.at work.done ≡ true
-    → FailedOn (pieces.drive_of (v.copies (work.at + work.done))) calls → IsTurned v calls work before work after result
-missed v calls work before after result buffer front none lt first cause = record {
+pub missed : {T : Type 0} (v : Map) (calls : Outcomes) (work : Work) (before after : List (List ℕ)) (drive : DriveNo) → LeavesBuffer work.kind before after → take work.done after ≡ take work.done before → work.done < work.count → is_turn v work.kind work.at work.done ≡ true
+    → drive.0 ≡ pieces.drive_of (v.copies (work.at + work.done)) → FailedOn drive.0 calls → IsTurned {T = T} v calls work before work after (Err drive)
+missed v calls work before after drive buffer front lt first on cause = record {
   same = refl;
   buffer = buffer;
   front = front;
-  behind = no_ok result (drop work.done after ≡ drop work.done before) none;
+  behind = tt;
   within = omega arith;
   begins = λ _. first;
-  rose = no_ok result ((work.done < work.done) × (turns v work.kind work.at work.done ≡ turns v work.kind work.at work.done + 1)) none;
-  calm = no_ok result (AreCalm calls) none;
-  stayed = on_err result ((work.done ≡ work.done) × FailedOn (pieces.drive_of (v.copies (work.at + work.done))) calls) (refl, cause);
+  rose = tt;
+  calm = tt;
+  stayed = (refl, on, cause);
 }
 
 -- what it takes
@@ -187,9 +179,9 @@ module _ {S : Type 0} (shelf : Ghosts S) (before now : S) (old new : Work) (bloc
     any = between_wider shelf.calls shelf.written before now 1 1 blocks 1 1 (written_of old.kind (old.count - old.done)) (omega arith) (omega arith) few (between_one shelf.calls shelf.written before now blocks counted);
   }
 
-  pub turn_missed : {T E : Type 0} (result : Result T E) → OnOk result ⊥ → IsTurnCounted shelf before now old new result
-  turn_missed result none = record {
-    done = no_ok result (Took shelf.calls shelf.written before now 1 (written_of old.kind (new.done - old.done))) none;
+  pub turn_missed : {T E : Type 0} (e : E) → IsTurnCounted {T = T} {E = E} shelf before now old new (Err e)
+  turn_missed e = record {
+    done = tt;
     any = between_wider shelf.calls shelf.written before now 1 1 blocks 1 1 (written_of old.kind (old.count - old.done)) (omega arith) (omega arith) few (between_one shelf.calls shelf.written before now blocks counted);
   }
 

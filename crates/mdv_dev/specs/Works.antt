@@ -1,8 +1,8 @@
 -- Requests for blocks of a device: what one has done by now, and what a turn of it does.
-use Rattle.std.specs.Prelude.{◌≡◌, ◌⊎◌, ℕ, ◌+◌, ◌-◌, ◌<◌, ◌≤◌, Bool, true, List, [], length, take, drop, Result, OnOk, OnErr}
+use Rattle.std.specs.Prelude.{◌≡◌, ◌⊎◌, ℕ, ◌+◌, ◌-◌, ◌<◌, ◌≤◌, Bool, true, List, [], length, take, drop, Result, IfErr, OnOk, OnErr}
 use Rattle.mdv_shelf.specs.Shelves.{AtEachTale, DriveFailures}
 use Rattle.mdv_shelf.specs.declared.shelf.Shelf.{Ghosts}
-use Rattle.mdv_dev.specs.Below.{AllOnDisk, AllRead, AreCalm, AreRead, FailedOn, IsSynced, Map, OnDrives, Outcomes, Rewriting, Tale, Took, TookBetween}
+use Rattle.mdv_dev.specs.Below.{AllOnDisk, AllRead, AreCalm, AreRead, DriveNo, FailedOn, IsSynced, Map, OnDrives, Outcomes, Rewriting, Tale, Took, TookBetween}
 use Rattle.mdv_dev.specs.Pieces.{count_to, drive_of, drives, has_drive, is_new, is_start, pieces}
 use Rattle.mdv_dev.specs.declared.work.Work.{Work}
 use Rattle.mdv_dev.specs.declared.work.WorkKind.{WorkKind}
@@ -70,10 +70,11 @@ LeavesBuffer Write old new = new ≡ old
 LeavesBuffer Flush old new = new ≡ old
 
 -- A call failed at the request's block of that number: a turn begins there, the drive is the one that this block lies on, and no call failed on another.
-pub record FailedAt (calls : Outcomes) (v : Map) (kind : WorkKind) (at count k : ℕ) : Type 0 where
+pub record FailedAt (calls : Outcomes) (v : Map) (kind : WorkKind) (at count k drive : ℕ) : Type 0 where
   pub below : k < count
   pub begins : is_turn v kind at k ≡ true
-  pub failed : FailedOn (drive_of (v.copies (at + k))) calls
+  pub on : drive ≡ drive_of (v.copies (at + k))
+  pub failed : FailedOn drive calls
 
 -- At each moment a request rewrites its own blocks alone; a read leaves the tale as it was.
 pub record IsRewriting {S : Type 0} (shelf : Ghosts S) (old new : S) (v : Map) (work : Work) (buffer : List (List ℕ)) : Type 0 where
@@ -81,8 +82,9 @@ pub record IsRewriting {S : Type 0} (shelf : Ghosts S) (old new : S) (v : Map) (
   pub still : work.kind ≡ Read → shelf.tale new ≡ shelf.tale old
 
 -- One turn: more is done, up to where the next one begins, or to the end, and the buffer stays but for the blocks that it did. Where its
--- call failed, no more is done, and the front of the buffer stays, as far as blocks are done.
-pub record IsTurned {T E : Type 0} (v : Map) (calls : Outcomes) (old : Work) (before : List (List ℕ)) (new : Work) (after : List (List ℕ)) (result : Result T E) : Type 0 where
+-- call failed, no more is done, and the front of the buffer stays, as far as blocks are done: it was on the drive that is told, the one of
+-- the first block that isn't done.
+pub record IsTurned {T : Type 0} (v : Map) (calls : Outcomes) (old : Work) (before : List (List ℕ)) (new : Work) (after : List (List ℕ)) (result : Result T DriveNo) : Type 0 where
   pub same : new ≡ record old { done = new.done }
   pub buffer : LeavesBuffer old.kind before after
   pub front : take old.done after ≡ take old.done before
@@ -91,16 +93,16 @@ pub record IsTurned {T E : Type 0} (v : Map) (calls : Outcomes) (old : Work) (be
   pub begins : new.done < old.count → is_turn v old.kind old.at new.done ≡ true
   pub rose : OnOk result ((old.done < new.done) × (turns v old.kind old.at new.done ≡ turns v old.kind old.at old.done + 1))
   pub calm : OnOk result (AreCalm calls)
-  pub stayed : OnErr result ((new.done ≡ old.done) × FailedOn (drive_of (v.copies (old.at + old.done))) calls)
+  pub stayed : IfErr result (λ drive. (new.done ≡ old.done) × (drive.0 ≡ drive_of (v.copies (old.at + old.done))) × FailedOn drive.0 calls)
 
 -- All turns of it. The front of the buffer stays, as far as blocks were done before. Where a call failed, all before it stays done: it
--- failed at the first block that isn't.
-pub record IsFinished {T E : Type 0} (v : Map) (calls : Outcomes) (old : Work) (before : List (List ℕ)) (new : Work) (after : List (List ℕ)) (result : Result T E) : Type 0 where
+-- failed at the first block that isn't, on the drive that is told.
+pub record IsFinished {T : Type 0} (v : Map) (calls : Outcomes) (old : Work) (before : List (List ℕ)) (new : Work) (after : List (List ℕ)) (result : Result T DriveNo) : Type 0 where
   pub same : new ≡ record old { done = new.done }
   pub buffer : LeavesBuffer old.kind before after
   pub front : take old.done after ≡ take old.done before
   pub whole : OnOk result ((new.done ≡ old.count) × AreCalm calls)
-  pub stayed : OnErr result ((old.done ≤ new.done) × FailedAt calls v old.kind old.at old.count new.done)
+  pub stayed : IfErr result (λ drive. (old.done ≤ new.done) × FailedAt calls v old.kind old.at old.count new.done drive.0)
 
 -- how many turns are left of it
 abbrev pub turns_left : Map → Work → ℕ
@@ -136,19 +138,19 @@ pub record IsRange (v : Map) (at count : ℕ) : Type 0 where
   pub some : 0 < count
   pub within : at + count ≤ v.blocks
 
--- It stopped at the failure of a turn of that kind: it made so many calls earlier, one for each turn before it, that one, and no other.
-abbrev pub StopsAt : {S : Type 0} → Ghosts S → S → S → Map → WorkKind → ℕ → ℕ → ℕ → ℕ → Type 0
-StopsAt shelf before now v kind at count earlier blocks =
-    (k : ℕ) × FailedAt (DriveFailures shelf before now) v kind at count k × TookExactly shelf before now (earlier + turns v kind at k + 1) blocks
+-- It stopped at the failure of a turn of that kind on that drive: it made so many calls earlier, one for each turn before it, that one, and no other.
+abbrev pub StopsAt : {S : Type 0} → Ghosts S → S → S → Map → WorkKind → ℕ → ℕ → ℕ → ℕ → ℕ → Type 0
+StopsAt shelf before now v kind at count earlier blocks drive =
+    (k : ℕ) × FailedAt (DriveFailures shelf before now) v kind at count k drive × TookExactly shelf before now (earlier + turns v kind at k + 1) blocks
 
--- a whole read: a call for each piece, up to the first that fails
-pub record TakesReads {S T E : Type 0} (shelf : Ghosts S) (before now : S) (v : Map) (at count : ℕ) (result : Result T E) : Type 0 where
+-- a whole read: a call for each piece, up to the first that fails, on the drive that is told
+pub record TakesReads {S T : Type 0} (shelf : Ghosts S) (before now : S) (v : Map) (at count : ℕ) (result : Result T DriveNo) : Type 0 where
   pub calm : OnOk result (AreCalm (DriveFailures shelf before now))
   pub done : OnOk result (Took shelf.calls shelf.written before now (pieces v at count) 0)
-  pub failed : OnErr result (StopsAt shelf before now v Read at count 0 0)
+  pub failed : IfErr result (λ drive. StopsAt shelf before now v Read at count 0 0 drive.0)
 
--- a whole write: a call for each piece, and then one for each drive, up to the first that fails
-pub record TakesWrites {S T E : Type 0} (shelf : Ghosts S) (before now : S) (v : Map) (at count : ℕ) (result : Result T E) : Type 0 where
+-- a whole write: a call for each piece, and then one for each drive, up to the first that fails, on the drive that is told
+pub record TakesWrites {S T : Type 0} (shelf : Ghosts S) (before now : S) (v : Map) (at count : ℕ) (result : Result T DriveNo) : Type 0 where
   pub calm : OnOk result (AreCalm (DriveFailures shelf before now))
   pub done : OnOk result (Took shelf.calls shelf.written before now (pieces v at count + drives v at count) count)
-  pub failed : OnErr result (StopsAt shelf before now v Write at count 0 count ⊎ StopsAt shelf before now v Flush at count (pieces v at count) count)
+  pub failed : IfErr result (λ drive. StopsAt shelf before now v Write at count 0 count drive.0 ⊎ StopsAt shelf before now v Flush at count (pieces v at count) count drive.0)

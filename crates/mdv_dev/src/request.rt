@@ -7,17 +7,17 @@ ghost use Rattle.mdv_dev.specs.Pieces.{IsOn};
 ghost use Rattle.mdv_dev.specs.Works.{AreOnDisk, IsRange, TakesReads, TakesWrites};
 
 use crate::{Placed, Work, WorkKind, finish};
-use mdv_base::{Block, Failed};
+use mdv_base::{Block, DriveNo};
 use mdv_shelf::Shelf;
 
-/// Reads blocks of the device, from block `at` of it on, with one call for each piece of them. After a failure `out`
-/// holds anything.
+/// Reads blocks of the device, from block `at` of it on, with one call for each piece of them. Where a call failed, its
+/// drive is told, and `out` holds anything.
 pub fn read_blocks<D: Placed, S: Shelf>(
     device: &D,
     shelf: &mut S,
     at: u64,
     out: &mut [Block],
-) -> Result<(), Failed>
+) -> Result<(), DriveNo>
     requires well { D.IsWell device.now }
     requires on { IsOn (S.sizes shelf.old) (D.map device.now) }
     requires disjoint { IsDisjoint (D.map device.now) }
@@ -39,13 +39,14 @@ pub fn read_blocks<D: Placed, S: Shelf>(
 }
 
 /// Writes blocks of the device, from block `at` of it on, with one call for each piece of them, and then syncs each
-/// drive that they lie on, once. Where a call failed, each of the blocks may be old or new. The buffer stays as it is.
+/// drive that they lie on, once. Where a call failed, its drive is told, and each of the blocks may be old or new. The
+/// buffer stays as it is.
 pub fn write_blocks<D: Placed, S: Shelf>(
     device: &D,
     shelf: &mut S,
     at: u64,
     from: &mut [Block],
-) -> Result<(), Failed>
+) -> Result<(), DriveNo>
     requires well { D.IsWell device.now }
     requires on { IsOn (S.sizes shelf.old) (D.map device.now) }
     requires disjoint { IsDisjoint (D.map device.now) }

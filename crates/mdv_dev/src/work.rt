@@ -6,7 +6,7 @@ ghost use Rattle.mdv_dev.specs.Pieces.{IsOn, has_drive, is_new};
 ghost use Rattle.mdv_dev.specs.Works.{Carries, IsFinished, IsOpen, IsRewriting, IsTurned, IsTurnCounted, MakesTurns};
 
 use crate::Placed;
-use mdv_base::{Block, DriveNo, Failed};
+use mdv_base::{Block, DriveNo};
 use mdv_shelf::Shelf;
 
 /// What is done to blocks of a device: they are read, written, or put on the disk.
@@ -27,13 +27,14 @@ pub struct Work {
 }
 
 /// One call on one drive: the next piece is read or written, or the next drive is synced. The buffer has a block for
-/// each one of a read or a write, and is any for a flush. After a failure the blocks of a read that aren't done are anything.
+/// each one of a read or a write, and is any for a flush. Where the call failed, the drive is told, and the blocks of a read that
+/// aren't done are anything.
 pub fn turn<D: Placed, S: Shelf>(
     device: &D,
     shelf: &mut S,
     work: &mut Work,
     buffer: &mut [Block],
-) -> Result<(), Failed>
+) -> Result<(), DriveNo>
     requires well { D.IsWell device.now }
     requires on { IsOn (S.sizes shelf.old) (D.map device.now) }
     requires disjoint { IsDisjoint (D.map device.now) }
@@ -45,20 +46,20 @@ pub fn turn<D: Placed, S: Shelf>(
     ensures kept { KeptOnDrives S.Shelf shelf.old shelf.new (D.map device.now) work.old.at work.old.count }
 {
     match work.kind {
-        WorkKind::Read => read_piece(device, shelf, work, buffer)?,
-        WorkKind::Write => write_piece(device, shelf, work, buffer)?,
-        WorkKind::Flush => sync_drive(device, shelf, work)?,
+        WorkKind::Read => read_piece(device, shelf, work, buffer),
+        WorkKind::Write => write_piece(device, shelf, work, buffer),
+        WorkKind::Flush => sync_drive(device, shelf, work),
     }
-    Ok(())
 }
 
-/// All that is left of the request, turn after turn: each piece is read or written with one call, or each drive synced once.
+/// All that is left of the request, turn after turn: each piece is read or written with one call, or each drive synced
+/// once. Where a call failed, its drive is told.
 pub fn finish<D: Placed, S: Shelf>(
     device: &D,
     shelf: &mut S,
     work: &mut Work,
     buffer: &mut [Block],
-) -> Result<(), Failed>
+) -> Result<(), DriveNo>
     requires well { D.IsWell device.now }
     requires on { IsOn (S.sizes shelf.old) (D.map device.now) }
     requires disjoint { IsDisjoint (D.map device.now) }
@@ -80,7 +81,7 @@ fn read_piece<D: Placed, S: Shelf>(
     shelf: &mut S,
     work: &mut Work,
     out: &mut [Block],
-) -> Result<(), Failed>
+) -> Result<(), DriveNo>
     requires kind { work.old.kind ≡ WorkKind.Read }
     requires well { D.IsWell device.now }
     requires on { IsOn (S.sizes shelf.old) (D.map device.now) }
@@ -95,9 +96,13 @@ fn read_piece<D: Placed, S: Shelf>(
     let piece = device.piece(work.at + work.done, work.count - work.done);
     let end = work.done + piece.count;
     let blocks = &mut out[work.done as usize..end as usize];
-    shelf.read(piece.drive, piece.block, blocks)?;
-    work.done = end;
-    Ok(())
+    match shelf.read(piece.drive, piece.block, blocks) {
+        Ok(()) => {
+            work.done = end;
+            Ok(())
+        }
+        Err(_) => Err(piece.drive),
+    }
 }
 
 fn write_piece<D: Placed, S: Shelf>(
@@ -105,7 +110,7 @@ fn write_piece<D: Placed, S: Shelf>(
     shelf: &mut S,
     work: &mut Work,
     from: &[Block],
-) -> Result<(), Failed>
+) -> Result<(), DriveNo>
     requires kind { work.old.kind ≡ WorkKind.Write }
     requires well { D.IsWell device.now }
     requires on { IsOn (S.sizes shelf.old) (D.map device.now) }
@@ -120,12 +125,20 @@ fn write_piece<D: Placed, S: Shelf>(
     let piece = device.piece(work.at + work.done, work.count - work.done);
     let end = work.done + piece.count;
     let blocks = &from[work.done as usize..end as usize];
-    shelf.write(piece.drive, piece.block, blocks)?;
-    work.done = end;
-    Ok(())
+    match shelf.write(piece.drive, piece.block, blocks) {
+        Ok(()) => {
+            work.done = end;
+            Ok(())
+        }
+        Err(_) => Err(piece.drive),
+    }
 }
 
-fn sync_drive<D: Placed, S: Shelf>(device: &D, shelf: &mut S, work: &mut Work) -> Result<(), Failed>
+fn sync_drive<D: Placed, S: Shelf>(
+    device: &D,
+    shelf: &mut S,
+    work: &mut Work,
+) -> Result<(), DriveNo>
     requires kind { work.old.kind ≡ WorkKind.Flush }
     requires well { D.IsWell device.now }
     requires on { IsOn (S.sizes shelf.old) (D.map device.now) }
@@ -137,9 +150,13 @@ fn sync_drive<D: Placed, S: Shelf>(device: &D, shelf: &mut S, work: &mut Work) -
     ensures kept { KeptOnDrives S.Shelf shelf.old shelf.new (D.map device.now) work.old.at work.old.count }
 {
     let piece = device.piece(work.at + work.done, work.count - work.done);
-    shelf.sync(piece.drive)?;
-    work.done = next_drive(device, work.at, work.done + piece.count, work.count);
-    Ok(())
+    match shelf.sync(piece.drive) {
+        Ok(()) => {
+            work.done = next_drive(device, work.at, work.done + piece.count, work.count);
+            Ok(())
+        }
+        Err(_) => Err(piece.drive),
+    }
 }
 
 // The first block from that one on that lies on another drive than each of the request's blocks before it, or the end.

@@ -1,5 +1,6 @@
 -- How the calls of a command add up, and what a refusal says of them.
-use Rattle.std.proofs.Common.{◌≡◌, ◌≢◌, ◌⊎◌, ◌≤◌, inl, inr, ◌+◌, ◌*◌, ℕ, Bool, true, false, if◌then◌else◌, List, Option, Some, None, refl, sym, subst, ap, arith}
+use Rattle.std.proofs.Common.{◌≡◌, ◌≢◌, ◌⊎◌, ◌≤◌, inl, inr, ◌+◌, ◌*◌, ℕ, min, Bool, true, false, if◌then◌else◌, List, Option, Some, None, refl, sym, subst, ap, arith}
+use Rattle.std.proofs.Math.Nat.{min-eq_left}
 use Rattle.mdv_shelf.specs.Calls.{OnReplies, Part}
 use Rattle.mdv_shelf.specs.Made.{and_more, made_of}
 use Rattle.mdv_shelf.specs.Shelves.{DriveFailures, MadeCalls}
@@ -8,7 +9,7 @@ use Rattle.mdv_shelf.proofs.Between.{between_none, between_of, between_then, bet
 use Rattle.mdv_shelf.proofs.Made.{with_more}
 use Rattle.mdv_acts.specs.Asked.{blanked_asked}
 use Rattle.mdv_words.specs.declared.command.Command.TheVariants.{MakeStripe, Print}
-use Rattle.mdv_engine.specs.Below.{Answer, Command, AddListed, AddPlaces, DropPlaces, Ended, Host, IoFault, Memory, Opened, OutOfMemory, Outcomes, Read, Refusal, VolId, Write, lines_asked}
+use Rattle.mdv_engine.specs.Below.{Answer, Command, AddListed, AddPlaces, DropPlaces, Ended, Host, IoFault, Memory, Opened, OutOfMemory, Outcomes, Read, Refusal, VolId, Write, drives_in, lines_asked, pieces_in}
 use Rattle.mdv_engine_law.specs.Answers.{IsMereRefusal, IsSaid, refusing}
 use Rattle.mdv_engine_law.specs.Efforts.{CommandCalls, FaultCalls, LossCalls, MadeCallsOf, places_on, replied_to, wanting_calls}
 use Rattle.mdv_engine_law.specs.Refusals.{blocks_refusal}
@@ -31,6 +32,7 @@ use Rattle.mdv_engine_law.specs.Places.{are_all}
 use Rattle.mdv_engine_law.proofs.Efforts.{command_too, done_too, fault_too, too_itself}
 use Rattle.mdv_engine_law.proofs.Widening.{AreWithin}
 use Rattle.mdv_engine.specs.Counts.{DoneCalls, HasHalted, HasTriedAll, IsCommandCounted, IsQuietRefusal, IsUnlooked, blocks_of, calls_of}
+use Rattle.mdv_engine.specs.Ends.{IsFew}
 use Rattle.mdv_engine.specs.Engine.{HasBlocksCause}
 
 -- what is only said has a reply
@@ -185,7 +187,7 @@ module _ {S : Type 0} (shelf : Ghosts S) where
     -- a refusal before any call
     pub refused_counted : (command : Command) (refusal : Refusal) (before now : Option Opened) → (refusal ≡ IoFault → Faulted command before now) → new ≡ old → IsCommandCounted shelf old new host command (refusing refusal) before now
     refused_counted command IoFault before now fault same = fault refl
-    refused_counted command OutOfMemory before now fault same = (none_within old new (wanting_calls command) 0 same, ap shelf.tale same)
+    refused_counted command OutOfMemory before now fault same = (none_within old new (wanting_calls host before command) 0 same, ap shelf.tale same)
     refused_counted command other before now fault same = same
 
     -- blocks that aren't read or written
@@ -226,12 +228,16 @@ module _ {S : Type 0} (shelf : Ghosts S) where
     formats_fault slices force count blocks None now took = (took, formats_most (blanked_asked (lines_asked host slices) count) (places_on (lines_asked host slices) count) took, tt)
     formats_fault slices force count blocks (Some o) now took = (took, moved_most o (Adds (lines_asked host slices) count blocks) took, tt)
 
+    -- as many blocks as are read at once
+    pub in_most : (volume : VolId) (at count : ℕ) (before : Option Opened) → count ≤ 1024 → (made_of shelf old new).within 0 (pieces_in host before volume at count) 0 → (made_of shelf old new).within 0 (pieces_in host before volume at (min count 1024)) 0
+    in_most volume at count before few took = subst (λ (n : ℕ). (made_of shelf old new).within 0 (pieces_in host before volume at n) 0) (sym (min-eq_left few)) took
+
     -- in a transfer
-    pub read_fault : (volume : VolId) (at count : ℕ) (before now : Option Opened) → FaultCalls (made_of shelf old new) (Read volume at count) host before → Faulted (Read volume at count) before now
-    read_fault volume at count before now took = (took, wider 1 1 0 1 0 (omega arith) (omega arith) took, tt)
+    pub read_fault : (volume : VolId) (at count : ℕ) (before now : Option Opened) → count ≤ 1024 → FaultCalls (made_of shelf old new) (Read volume at count) host before → Faulted (Read volume at count) before now
+    read_fault volume at count before now few took = (let k = pieces_in host before volume at count in (took, in_most volume at count before few (wider 1 k 0 k 0 (omega arith) (omega arith) took), tt))
 
     pub write_fault : (volume : VolId) (at : ℕ) (block : List ℕ) (before now : Option Opened) → FaultCalls (made_of shelf old new) (Write volume at block) host before → Faulted (Write volume at block) before now
-    write_fault volume at block before now took = (took, wider 1 2 1 2 1 (omega arith) (omega arith) took, tt)
+    write_fault volume at block before now took = (let k = pieces_in host before volume at 1 + drives_in host before volume at 1 in (took, wider 1 k 1 k 1 (omega arith) (omega arith) took, tt))
 
     drop_most : (o : Opened) (slices : List _) (all : Bool) → (made_of shelf old new).within 0 (move_calls o (if all then KeepsFirst else Drops slices)) (move_blocks o (if all then KeepsFirst else Drops slices))
         → (made_of shelf old new).within 0 (if all then deletion_calls o else move_calls o (Drops slices)) (if all then deletion_blocks o else move_blocks o (Drops slices))
@@ -252,24 +258,24 @@ module _ {S : Type 0} (shelf : Ghosts S) where
     loss_most (Write volume at block) before took = absurd took
     loss_most (Print names) before took = absurd took
 
-    wanting_most : (command : Command) (before : Option Opened) (blocks : ℕ) → (made_of shelf old new).within 0 (wanting_calls command) 0 → (made_of shelf old new).within 0 (calls_of host before command) blocks
+    wanting_most : (command : Command) (before : Option Opened) (blocks : ℕ) → (made_of shelf old new).within 0 (wanting_calls host before command) 0 → (made_of shelf old new).within 0 (calls_of host before command) blocks
     wanting_most (AddPlaces slices force count blocks) before written took = wider 0 0 0 _ written (omega arith) (omega arith) took
     wanting_most (AddListed number force) before written took = wider 0 0 0 0 written (omega arith) (omega arith) took
     wanting_most (DropPlaces slices force) before written took = wider 0 0 0 _ written (omega arith) (omega arith) took
     wanting_most (MakeStripe volume slice) before written took = wider 0 0 0 _ written (omega arith) (omega arith) took
-    wanting_most (Read volume at count) before written took = wider 0 1 0 1 written (omega arith) (omega arith) took
-    wanting_most (Write volume at block) before written took = wider 0 0 0 2 written (omega arith) (omega arith) took
+    wanting_most (Read volume at count) before written took = (let k = pieces_in host before volume at (min count 1024) in wider 0 k 0 k written (omega arith) (omega arith) took)
+    wanting_most (Write volume at block) before written took = wider 0 0 0 _ written (omega arith) (omega arith) took
     wanting_most (Print names) before written took = wider 0 0 0 0 written (omega arith) (omega arith) took
 
-    -- a command that is refused for want of memory has made one call at most
-    wanting_one : (command : Command) → (made_of shelf old new).within 0 (wanting_calls command) 0 → (made_of shelf old new).within 0 1 0
-    wanting_one (AddPlaces slices force count blocks) took = wider 0 0 0 1 0 (omega arith) (omega arith) took
-    wanting_one (AddListed number force) took = wider 0 0 0 1 0 (omega arith) (omega arith) took
-    wanting_one (DropPlaces slices force) took = wider 0 0 0 1 0 (omega arith) (omega arith) took
-    wanting_one (MakeStripe volume slice) took = wider 0 0 0 1 0 (omega arith) (omega arith) took
-    wanting_one (Read volume at count) took = took
-    wanting_one (Write volume at block) took = wider 0 0 0 1 0 (omega arith) (omega arith) took
-    wanting_one (Print names) took = wider 0 0 0 1 0 (omega arith) (omega arith) took
+    -- a command that asks places makes no call where memory is wanting
+    wanting_few : (command : Command) (before : Option Opened) → (made_of shelf old new).within 0 (wanting_calls host before command) 0 → (made_of shelf old new).within 0 1 0 ⊎ IsFew command
+    wanting_few (AddPlaces slices force count blocks) before took = inl (wider 0 0 0 1 0 (omega arith) (omega arith) took)
+    wanting_few (AddListed number force) before took = inr tt
+    wanting_few (DropPlaces slices force) before took = inr tt
+    wanting_few (MakeStripe volume slice) before took = inr tt
+    wanting_few (Read volume at count) before took = inr tt
+    wanting_few (Write volume at block) before took = inr tt
+    wanting_few (Print names) before took = inr tt
 
   module _ (old new : S) (host : Host) (command : Command) (before now : Option Opened) where
     abbrev Counted : Answer → Type 0
@@ -290,14 +296,14 @@ module _ {S : Type 0} (shelf : Ghosts S) where
     command_most (Over (ended.NoQuorum readable needed)) same = none_within old new _ _ same
     command_most (Over (ended.TwoDatabases a b)) same = none_within old new _ _ same
 
-    -- a mere refusal
-    pub mere_most : (answer : Answer) → IsMereRefusal answer → Counted answer → (made_of shelf old new).within 0 1 0
-    mere_most (Said outcome.Ok) is took = absurd is
-    mere_most (Said (outcome.Values text)) is took = absurd is
-    mere_most (Said (outcome.Refused IoFault)) is took = absurd is
-    mere_most (Said (outcome.Refused OutOfMemory)) is took = wanting_one old new host command took.0
-    mere_most (Said (outcome.Refused other)) is same = none_within old new _ _ same
-    mere_most (Over end) is took = absurd is
+    -- a mere refusal makes one at most, or asks few places
+    pub mere_few : (answer : Answer) → IsMereRefusal answer → Counted answer → (made_of shelf old new).within 0 1 0 ⊎ IsFew command
+    mere_few (Said outcome.Ok) is took = absurd is
+    mere_few (Said (outcome.Values text)) is took = absurd is
+    mere_few (Said (outcome.Refused IoFault)) is took = absurd is
+    mere_few (Said (outcome.Refused OutOfMemory)) is took = wanting_few old new host command before took.0
+    mere_few (Said (outcome.Refused other)) is same = inl (none_within old new _ _ same)
+    mere_few (Over end) is took = absurd is
 
     refused_calls : (refusal : Refusal) → Counted (refusing refusal) → CommandCalls (DriveFailures shelf old new) (made_of shelf old new) host command (refusing refusal) before now
     refused_calls IoFault counted = counted.0
@@ -322,7 +328,7 @@ module _ {S : Type 0} (shelf : Ghosts S) where
     pub halted_told : (failed : Type 0) (answer : Answer) (piece : List ℕ) → IsTold failed answer (reply.Refused IoFault) piece → Counted answer → HasHalted shelf old new host command before now
     halted_told failed answer piece told counted = (subst Counted (told_refusal failed answer IoFault piece told) counted).2
 
-    pub wanting_told : (failed : Type 0) (answer : Answer) (piece : List ℕ) → IsTold failed answer (reply.Refused OutOfMemory) piece → Counted answer → (made_of shelf old new).within 0 (wanting_calls command) 0
+    pub wanting_told : (failed : Type 0) (answer : Answer) (piece : List ℕ) → IsTold failed answer (reply.Refused OutOfMemory) piece → Counted answer → (made_of shelf old new).within 0 (wanting_calls host before command) 0
     wanting_told failed answer piece told counted = (subst Counted (told_refusal failed answer OutOfMemory piece told) counted).0
 
     -- and where the run is over

@@ -238,7 +238,7 @@ module _ (host : Host) (sizes : List ℕ) (ready : IsReady host sizes) (memory :
 
       pub made_carried : (ask : Ask) → IsAskOf host memory lines count blocks ask → CarriedTo host ask memory accepted (with_new memory o) t m
       made_carried ask is_ask =
-          making.made host sizes ready memory none clean lines count blocks on_site within placed t m kept ask is_ask.rest is_ask.asks is_ask.acks (is_ask.writes t m on kept) o (with_new memory o) refl (one_more memory.begun) (ap (λ (x : Opened). x.key) made.is) (ap (λ (x : Opened). x.table.plan.volumes) made.is) refl opened
+          making.made host sizes ready memory none clean lines count blocks on_site within placed t m kept ask is_ask.rest is_ask.asks is_ask.acks (is_ask.writes t m on kept) o (with_new memory o) refl refl (one_more memory.begun) (ap (λ (x : Opened). x.key) made.is) (ap (λ (x : Opened). x.table.plan.volumes) made.is) refl opened
           (λ all is. databases.created_made host.drives all key identity lines count blocks t is m moment o (ends.ended host.drives _ (databases.may_create host.drives all key identity lines count blocks t is)) (ap (λ (x : Opened). x.key) made.is) (ap (λ (x : Opened). x.identity) made.is))
 
     -- a call of its formats failed
@@ -255,7 +255,7 @@ module _ (host : Host) (sizes : List ℕ) (ready : IsReady host sizes) (memory :
       ]
 
       pub failed_carried : (ask : Ask) → IsAskOf host memory lines count blocks ask → CarriedTo host ask memory (refusing IoFault) (begun memory) t m
-      failed_carried ask is_ask = making.unmade host sizes ready memory none clean lines count blocks on_site within placed t m kept ask is_ask.rest is_ask.asks is_ask.acks (is_ask.writes t m on kept) (begun memory) refl (one_more memory.begun) none
+      failed_carried ask is_ask = making.unmade host sizes ready memory none clean lines count blocks on_site within placed t m kept ask is_ask.rest is_ask.asks is_ask.acks (is_ask.writes t m on kept) (begun memory) refl refl (one_more memory.begun) none
           (λ all is. databases.created_fails host.drives all key identity lines count blocks t is m moment (ends.ended host.drives _ (databases.may_create host.drives all key identity lines count blocks t is)))
 
     -- too few places took its table
@@ -305,4 +305,4 @@ module _ (host : Host) (memory : Memory) (slices : List SliceName) (force : Bool
   unbegun_line free calls calm t start = (t, same ∙ start, λ known. came.wanting calm refl (free, subst (λ (x : Option Opened). MatchOption x (IsUnbegun (kept_at memory t) (kept_at (begun memory) t)) (λ old. Stays (kept_at memory t) (kept_at (begun memory) t))) (sym none) (record { memory = refl; content = λ drive block. refl })))
 
   pub unbegun_carried : (ask : Ask) → Ends (CarriedTo host ask memory (refusing OutOfMemory) (begun memory)) a b
-  unbegun_carried ask t start = (t, same ∙ start, refused_still host ask memory (begun memory) t refl refl refl (omega arith) OutOfMemory)
+  unbegun_carried ask t start = (t, same ∙ start, refused_still host ask memory (begun memory) t refl refl refl refl (omega arith) OutOfMemory)

@@ -320,7 +320,7 @@ module _ {S : Type 0} (shelf : Ghosts S) (a b : S) (v : Engine) (ready : IsReady
         record {
           carry = record {
             answered = λ known. came.wanting calm refl (free, o, opened, left, record { memory = refl; content = λ drive block. refl });
-            carried = refused_still v.host ask v.state v.state t refl refl refl (omega arith) OutOfMemory;
+            carried = refused_still v.host ask v.state v.state t refl refl refl refl (omega arith) OutOfMemory;
           };
           done = λ known on. absurd on;
           lost = λ known active listed is. absurd (cc (is));

@@ -74,7 +74,7 @@ module _ (lines : List ℕ) where
       (subst (λ (o : Outcome). CarriedTo old.host Nothing old.state (Said o) old.state t t) (sym is) (refused_none old.host Nothing old.state r t))
 
   pub kept_knows : (old new : Engine) (this : Outcome) → HasKept old lines this new → (t : Tale) → Knows old.host old.state t → Knows old.host new.state t
-  kept_knows old new this (all entries tab is now) t knows = subst (λ (e : Engine). Knows old.host e.state t) (sym now) (record { opened = knows.opened; steady = λ drive block up is. knows.steady drive block up (record { plain = is.plain; free = is.free }) })
+  kept_knows old new this (all entries tab is now) t knows = subst (λ (e : Engine). Knows old.host e.state t) (sym now) (record { opened = knows.opened; steady = knows.steady })
   kept_knows old new this (none r why is now) t knows = subst (λ (e : Engine). Knows old.host e.state t) (sym now) knows
 
   module _ (old new : Engine) (this : Outcome) (kept : HasKept old lines this new) where

@@ -7,6 +7,7 @@ pub mod Makes
 pub mod Committing
 pub mod Commits
 pub mod Located
+pub mod Requested
 pub mod Blocks
 pub mod Counted
 pub mod Counting

@@ -1,5 +1,5 @@
 -- Where the blocks of a volume lie.
-use Rattle.std.proofs.Common.{◌≡◌, ◌≤◌, ◌<◌, ◌+◌, ◌^◌, ℕ, Bool, true, false, List, Option, Some, None, refl, sym, subst, ap, ◌∙◌, Contains, arith}
+use Rattle.std.proofs.Common.{◌≡◌, ◌≤◌, ◌<◌, ◌+◌, ℕ, Bool, true, false, Option, Some, None, refl, subst, ap, ◌∙◌, Contains, arith}
 use Rattle.std.proofs.lemmas.List.Elements.{All-contains}
 use Rattle.std.proofs.lemmas.Bool.Decides.{nat_tests}
 use Rattle.std.specs.List.{find}
@@ -8,15 +8,17 @@ use Rattle.mdv_base.specs.Order.{first_refusal, where_so}
 use Rattle.mdv_base.specs.declared.refusal.Refusal.TheVariants.{NoSuchVolume, OutOfRange}
 use Rattle.mdv_engine_law.specs.Refusals.{blocks_refusal, has_number, held_past, size_of}
 use Rattle.mdv_engine_law.proofs.Volumes.{find_is, find_none}
-use Rattle.mdv_engine.specs.Below.{VolId, SliceName, IsReady, HasSlice, HasNoSlice, SliceAt, Table, Base, Slice, Volume, VolumeKind, Stripe, IsComponentOn, IsKindOf, IsStripeOf, IsWholeSlice, HasVolume, HasNoVolume, Opened, Host, Memory, HasVolumeOn}
-use Rattle.mdv_map.specs.Maps.{Map, run_map}
-use Rattle.mdv_volumes.specs.Tables.{IsBaseMap, IsKindMap}
+use Rattle.mdv_engine.specs.Below.{VolId, SliceName, HasSlice, HasNoSlice, SliceAt, Table, Base, Slice, Volume, VolumeKind, Stripe, IsComponentOn, IsKindOf, IsMapOf, IsStripeOf, IsWholeSlice, HasVolume, HasNoVolume, Opened, Host, Map, Memory, run_map, slice_at}
+use Rattle.mdv_dev.proofs.Runs.{run_on}
+use Rattle.mdv_layout_law.specs.Layout.{at_map}
+use Rattle.mdv_name.proofs.Finding.{slice_at-some}
+use Rattle.mdv_volumes.specs.Tables.{base_map, kind_map, map_at}
 use Rattle.mdv_engine_law.proofs.Ready.{in_drive}
 use Rattle.mdv_table.specs.declared.volume.Stripe.{Stripe as OneStripe}
 use Rattle.mdv_table.specs.Slices.{IsSound}
 use Rattle.mdv_engine_law.proofs.Refusing.{opened_has}
 use Rattle.mdv_engine.specs.Engine.{IsHeldBy, IsWell}
-use Rattle.mdv_engine.specs.Placed.{EndsIn}
+use Rattle.mdv_engine.specs.Placed.{IsRunIn}
 
 -- there is one kind of volume, and one of bases
 pub stripe_is : (kind : VolumeKind) → (stripe : OneStripe) × (kind ≡ Stripe stripe)
@@ -46,20 +48,24 @@ module _ (host : Host) (sound : IsSound host.drives) (volume : Volume) (stripe :
     pub starts : stripe.component.start ≡ 0
     starts = whole.whole.start
 
-    pub lies_on : IsKindMap host.drives volume.kind (run_map at.drive.0 (at.start + stripe.component.start) stripe.component.blocks)
-    lies_on = subst (λ (k : VolumeKind). IsKindMap host.drives k map) (sym kind_is) (subst (λ (b : Base). IsBaseMap host.drives stripe.component b map) (sym on_is) (at, has, refl)) where
-      map : Map
-      map = run_map at.drive.0 (at.start + stripe.component.start) stripe.component.blocks
+    found : slice_at host.drives.slices slice ≡ Some at
+    found = (slice_at-some host.drives slice at sound).1 has
 
-    pub ends_small : (at.start + stripe.component.start) + stripe.component.blocks ≤ 2 ^ 40
-    ends_small = (let zero = starts in let count = counts in let less = (sound.each slice at has).within in omega arith)
+    pub lies_on : kind_map host.drives volume.kind ≡ Some (run_map at.drive.0 (at.start + stripe.component.start) stripe.component.blocks)
+    lies_on =
+        ap (kind_map host.drives) kind_is ∙ ap (λ (b : Base). Some (base_map host.drives stripe.component b)) on_is ∙ ap (λ (o : Option SliceAt). Some (at_map o stripe.component.start stripe.component.blocks)) found
 
-    pub ends_within : (sizes : List ℕ) → IsReady host sizes → EndsIn host at.drive.0 ((at.start + stripe.component.start) + stripe.component.blocks) sizes
-    ends_within sizes ready =
-        let lies = in_drive host sizes ready slice at has in
+    -- it lies on its drive
+    pub run_in : IsRunIn host (record { drive = at.drive; first = at.start + stripe.component.start; count = stripe.component.blocks })
+    run_in =
         let zero = starts in
         let count = counts in
-        let less = lies.within in record { known = lies.known; within = omega (arith, zero, count, less); small = ends_small }
+        let end = (sound.each slice at has).within in record {
+          lies = λ sizes ready.
+              let lies = in_drive host sizes ready slice at has in
+              let less = lies.within in run_on at.drive.0 (at.start + stripe.component.start) stripe.component.blocks sizes lies.known (omega (arith, zero, count, less));
+          small = omega (arith, zero, count, end);
+        }
 
 is_past : (size end : ℕ) → size < end → nat_lt size end ≡ true
 is_past size end past = grind (arith, nat_tests)
@@ -93,5 +99,8 @@ module _ (host : Host) (memory : Memory) (well : IsWell host memory) (database :
         let is : IsHeldBy host database = opened_has memory database (IsHeldBy host) opened well.database in
         All-contains (λ (v : Volume). IsKindOf host.drives v.kind) database.table.plan.volumes volume is.of_geometry.kinds (subst (λ (t : Table). Contains t.plan.volumes volume) table_is has.0)
 
-    pub volume_on : (drive first blocks : ℕ) → IsKindMap host.drives volume.kind (run_map drive first blocks) → HasVolumeOn host memory number drive first blocks
-    volume_on drive first blocks lies = (database, opened, record { of = volume; has = (subst (λ (t : Table). Contains t.plan.volumes volume) table_is has.0, has.1); kind = lies })
+    -- its map is that of what it is made of
+    pub map_is : (v : Map) → kind_map host.drives volume.kind ≡ Some v → IsMapOf host.drives database.table number v
+    map_is v lies =
+        let is : IsHeldBy host database = opened_has memory database (IsHeldBy host) opened well.database in
+        ap (map_at host.drives) (find_is database.table.plan.volumes number volume is.of_geometry.numbers.ascending (subst (λ (t : Table). HasVolume t.plan.volumes number volume) table_is has)) ∙ lies

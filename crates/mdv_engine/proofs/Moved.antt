@@ -257,4 +257,4 @@ module _ {S : Type 0} (shelf : Ghosts S) (a b : S) (v : Engine) (ready : IsReady
     carried_spent next t u same = subst (λ (x : Tale). CarriedTo v.host ask v.state (Over ended.Spent) next t x) (sym same) (spent_still v.host ask v.state next t)
 
     pub carried_wanting : (t u : Tale) → u ≡ t → CarriedTo v.host ask v.state (refusing OutOfMemory) v.state t u
-    carried_wanting t u same = subst (λ (x : Tale). CarriedTo v.host ask v.state (refusing OutOfMemory) v.state t x) (sym same) (refused_still v.host ask v.state v.state t refl refl refl (omega arith) OutOfMemory)
+    carried_wanting t u same = subst (λ (x : Tale). CarriedTo v.host ask v.state (refusing OutOfMemory) v.state t x) (sym same) (refused_still v.host ask v.state v.state t refl refl refl refl (omega arith) OutOfMemory)

@@ -175,7 +175,7 @@ module _ {S : Type 0} (shelf : Ghosts S) (a b c : S) (v : Engine) (ready : IsRea
               beside = beside t u m first.0 then;
             }),
           );
-          carried = ended v.host sizes ready v.state o opened slices d.is t u (d.site t u first.0) first.0 before one has.answer.by first.1 first.2 m (on_site u m then) then closed refl refl refl (λ clean. clean) ends;
+          carried = ended v.host sizes ready v.state o opened slices d.is t u (d.site t u first.0) first.0 before one has.answer.by first.1 first.2 m (on_site u m then) then closed refl refl refl refl ends;
         };
         done = λ known on. blank_of calls v o opened slices m (by_all (λ every. MatchBool every (AreBlankAt (places_under g (list_of o)) m) (AreBlankWhereCalm calls (places_dropped g o (Drops slices)) m)) (wiped t u m blank ends then));
         lost = λ known active listed is_so. absurd (cc (is_so));
@@ -224,7 +224,7 @@ module _ {S : Type 0} (shelf : Ghosts S) (a b c : S) (v : Engine) (ready : IsRea
               beside = beside t u m first.0 then;
             }),
           );
-          carried = unended v.host sizes ready v.state o opened slices d.is t u (d.site t u first.0) first.0 before one has.answer.by first.1 first.2 m (on_site u m then) then unsure refl refl refl (λ clean. absurd (cc (clean))) refl;
+          carried = unended v.host sizes ready v.state o opened slices d.is t u (d.site t u first.0) first.0 before one has.answer.by first.1 first.2 m (on_site u m then) then unsure refl refl refl refl refl;
         };
         done = λ known on_it. absurd on_it;
         lost = λ known active listed is_so. absurd (cc (is_so));

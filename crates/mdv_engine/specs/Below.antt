@@ -11,16 +11,22 @@ pub use Rattle.mdv_base.specs.declared.place.Place.{Place}
 pub use Rattle.mdv_base.specs.declared.refusal.Refusal.{Refusal}
 pub use Rattle.mdv_base.specs.declared.refusal.Refusal.TheVariants.{BadLine, IoFault, NameTaken, NoSuchSlice, OutOfMemory, ReplicaFull, SliceInUse, WrongKind}
 pub use Rattle.mdv_databases.specs.Lasting.{HasNoTable}
+pub use Rattle.mdv_dev.specs.Drives.{KeptOnDrives}
+pub use Rattle.mdv_dev.specs.Pieces.{IsOn, has_drive as lies_on}
+pub use Rattle.mdv_dev.specs.Works.{AreOnDisk}
 pub use Rattle.mdv_engine_law.specs.Commands.{CameTo, IsAllowed}
-pub use Rattle.mdv_engine_law.specs.Hosts.{IsReady, StaysHome, identity_of, key_of, lines_asked, opened_area, places_area, plain_area}
-pub use Rattle.mdv_engine_law.specs.Line.{AreBlocksAt, HasVolumeOn, IsUpBy, answered_by, booted_with, opened_by}
-pub use Rattle.mdv_engine_law.specs.Line.{IsRebooted, IsTurnedDown, Kept, Memory, asked_by, blocks_of, kept_at, record_room, unbooted}
+pub use Rattle.mdv_engine_law.specs.Efforts.{drives_in, map_open, pieces_in}
+pub use Rattle.mdv_engine_law.specs.Hosts.{IsReady, StaysHome, identity_of, key_of, lines_asked, opened_area, places_area}
+pub use Rattle.mdv_engine_law.specs.Line.{AreSeen, HasBlocks, HasUnsettled, IsUpBy, answered_by, booted_with, opened_by}
+pub use Rattle.mdv_engine_law.specs.Line.{IsRebooted, IsTurnedDown, Kept, Memory, asked_by, kept_at, record_room, unbooted}
 pub use Rattle.mdv_engine_law.specs.Replies.{IsPlain, IsPlainAnswer, text_of}
 pub use Rattle.mdv_engine_law.specs.Standing.{BootMoment, BootedTo, CarriedTo, CarryEnd, CarryMoment, Executed, Knows, OnlyReplied, TellMoment, TellsFront, TurnMoment, Turned}
 pub use Rattle.mdv_engine_law.specs.declared.answer.Answer.{Answer}
 pub use Rattle.mdv_engine_law.specs.declared.answer.Ended.{Ended}
 pub use Rattle.mdv_engine_law.specs.declared.host.Host.{Host}
-pub use Rattle.mdv_map.specs.Maps.{DriveBlock}
+pub use Rattle.mdv_layout_law.specs.Laid.{plain_area}
+pub use Rattle.mdv_map.specs.Maps.{Map, run_map}
+pub use Rattle.mdv_map.specs.Requests.{Rewriting}
 pub use Rattle.mdv_name.specs.SliceIndex.{HasNoSlice, HasSlice, same_slice, slice_at}
 pub use Rattle.mdv_name.specs.declared.geometry.Geometry.{Geometry}
 pub use Rattle.mdv_name.specs.declared.slice_lines.SliceAt.{SliceAt}
@@ -31,7 +37,7 @@ pub use Rattle.mdv_shelf.specs.Area.{KeptOutside, nowhere}
 pub use Rattle.mdv_shelf.specs.Calls.{OnDrive, OnReplies}
 pub use Rattle.mdv_shelf.specs.Failing.{AreCalm, FailedOn, Outcomes}
 pub use Rattle.mdv_shelf.specs.Moments.{Ends, Moments}
-pub use Rattle.mdv_shelf.specs.Settle.{IsSettled, IsSynced, Settling}
+pub use Rattle.mdv_shelf.specs.Settle.{IsSynced}
 pub use Rattle.mdv_shelf.specs.Tale.{MayLeave, Tale, last, told}
 pub use Rattle.mdv_shown.specs.Site.{site_area}
 pub use Rattle.mdv_shown.specs.declared.site.Site.{Site}

@@ -1,5 +1,5 @@
 -- How many calls on the drives a command and a boot make, by what they came to.
-use Rattle.std.specs.Prelude.{◌≡◌, ◌+◌, ◌*◌, ℕ, Bool, true, false, List, length, if◌then◌else◌, Option, Some, None, Result, Ok, Err}
+use Rattle.std.specs.Prelude.{◌≡◌, ◌≤◌, ◌+◌, ◌*◌, ℕ, min, Bool, true, false, List, length, if◌then◌else◌, Option, Some, None, Result, Ok, Err}
 use Rattle.mdv_base.specs.DriveSet.{no_drives}
 use Rattle.mdv_base.specs.declared.drive.Failed.{Failed}
 use Rattle.mdv_base.specs.declared.refusal.Refusal.{Refusal}
@@ -38,7 +38,7 @@ use Rattle.mdv_engine_law.specs.declared.answer.Outcome.TheVariants as outcome
 use Rattle.mdv_engine_law.specs.Answers.{accepted, refusing}
 use Rattle.mdv_engine_law.specs.declared.answer.Reply.{Reply}
 use Rattle.mdv_engine_law.specs.declared.answer.Reply.TheVariants as reply
-use Rattle.mdv_engine.specs.Below.{AddListed, AddPlaces, DropPlaces, Geometry, Host, Identity, Key, MakeStripe, Memory, Opened, Read, Seat, SliceLine, Write, active_of, key_of, lines_asked}
+use Rattle.mdv_engine.specs.Below.{AddListed, AddPlaces, DropPlaces, Geometry, Host, Identity, Key, MakeStripe, Memory, Opened, Read, Seat, SliceLine, Write, active_of, drives_in, key_of, lines_asked, pieces_in}
 use Rattle.mdv_store.specs.Shares.{short_of}
 use Rattle.mdv_store.specs.declared.seats.Need.TheVariants.{Half}
 use Rattle.mdv_table.specs.declared.plan.Lists.{Lists}
@@ -52,8 +52,8 @@ calls_of host (Some o) (DropPlaces slices force) = if are_all o slices then dele
 calls_of host None (DropPlaces slices force) = 0
 calls_of host None (command.MakeStripe volume slice) = 0
 calls_of host (Some o) (command.MakeStripe volume slice) = 6 * active_of o.seats
-calls_of host opened (Read volume at count) = 1
-calls_of host opened (Write volume at block) = 2
+calls_of host opened (Read volume at count) = pieces_in host opened volume at (min count 1024)
+calls_of host opened (Write volume at block) = pieces_in host opened volume at 1 + drives_in host opened volume at 1
 calls_of host opened (command.Print names) = 0
 
 abbrev pub blocks_of : Host → Option Opened → Command → ℕ
@@ -128,14 +128,14 @@ IsCommandCounted shelf old new host command (Said outcome.Ok) before now = DoneC
 IsCommandCounted shelf old new host command (Said (outcome.Values text)) before now = DoneCalls shelf old new host command before now
 IsCommandCounted shelf old new host command (Said (outcome.Refused IoFault)) before now =
     FaultCalls (made_of shelf old new) command host before × (made_of shelf old new).within 0 (calls_of host before command) (blocks_of host before command) × HasHalted shelf old new host command before now
-IsCommandCounted shelf old new host command (Said (outcome.Refused OutOfMemory)) before now = (made_of shelf old new).within 0 (wanting_calls command) 0 × (shelf.tale new ≡ shelf.tale old)
+IsCommandCounted shelf old new host command (Said (outcome.Refused OutOfMemory)) before now = (made_of shelf old new).within 0 (wanting_calls host before command) 0 × (shelf.tale new ≡ shelf.tale old)
 IsCommandCounted shelf old new host command (Said (outcome.Refused other)) before now = new ≡ old
 IsCommandCounted shelf old new host command (Over (ended.Lost active listed)) before now = LossCalls (made_of shelf old new) command host before × HasTriedAll shelf old new host command before active listed
 IsCommandCounted shelf old new host command (Over other) before now = new ≡ old
 
 -- the same of a read, before its answer is made
 abbrev pub HasReadCounts : {S T : Type 0} → Ghosts S → S → S → Host → VolId → ℕ → ℕ → Result T Refusal → Option Opened → Type 0
-HasReadCounts shelf old new host volume at count (Ok text) opened = MadeCalls shelf old new 1 0
+HasReadCounts shelf old new host volume at count (Ok text) opened = MadeCalls shelf old new (pieces_in host opened volume at count) 0 × (count ≤ 1024)
 HasReadCounts shelf old new host volume at count (Err refusal) opened = IsCommandCounted shelf old new host (Read volume at count) (refusing refusal) opened opened
 
 -- a refusal that no call on the drive came before

@@ -2,7 +2,7 @@
 use Rattle.std.specs.Prelude.{◌≡◌, ◌≢◌, ◌⊎◌, ◌≤◌, ◌+◌, ◌*◌, ℕ, Bool, true, false, List, [], Option, Some, None, Result, Ok, Err, IfOk, IfErr, OnOk, MatchOption, Contains, length}
 use Rattle.mdv_acts.specs.Asked.{drives_asked}
 use Rattle.mdv_shelf.specs.Drives.{KeptAmong}
-use Rattle.mdv_shelf.specs.Shelves.{AtEachMoment, AtEachTale, AtEnd, DriveFailures, EndsTold, GivingFailed, GivingFailures, KeptOn, MadeCalls, RestsOnceTold}
+use Rattle.mdv_shelf.specs.Shelves.{AtEachMoment, AtEachTale, AtEnd, DriveFailures, EndsTold, GivingFailed, GivingFailures, MadeCalls, RestsOnceTold}
 use Rattle.mdv_shelf.specs.declared.shelf.Shelf.{Ghosts}
 use Rattle.mdv_standing.specs.Creating.{first_mark}
 use Rattle.mdv_store.specs.Booting.{boot_area, has_written}
@@ -11,7 +11,7 @@ use Rattle.mdv_store.specs.Seats.{AreTheirs}
 use Rattle.mdv_words.specs.declared.command.Command.{Command}
 use Rattle.mdv_words.specs.declared.command.Command.TheVariants as command
 use Rattle.mdv_words.specs.Line as words
-use Rattle.mdv_engine.specs.Below.{Answer, AreBlocksAt, AreCalm, BootedTo, CameTo, CarryEnd, CarryMoment, OfPlan, PlanChange, Changed, Created, DriveBlock, DriveNo, Ended, Executed, FailedOn, Host, IoFault, IsAllowed, IsOpenedAt, IsPlainAnswer, IsRebooted, IsSettled, IsSynced, Kept, KeptOutside, Knows, MakeStripe, MayLeave, Memory, OnDrive, Opened, OutOfMemory, Outcomes, Read, Refusal, Seat, Settling, SliceLine, SliceName, Table, Tale, TellMoment, TellsFront, TurnMoment, Turned, VolId, Write, asked_by, blocks_of, has_drive, identity_of, kept_at, key_of, last, lines_asked, nowhere, text_of, unbooted, AddListed, AddPlaces, DropPlaces, listed_by, meant}
+use Rattle.mdv_engine.specs.Below.{Answer, AreCalm, BootedTo, CameTo, CarryEnd, CarryMoment, OfPlan, PlanChange, Changed, Created, DriveNo, Ended, Executed, FailedOn, Host, IoFault, IsAllowed, IsOpenedAt, IsPlainAnswer, IsRebooted, IsSynced, Kept, KeptOutside, Knows, MakeStripe, MayLeave, Memory, Opened, OutOfMemory, Outcomes, Read, Refusal, Seat, SliceLine, SliceName, Table, Tale, TellMoment, TellsFront, TurnMoment, Turned, VolId, Write, asked_by, has_drive, identity_of, kept_at, key_of, last, lines_asked, nowhere, text_of, unbooted, AddListed, AddPlaces, DropPlaces, listed_by, meant, AreOnDisk, AreSeen, HasBlocks, HasUnsettled, KeptOnDrives, Map, Rewriting, drives_in, lies_on, map_open, pieces_in}
 use Rattle.mdv_shelf.specs.Made.{Made, and_more, made_of}
 use Rattle.mdv_engine_law.specs.declared.answer.Answer.TheVariants.{Over}
 use Rattle.mdv_engine_law.specs.declared.answer.Ended.TheVariants as ended
@@ -185,7 +185,7 @@ pub record IsTurnCounted {S : Type 0} (shelf : Ghosts S) (old new : S) (host : H
   pub wrote : r ≡ reply.Ok → (through : S) × counts.HasWrittenAll shelf old through host command before now × MadeCalls shelf through new 1 0
   pub unlooked : IsUnlooked r → (made_of shelf old new).within 0 1 0
   pub unwritten : IsQuietRefusal r → (made_of shelf old new).within 0 (1 + calls_of host before command) 0
-  pub wanting : r ≡ reply.Refused OutOfMemory → (made_of shelf old new).within 0 (1 + wanting_calls command) 0
+  pub wanting : r ≡ reply.Refused OutOfMemory → (made_of shelf old new).within 0 (1 + wanting_calls host before command) 0
   pub faulted : r ≡ reply.Refused IoFault → FaultCalls (and_more 1 (made_of shelf old new)) command host before
   pub halted : r ≡ reply.Refused IoFault → (through : S) × counts.HasHalted shelf old through host command before now × MadeCalls shelf through new 1 0
   pub lost : (active listed : ℕ) → r ≡ reply.Panic active listed → LossCalls (made_of shelf old new) command host before × counts.HasTriedAll shelf old new host command before active listed
@@ -239,45 +239,51 @@ pub record HasRebooted (calls : Outcomes) (old : Engine) (result : Result (Unit 
   pub begun : new.state.begun ≡ old.state.begun
   pub fresh : new.state.entries ≡ []
 
--- what was read is what the drive has in these blocks of the volume, and no call failed
+-- what was read is what the drives have in these blocks of the volume, and no call failed
 pub record AreRead {S : Type 0} (shelf : Ghosts S) (old new : S) (engine : Engine) (volume : VolId) (at count : ℕ) (IsTold : List (List ℕ) → Type 0) : Type 0 where
-  pub place : DriveBlock
-  pub there : AreBlocksAt engine.host engine.state volume at count place
+  pub map : Map
+  pub there : HasBlocks engine.host engine.state volume at count map
   pub allowed : read_refusal engine.state.opened volume at count ≡ None
   pub blocks : List (List ℕ)
   pub as_told : IsTold blocks
   pub calm : AreCalm (DriveFailures shelf old new)
-  pub as_there : (t : Tale) → shelf.tale old ≡ Some t → blocks ≡ blocks_of (last t) place count
+  pub as_there : (t : Tale) → shelf.tale old ≡ Some t → (length blocks ≡ count) × AreSeen map at blocks (last t)
 
 -- the volume has these blocks, and at each moment each of them was old or new
 pub record ArePutting {S : Type 0} (shelf : Ghosts S) (old new : S) (engine : Engine) (volume : VolId) (at : ℕ) (blocks : List (List ℕ)) : Type 0 where
-  pub place : DriveBlock
-  pub there : AreBlocksAt engine.host engine.state volume at (length blocks) place
+  pub map : Map
+  pub there : HasBlocks engine.host engine.state volume at (length blocks) map
   pub allowed : blocks_refusal engine.state.opened volume (at + length blocks) ≡ None
-  pub moments : AtEachTale shelf (Settling place.drive place.block blocks) old new
+  pub moments : AtEachTale shelf (Rewriting map at blocks) old new
 
--- a call on their drive failed
-pub record AreTorn {S : Type 0} (shelf : Ghosts S) (old new : S) (engine : Engine) (volume : VolId) (at : ℕ) (blocks : List (List ℕ)) : Type 0 where
+-- a call failed on a drive that one of them lies on, which is unsteady from then on
+pub record AreTorn {S : Type 0} (shelf : Ghosts S) (old new : S) (engine : Engine) (volume : VolId) (at : ℕ) (blocks : List (List ℕ)) (after : Engine) : Type 0 where
   pub putting : ArePutting shelf old new engine volume at blocks
-  pub failed : FailedOn putting.place.drive (DriveFailures shelf old new)
+  pub drive : ℕ
+  pub on : lies_on putting.map at (length blocks) drive ≡ true
+  pub failed : FailedOn drive (DriveFailures shelf old new)
+  pub host : after.host ≡ engine.host
+  pub unsettled : HasUnsettled drive engine.state after.state
 
 -- they are on the disk in the end, and no call failed
-pub record ArePut {S : Type 0} (shelf : Ghosts S) (old new : S) (engine : Engine) (volume : VolId) (at : ℕ) (blocks : List (List ℕ)) : Type 0 where
+pub record ArePut {S : Type 0} (shelf : Ghosts S) (old new : S) (engine : Engine) (volume : VolId) (at : ℕ) (blocks : List (List ℕ)) (after : Engine) : Type 0 where
   pub putting : ArePutting shelf old new engine volume at blocks
   pub calm : AreCalm (DriveFailures shelf old new)
-  pub settled : AtEnd shelf (λ _ u. IsSettled putting.place.drive putting.place.block blocks u) old new
+  pub settled : AtEnd shelf (λ _ u. AreOnDisk putting.map at blocks u) old new
+  pub same : after ≡ engine
 
--- what a write did that was answered so
-abbrev pub AreWritten : {S : Type 0} → Ghosts S → S → S → Engine → VolId → ℕ → List (List ℕ) → Result (Unit {0}) Refusal → Type 0
-AreWritten shelf old new engine volume at blocks (Ok done) = ArePut shelf old new engine volume at blocks
-AreWritten shelf old new engine volume at blocks (Err IoFault) = AreTorn shelf old new engine volume at blocks
-AreWritten shelf old new engine volume at blocks (Err other) = Unit {0}
+-- what a write did that was answered so, and what it left in memory
+abbrev pub AreWritten : {S : Type 0} → Ghosts S → S → S → Engine → VolId → ℕ → List (List ℕ) → Result (Unit {0}) Refusal → Engine → Type 0
+AreWritten shelf old new engine volume at blocks (Ok done) after = ArePut shelf old new engine volume at blocks after
+AreWritten shelf old new engine volume at blocks (Err IoFault) after = AreTorn shelf old new engine volume at blocks after
+AreWritten shelf old new engine volume at blocks (Err other) after = after ≡ engine
 
--- what the engine keeps behind a write of blocks: where a call failed memory isn't clean any more
-abbrev pub after_write : Engine → Result (Unit {0}) Refusal → Engine
-after_write engine (Ok done) = engine
-after_write engine (Err IoFault) = record engine { state = record engine.state { clean = false } }
-after_write engine (Err other) = engine
+-- how many calls a read of blocks makes, one for each piece of them; and a write, which syncs each drive besides
+abbrev pub read_calls : Engine → VolId → ℕ → ℕ → ℕ
+read_calls engine volume at count = pieces_in engine.host engine.state.opened volume at count
+
+abbrev pub write_calls : Engine → VolId → ℕ → ℕ → ℕ
+write_calls engine volume at count = pieces_in engine.host engine.state.opened volume at count + drives_in engine.host engine.state.opened volume at count
 
 -- the calls of a read or a write of blocks: just so many where it was done, one at least and no more where a call failed, and none where it was refused for
 -- another cause
@@ -286,9 +292,9 @@ pub record AreBlocksCounted {S : Type 0} (shelf : Ghosts S) (old new : S) (calls
   pub failed : result ≡ Err IoFault → (made_of shelf old new).within 1 calls written
   pub refused : IfErr result (λ refusal. blocks_refusal engine.state.opened volume (at + count) ≡ Some refusal → new ≡ old)
 
--- All calls that changed something or failed are on one and the same drive, and none there changed something behind a failed one.
-abbrev pub KeptOnOne : {S : Type 0} → Ghosts S → S → S → Type 0
-KeptOnOne shelf old new = (drive : ℕ) × KeptOn shelf old new (OnDrive drive)
+-- All calls that changed something or failed are on the drives of these blocks of a volume, and none changed something behind a failed one.
+abbrev pub KeptOnBlocks : {S : Type 0} → Ghosts S → S → S → Host → Memory → VolId → ℕ → ℕ → Type 0
+KeptOnBlocks shelf old new host memory volume at count = KeptOnDrives shelf old new (map_open host.drives memory.opened volume) at count
 
 -- on those of the slices that a creation names, or of the places of a change
 abbrev pub drives_more : Host → Option Opened → List SliceLine → ℕ → ℕ → List DriveNo
@@ -299,15 +305,15 @@ abbrev pub drives_less : Host → Option Opened → List SliceName → List Driv
 drives_less host None slices = []
 drives_less host (Some o) slices = drives_moved host.drives o (drop_of o slices)
 
--- so they are of a command, on those of the open database's active places, and of a transfer on one
+-- so they are of a command, on those of the open database's active places, and of a transfer on those of its blocks
 abbrev pub KeptAsAsked : {S : Type 0} → Ghosts S → S → S → Host → Memory → Command → Type 0
 KeptAsAsked shelf old new host memory (AddPlaces slices force count blocks) = KeptAmong shelf old new (drives_more host memory.opened (lines_asked host slices) count blocks)
-KeptAsAsked shelf old new host memory (AddListed number force) = KeptOnOne shelf old new
+KeptAsAsked shelf old new host memory (AddListed number force) = KeptAmong shelf old new []
 KeptAsAsked shelf old new host memory (DropPlaces slices force) = KeptAmong shelf old new (drives_less host memory.opened slices)
 KeptAsAsked shelf old new host memory (command.MakeStripe volume slice) = KeptAmong shelf old new (drives_open memory.opened)
-KeptAsAsked shelf old new host memory (Read volume at count) = KeptOnOne shelf old new
-KeptAsAsked shelf old new host memory (Write volume at block) = KeptOnOne shelf old new
-KeptAsAsked shelf old new host memory (command.Print names) = KeptOnOne shelf old new
+KeptAsAsked shelf old new host memory (Read volume at count) = KeptOnBlocks shelf old new host memory volume at count
+KeptAsAsked shelf old new host memory (Write volume at block) = KeptOnBlocks shelf old new host memory volume at 1
+KeptAsAsked shelf old new host memory (command.Print names) = KeptAmong shelf old new []
 
 -- What is said of a command that was carried out for a line that asks this: of each moment and the end, of its answer, of its calls, and of the drives on which they were made.
 pub record WasCarriedOut {S : Type 0} (shelf : Ghosts S) (from to : S) (ask : Ask) (command : Command) (old : Engine) (said : Answer) (new : Engine) : Type 0 where

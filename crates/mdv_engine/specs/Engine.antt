@@ -97,12 +97,12 @@ pub record IsCount (count : ℕ) : Type 0 where
   pub least : 1 ≤ count
   pub most : count ≤ 1024
 
--- why blocks aren't read or written: the first cause that refuses them; or nothing does, the volume has them, and a call on their drive failed
+-- why blocks aren't read or written: the first cause that refuses them; or nothing does, the volume has them, and a call on a drive of theirs failed
 abbrev pub HasBlocksCause : Outcomes → Host → Memory → VolId → ℕ → ℕ → Refusal → Type 0
 HasBlocksCause calls host memory volume at count refusal =
     (AreCalm calls × (blocks_refusal memory.opened volume (at + count) ≡ Some refusal)) ⊎ (FailedBlocks calls host memory volume at count × (blocks_refusal memory.opened volume (at + count) ≡ None) × (refusal ≡ IoFault))
 
--- why a read isn't told: the first cause that refuses it; or nothing does, and a call on the drive of its blocks failed, or memory was wanting
+-- why a read isn't told: the first cause that refuses it; or nothing does, and a call on a drive of its blocks failed, or memory was wanting
 abbrev pub HasReadCause : Outcomes → Host → Memory → VolId → ℕ → ℕ → Refusal → Type 0
 HasReadCause calls host memory volume at count refusal =
     (AreCalm calls × (read_refusal memory.opened volume at count ≡ Some refusal))

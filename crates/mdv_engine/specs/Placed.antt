@@ -1,22 +1,17 @@
--- Where a volume lies whose blocks are read and written: on one drive, and within it.
-use Rattle.std.specs.Prelude.{ℕ, ◌+◌, ◌≤◌, ◌<◌, ◌^◌, List, length, slice_index_or}
+-- Where a volume lies whose blocks are read and written: within the drives.
+use Rattle.std.specs.Prelude.{ℕ, ◌+◌, ◌≤◌, ◌^◌, List}
 use Rattle.mdv_dev.specs.declared.run.DriveRun.{DriveRun}
-use Rattle.mdv_engine.specs.Below.{DriveBlock, Host, IsReady}
+use Rattle.mdv_engine.specs.Below.{Host, IsOn, IsReady, Map, run_map}
 
--- its block of that number
-abbrev pub place_at : DriveRun → ℕ → DriveBlock
-place_at run at = record { drive = run.drive.0; block = run.first + at }
+abbrev pub map_of_run : DriveRun → Map
+map_of_run run = run_map run.drive.0 run.first run.count
 
--- blocks end within the drive, which has no more than 2 ^ 40, whatever the drives of a host that is ready
-pub record EndsIn (host : Host) (drive end : ℕ) (sizes : List ℕ) : Type 0 where
-  pub known : drive < length sizes
-  pub within : end ≤ slice_index_or sizes drive 0
-  pub small : end ≤ 2 ^ 40
-
-abbrev pub IsRunIn : Host → DriveRun → Type 0
-IsRunIn host run = (sizes : List ℕ) → IsReady host sizes → EndsIn host run.drive.0 (run.first + run.count) sizes
+-- its blocks lie on the drives of a host that is ready, none of which has more than 2 ^ 40
+pub record IsRunIn (host : Host) (run : DriveRun) : Type 0 where
+  pub lies : (sizes : List ℕ) → IsReady host sizes → IsOn sizes (map_of_run run)
+  pub small : run.first + run.count ≤ 2 ^ 40
 
 -- so many blocks of it, from that one on, are its own
 pub record IsPlacedIn (host : Host) (at count : ℕ) (run : DriveRun) : Type 0 where
   pub room : at + count ≤ run.count
-  pub lies : IsRunIn host run
+  pub run_in : IsRunIn host run

@@ -14,7 +14,9 @@ pub struct State {
     pub database: Option<Store>,
     /// The drives that the last boot brought up.
     pub up: DriveSet,
-    /// No call failed in the last boot, nor in a write of blocks, or the blanking of a last replica, since.
+    /// Those of them on which a write of blocks failed since.
+    pub unsteady: DriveSet,
+    /// No call failed in the last boot, nor in the blanking of a last replica since.
     pub clean: bool,
     /// How many creations the run has begun.
     pub begun: u32,
@@ -27,7 +29,7 @@ impl Model for State {
 
     ghost Value = { Memory };
 
-    ghost view = { λ s. record { opened = s.database; up = s.up; clean = s.clean; begun = s.begun; entries = s.entries.items } };
+    ghost view = { λ s. record { opened = s.database; up = s.up; unsteady = s.unsteady; clean = s.clean; begun = s.begun; entries = s.entries.items } };
 }
 
 impl State {
@@ -44,6 +46,7 @@ impl State {
         State {
             database,
             up,
+            unsteady: DriveSet::new(),
             clean,
             begun,
             entries: Vec::new(alloc),

@@ -1,25 +1,24 @@
-ghost use Rattle.std.specs.Prelude.{◌≡◌, ◌≤◌, ◌+◌, ◌^◌, [], ◌∷◌, length, None, Some, Err, IfOk, IfErr, OnOk};
+ghost use Rattle.std.specs.Prelude.{◌≡◌, ◌≤◌, ◌+◌, [], ◌∷◌, length, None, Some, IfOk, IfErr, OnOk};
 ghost use Rattle.mdv_status.specs.Values.{values_reply};
 ghost use Rattle.mdv_table.specs.declared.volume.Base.TheVariants.{Slice};
 ghost use Rattle.mdv_table.specs.declared.volume.VolumeKind.TheVariants.{Stripe as AnyStripe};
 ghost use Rattle.mdv_table.specs.Slices.{IsSound};
 ghost use Rattle.mdv_table.specs.Table.{IsKindOf};
 ghost use Rattle.mdv_words.specs.declared.command.Command.TheVariants.{Read, Write};
-ghost use Rattle.mdv_map.specs.Maps.{run_map};
 ghost use Rattle.mdv_volumes.specs.History.{Wrote};
-ghost use Rattle.mdv_volumes.specs.Tables.{IsKindMap};
+ghost use Rattle.mdv_volumes.specs.Tables.{kind_map};
 ghost use Rattle.mdv_engine.specs.Counts.{HasReadCounts, IsCommandCounted};
-ghost use Rattle.mdv_engine.specs.Placed.{IsPlacedIn, IsRunIn, place_at};
+ghost use Rattle.mdv_engine.specs.Placed.{IsPlacedIn, IsRunIn, map_of_run};
 ghost use Rattle.mdv_engine.specs.Engine.{HasBlocksCause, HasReadCause, IsCount, IsWell};
 ghost use Rattle.mdv_shelf.specs.Shelves.{AtEachTale, AtEnd, DriveFailures};
 ghost use Rattle.mdv_engine_law.specs.Hosts.{IsReady, key_of};
-ghost use Rattle.mdv_engine_law.specs.Line.{AreBlocksAt, ToDo, ToSee};
+ghost use Rattle.mdv_engine_law.specs.Line.{HasBlocks, ToDo, ToSee};
 ghost use Rattle.mdv_engine_law.specs.Refusals.{blocks_refusal, read_refusal, size_of};
 ghost use Rattle.mdv_engine_law.specs.Standing.{CarryMoment};
-ghost use Rattle.mdv_engine.specs.Ends.{AreBlocksCounted, AreRead, AreWritten, CommandEnd, HasAnswered, KeptOnOne, after_write};
+ghost use Rattle.mdv_engine.specs.Ends.{AreBlocksCounted, AreRead, AreWritten, CommandEnd, HasAnswered, KeptOnBlocks, read_calls, write_calls};
 
 use crate::engine::Engine;
-use mdv_base::{Block, DriveNo, Failed, Refusal, SliceName, VolId, ZERO_BLOCK};
+use mdv_base::{Block, DriveNo, Refusal, SliceName, VolId, ZERO_BLOCK};
 use mdv_dev::DriveRun;
 use mdv_engine_law::{Answer, Outcome};
 use mdv_shelf::Shelf;
@@ -31,9 +30,9 @@ use std::alloc::Global;
 const MAX_READ: u64 = 1024;
 
 impl Engine {
-    /// Reads blocks of a volume, from block `at` of it on: 1 to 1024 of them, with one call on its drive. No memory
-    /// is taken. After a fault `out` holds anything.
-    #[tactic(auto, using(mdv_engine_law::proofs::Kept::kept_on_itself))]
+    /// Reads blocks of a volume, from block `at` of it on: 1 to 1024 of them, with one call for each piece that lies
+    /// together on a drive. No memory is taken. After a fault `out` holds anything.
+    #[tactic(auto, using(crate::proofs::Requested::drives_none))]
     pub fn read_blocks<S: Shelf>(
         &self,
         shelf: &mut S,
@@ -47,20 +46,21 @@ impl Engine {
         ensures ok { OnOk result (AreRead S.Shelf shelf.old shelf.new self.now volume at (length out.new) (λ blocks. out.new ≡ blocks)) }
         ensures err { IfErr result (HasBlocksCause (DriveFailures S.Shelf shelf.old shelf.new) self.now.host self.now.state volume at (length out.new)) }
         ensures same { S.tale shelf.new ≡ S.tale shelf.old }
-        ensures counted { AreBlocksCounted S.Shelf shelf.old shelf.new 1 0 self.now volume at (length out.new) result }
-        ensures kept { KeptOnOne S.Shelf shelf.old shelf.new }
+        ensures counted { AreBlocksCounted S.Shelf shelf.old shelf.new (read_calls self.now volume at (length out.new)) 0 self.now volume at (length out.new) result }
+        ensures kept { KeptOnBlocks S.Shelf shelf.old shelf.new self.now.host self.now.state volume at (length out.new) }
     {
         let device = self.place_of(volume, at, out.len() as u64)?;
         match mdv_dev::read_blocks(&device, shelf, at, out) {
             Ok(()) => Ok(()),
-            Err(Failed) => Err(Refusal::IoFault),
+            Err(_) => Err(Refusal::IoFault),
         }
     }
 
-    /// Writes blocks of a volume, from block `at` of it on: 1 to 1024 of them, with one write and one sync of the
-    /// drive. No memory is taken. Where a call failed, each of the blocks may be old or new, also behind a crash: till the
-    /// next boot no database is made. The buffer stays as it is.
-    #[tactic(auto, using(mdv_engine_law::proofs::Kept::kept_on_itself))]
+    /// Writes blocks of a volume, from block `at` of it on: 1 to 1024 of them, with one write for each piece
+    /// that lies together on a drive, and one sync of each drive. No memory is taken. Where a call failed, each of the
+    /// blocks may be old or new, also behind a crash: the drive that failed is unsteady till the next boot. The buffer
+    /// stays as it is.
+    #[tactic(auto, using(crate::proofs::Requested::drives_none))]
     pub fn write_blocks<S: Shelf>(
         &mut self,
         shelf: &mut S,
@@ -71,17 +71,17 @@ impl Engine {
         requires ready { IsReady self.old.host (S.sizes shelf.old) }
         requires well { IsWell self.old.host self.old.state }
         requires count { IsCount (length from.old) }
-        ensures put { AreWritten S.Shelf shelf.old shelf.new self.old volume at from.old result }
+        ensures put { AreWritten S.Shelf shelf.old shelf.new self.old volume at from.old result self.new }
         ensures err { IfErr result (HasBlocksCause (DriveFailures S.Shelf shelf.old shelf.new) self.old.host self.old.state volume at (length from.old)) }
-        ensures same { (self.new ≡ after_write self.old result) × (from.new ≡ from.old) }
-        ensures counted { AreBlocksCounted S.Shelf shelf.old shelf.new 2 (length from.old) self.old volume at (length from.old) result }
-        ensures kept { KeptOnOne S.Shelf shelf.old shelf.new }
+        ensures left { from.new ≡ from.old }
+        ensures counted { AreBlocksCounted S.Shelf shelf.old shelf.new (write_calls self.old volume at (length from.old)) (length from.old) self.old volume at (length from.old) result }
+        ensures kept { KeptOnBlocks S.Shelf shelf.old shelf.new self.old.host self.old.state volume at (length from.old) }
     {
         let device = self.place_of(volume, at, from.len() as u64)?;
         match mdv_dev::write_blocks(&device, shelf, at, from) {
             Ok(()) => Ok(()),
-            Err(_) => {
-                self.state.clean = false;
+            Err(drive) => {
+                self.state.unsteady.insert(drive);
                 Err(Refusal::IoFault)
             }
         }
@@ -103,7 +103,7 @@ impl Engine {
         ensures end { AtEnd S.Shelf (CommandEnd (DriveFailures S.Shelf shelf.old shelf.new) self.now (Read volume at count) result self.now) shelf.old shelf.new }
         ensures answer { HasAnswered (DriveFailures S.Shelf shelf.old shelf.new) (Read volume at count) self.now result self.now }
         ensures counted { IsCommandCounted S.Shelf shelf.old shelf.new self.now.host (Read volume at count) result self.now.state.opened self.now.state.opened }
-        ensures kept { KeptOnOne S.Shelf shelf.old shelf.new }
+        ensures kept { KeptOnBlocks S.Shelf shelf.old shelf.new self.now.host self.now.state volume at count }
     {
         match self.values(shelf, alloc, volume, at, count) {
             Ok(text) => Answer::Said(Outcome::Values(text)),
@@ -111,7 +111,7 @@ impl Engine {
         }
     }
 
-    #[tactic(auto, using(mdv_engine_law::proofs::Kept::kept_on_itself))]
+    #[tactic(auto, using(crate::proofs::Requested::drives_none))]
     fn values<S: Shelf>(
         &self,
         shelf: &mut S,
@@ -127,7 +127,7 @@ impl Engine {
         ensures err { IfErr result (HasReadCause (DriveFailures S.Shelf shelf.old shelf.new) self.now.host self.now.state volume at count) }
         ensures same { S.tale shelf.new ≡ S.tale shelf.old }
         ensures counted { HasReadCounts S.Shelf shelf.old shelf.new self.now.host volume at count result self.now.state.opened }
-        ensures kept { KeptOnOne S.Shelf shelf.old shelf.new }
+        ensures kept { KeptOnBlocks S.Shelf shelf.old shelf.new self.now.host self.now.state volume at count }
     {
         let _place = self.read_place(volume, at, count)?;
         let mut blocks = buffer(alloc, count)?;
@@ -155,7 +155,7 @@ impl Engine {
         ensures end { AtEnd S.Shelf (CommandEnd (DriveFailures S.Shelf shelf.old shelf.new) self.old (Write volume at block.now) result self.new) shelf.old shelf.new }
         ensures answer { HasAnswered (DriveFailures S.Shelf shelf.old shelf.new) (Write volume at block.now) self.old result self.new }
         ensures counted { IsCommandCounted S.Shelf shelf.old shelf.new self.old.host (Write volume at block.now) result self.old.state.opened self.new.state.opened }
-        ensures kept { KeptOnOne S.Shelf shelf.old shelf.new }
+        ensures kept { KeptOnBlocks S.Shelf shelf.old shelf.new self.old.host self.old.state volume at 1 }
     {
         let mut blocks = [*block];
         match self.write_blocks(shelf, volume, at, &mut blocks) {
@@ -168,7 +168,7 @@ impl Engine {
     fn read_place(&self, volume: VolId, at: u64, count: u64) -> Result<DriveRun, Refusal>
         requires sound { IsSound self.now.host.drives }
         requires well { IsWell self.now.host self.now.state }
-        ensures ok { IfOk result (λ run. AreBlocksAt self.now.host self.now.state volume at count (place_at run at)) }
+        ensures ok { IfOk result (λ run. HasBlocks self.now.host self.now.state volume at count (map_of_run run)) }
         ensures few { OnOk result (count ≤ 1024) }
         ensures free { OnOk result (read_refusal self.now.state.opened volume at count ≡ None) }
         ensures within { IfOk result (IsPlacedIn self.now.host at count) }
@@ -186,7 +186,7 @@ impl Engine {
     fn place_of(&self, volume: VolId, at: u64, count: u64) -> Result<DriveRun, Refusal>
         requires sound { IsSound self.now.host.drives }
         requires well { IsWell self.now.host self.now.state }
-        ensures ok { IfOk result (λ run. AreBlocksAt self.now.host self.now.state volume at count (place_at run at)) }
+        ensures ok { IfOk result (λ run. HasBlocks self.now.host self.now.state volume at count (map_of_run run)) }
         ensures within { IfOk result (IsPlacedIn self.now.host at count) }
         ensures free { OnOk result (blocks_refusal self.now.state.opened volume (at + count) ≡ None) }
         ensures err { IfErr result (λ refusal. blocks_refusal self.now.state.opened volume (at + count) ≡ Some refusal) }
@@ -207,10 +207,9 @@ impl Engine {
     fn run_of(&self, volume: &Volume) -> DriveRun
         requires sound { IsSound self.now.host.drives }
         requires kind { IsKindOf self.now.host.drives volume.now.kind }
-        ensures lies { IsKindMap self.now.host.drives volume.now.kind (run_map result.drive.0 result.first result.count) }
+        ensures lies { kind_map self.now.host.drives volume.now.kind ≡ Some (map_of_run result) }
         ensures sized { result.count ≡ size_of volume.now.kind }
         ensures within { IsRunIn self.now.host result }
-        ensures fits { result.first + result.count ≤ 2 ^ 40 }
     {
         let component = stripe_of(volume).component;
         match self.host.drives.slices.find(slice_of(&component)) {

@@ -1,13 +1,16 @@
 -- What a boot leaves of a host's history, and what is known then.
-use Rattle.std.proofs.Common.{◌≡◌, ◌⊎◌, inl, inr, ◌<◌, ℕ, zero, suc, Bool, true, false, List, [], ◌∷◌, ◌++◌, Option, Some, None, Contains, refl, sym, ◌∙◌, ap, subst, arith}
+use Rattle.std.proofs.Common.{◌≡◌, ◌⊎◌, inl, inr, ◌<◌, ℕ, zero, suc, ◌&&◌, not, Bool, true, false, List, [], ◌∷◌, ◌++◌, Option, Some, None, Contains, replicate, slice_index_or, refl, sym, ◌∙◌, ap, subst, arith}
 use Rattle.std.proofs.lemmas.List.Elements.{Contains-append_left, Contains-append_right, Contains-push}
+use Rattle.std.proofs.Math.Bool.{and-true}
+use Rattle.std.proofs.lemmas.Bool.{cases_lt}
+use Rattle.std.proofs.lemmas.List.{get_or-replicate, get_or_past, length-replicate}
 use Rattle.mdv_databases.proofs.Freed.{freed_blank}
 use Rattle.mdv_databases.proofs.Lists.{key_itself}
 use Rattle.mdv_databases.specs.Booting.{IsBootedIn, MeetsStale}
 use Rattle.mdv_databases.specs.Going.{GoOn, with_events}
 use Rattle.mdv_databases.specs.Lasting.{AreFreed}
 use Rattle.mdv_databases.specs.Standing.{Stand}
-use Rattle.mdv_engine_law.specs.Below.{AreWoken, Boots, Database, DriveNo, Drives, Event, HasNoTable, History, Identity, IsMapOf, IsOpenIn, IsOpenedAt, Key, KeptOutside, Log, Map, MayLeave, Opened, Site, Table, Tale, VolId, area_of_map, told, last, log_of, has_drive, history_after, history_after_all, site_area, site_of}
+use Rattle.mdv_engine_law.specs.Below.{AreWoken, Boots, Database, DriveNo, Drives, Event, HasNoTable, History, Identity, IsMapOf, IsOpenIn, IsOpenedAt, Key, KeptOutside, Log, Map, MayLeave, Opened, Site, Table, Tale, VolId, told, last, log_of, has_drive, history_after, history_after_all, site_area, site_of}
 use Rattle.mdv_store.specs.Commit.{AnyLog, IsNewestWritten}
 use Rattle.mdv_store_law.specs.Log as log
 use Rattle.mdv_store_law.specs.Part.{IsPart}
@@ -19,12 +22,13 @@ use Rattle.mdv_volumes.specs.HistoryLaws.{IsBooted, Waking, wakings}
 use Rattle.mdv_volumes.proofs.Tables.{tables_lie}
 use Rattle.mdv_volumes.proofs.Waking.{boots_go}
 use Rattle.mdv_volumes.proofs.Standing.{frames_stand}
+use Rattle.mdv_map.specs.Maps.{area_of_map}
 use Rattle.mdv_shelf.proofs.Frame.{kept_outside_same}
-use Rattle.mdv_engine_law.specs.Awake.{BootBegins, is_in}
+use Rattle.mdv_engine_law.specs.Awake.{BootBegins}
 use Rattle.mdv_engine_law.specs.declared.host.Host.{Host}
 use Rattle.mdv_engine_law.specs.Hosts.{IsReady, key_of}
-use Rattle.mdv_engine_law.specs.Line.{Memory, booted_with}
-use Rattle.mdv_engine_law.specs.Standing.{AreOwn, MeetsStaleAt, StandsAt, Goes, IsOfRun, Knows, IsKnown, BootMoment, BootedTo}
+use Rattle.mdv_engine_law.specs.Line.{Memory, booted_with, is_in}
+use Rattle.mdv_engine_law.specs.Standing.{AreOwn, MeetsStaleAt, StandsAt, Goes, IsOfRun, Knows, IsKnown, BootMoment, BootedTo, is_steady}
 use Rattle.mdv_engine_law.proofs.Going.{AllAwake, goes_more, goes_none, happened, met_or}
 use Rattle.mdv_engine_law.proofs.Lifting.{lift_log, never_asked}
 use Rattle.mdv_engine_law.proofs.Ready.{own_drives_lie}
@@ -61,6 +65,16 @@ wakings_awake host key (w ∷ ws) h = (tt, wakings_awake host key ws _)
 wakings_issue : (host : Host) (key : Key) (ws : List Waking) → AreAll (IsIssue (IsOfRun host [])) (wakings key ws)
 wakings_issue host key [] = tt
 wakings_issue host key (w ∷ ws) = (tt, wakings_issue host key ws)
+
+none_in : (count drive : ℕ) → slice_index_or (replicate count false) drive false ≡ false
+none_in count drive = elim (cases_lt drive count) [
+  | inl below ↦ get_or-replicate count drive false false below
+  | inr past ↦ get_or_past (replicate count false) drive false (omega (arith, past, length-replicate count false))
+]
+
+-- behind a boot the drives that it brought up are steady
+booted_steady : (opened : Option Opened) (up : Drives) (clean : Bool) (begun : ℕ) (drive : ℕ) → is_steady (booted_with opened up clean begun) drive ≡ is_in up drive
+booted_steady opened up clean begun drive = ap (λ (b : Bool). is_in up drive && not b) (none_in 256 drive) ∙ and-true (is_in up drive)
 
 -- a boot of the host began that brings these drives up, and none since; and the databases are the host's own that were
 abbrev pub HasBegun : Host → Drives → History → List Event → History → Type 0
@@ -159,7 +173,7 @@ module _ (host : Host) (sizes : List ℕ) (ready : IsReady host sizes) (t : Tale
   module _ (u : Tale) (kept : KeptOutside (site_area host.site) t u) (quiet : told u ≡ told t) (clean : Bool) (number : ℕ) where
     free : ((drive : DriveNo) (block : ℕ) → has_drive up drive ≡ true → site_area host.site drive.0 block ≡ false → (x : List ℕ) → MayLeave u drive.0 block x → x ≡ last u drive.0 block)
         → (opened : Option Opened) → IsFree host (booted_with opened up clean number) u
-    free rests opened drive block on is x left = rests (record { 0 = drive }) block on (plain_outside host sizes ready drive block is.plain) x left
+    free rests opened drive block on plain x left = rests (record { 0 = drive }) block (sym (booted_steady opened up clean number drive) ∙ on) (plain_outside host sizes ready drive block plain) x left
 
     -- it adopted a database, whose newest table this is: each volume on those drives is woken
     woken : ((drive : DriveNo) (block : ℕ) → has_drive up drive ≡ true → site_area host.site drive.0 block ≡ false → (x : List ℕ) → MayLeave u drive.0 block x → x ≡ last u drive.0 block) → (o : Opened) → o.key ≡ key_of host → IsOfGeometry host.drives o.table
@@ -212,8 +226,8 @@ module _ (host : Host) (sizes : List ℕ) (ready : IsReady host sizes) (t : Tale
                     its = own_still host number g (before.0.2 number own) number (history_after_all g went.es) (omega arith) went.after.0;
                     is_open = subst (λ (ds : List Database). IsOpenIn host.drives o ds u) (sym went.after.0) before.1;
                     free = λ closed calm. absurd (cc (closed));
-                    up = went.after.1;
-                    woken = went.after.2;
+                    up = λ drive. ap (λ (drives : Drives). is_in drives drive) went.after.1 ∙ sym (booted_steady (Some o) up clean number drive);
+                    woken = λ volume v lies upon. went.after.2 volume v lies (λ b drive block lt has. sym (booted_steady (Some o) up clean number drive) ∙ upon b drive block lt has);
                     knows = knows;
                   },
                   booted_first (key_of host) up es went.es before.0.0,
@@ -243,7 +257,7 @@ module _ (host : Host) (sizes : List ℕ) (ready : IsReady host sizes) (t : Tale
 
     module _ (knows : Knows host closed u) (h : History) (own : AreOwn host number h) where
       known_closed : (es : List Event) (g : History) → StandsAt host g u → HasBegun host up h es g → (clean ≡ true → AreFreed host.drives g.databases (key_of host) u) → IsClosed es g
-      known_closed es g there has are = (record { stands = there; its = has.2 number own; is_open = tt; free = λ none calm. are calm; up = has.1; woken = tt; knows = knows }, has.0)
+      known_closed es g there has are = (record { stands = there; its = has.2 number own; is_open = tt; free = λ none calm. are calm; up = λ drive. ap (λ (drives : Drives). is_in drives drive) has.1 ∙ sym (booted_steady None up clean number drive); woken = tt; knows = knows }, has.0)
 
       closing : (es : List Event) (g : History) → StandsAt host g u → HasBegun host up h es g → (clean ≡ true → AreFreed host.drives g.databases (key_of host) u) ⊎ EndsThen g → Goes host [] [] (λ fs. IsClosed (es ++ fs)) u g
       closing es g there has (inl are) = goes_none host [] (λ fs. IsClosed (es ++ fs)) u g there (known_closed (es ++ []) g there (booted_first (key_of host) up es [] has.0, has.1, has.2) are)

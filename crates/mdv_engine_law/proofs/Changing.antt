@@ -4,8 +4,7 @@ use Rattle.mdv_databases.proofs.Lists.{events_log}
 use Rattle.mdv_databases.specs.Committing.{IsCommit, IsCommittedIn}
 use Rattle.mdv_databases.specs.Going.{GoOn, IsCurrentOf, with_events}
 use Rattle.mdv_databases.specs.Standing.{Stand}
-use Rattle.mdv_shelf.proofs.Moments.{some_is}
-use Rattle.mdv_engine_law.specs.Below.{Created, AreWoken, Change, Changed, Database, Drives, Event, History, IsMapOf, IsOpenIn, IsOpenedAt, Key, KeptOutside, Log, MakeStripe, OfPlan, Opened, SliceName, Table, Tale, VolId, log_of, seats_area, site_area, site_of, told}
+use Rattle.mdv_engine_law.specs.Below.{Created, AreWoken, Change, Changed, Database, Drives, Event, History, IsOpenIn, IsOpenedAt, Key, KeptOutside, Log, MakeStripe, OfPlan, Opened, SliceName, Table, Tale, VolId, log_of, seats_area, site_area, site_of, told}
 use Rattle.mdv_store.specs.Commit.{AnyLog, IsCommittedTo}
 use Rattle.mdv_store_law.specs.Log as log
 use Rattle.mdv_store_law.specs.Log.{IsMade, IsNewestTellable}
@@ -13,20 +12,19 @@ use Rattle.mdv_store_law.specs.Part.{IsPart}
 use Rattle.mdv_table.specs.Table.{IsOfGeometry}
 use Rattle.mdv_volumes.specs.Happening.{deed_of}
 use Rattle.mdv_volumes.specs.HistoryLaws.{IsReady as IsTableReady}
-use Rattle.mdv_volumes.proofs.Tables.{tables_lie}
 use Rattle.mdv_shelf.proofs.Frame.{kept_outside_wider}
-use Rattle.mdv_engine_law.specs.Awake.{is_in}
 use Rattle.mdv_engine_law.specs.declared.answer.Answer.TheVariants.{Said, Over}
 use Rattle.mdv_engine_law.specs.declared.answer.Ended.TheVariants as ended
 use Rattle.mdv_engine_law.specs.declared.answer.Outcome.TheVariants as outcome
 use Rattle.mdv_engine_law.specs.declared.host.Host.{Host}
 use Rattle.mdv_engine_law.specs.Hosts.{IsReady, key_of}
-use Rattle.mdv_engine_law.specs.Line.{Memory, ToDo}
-use Rattle.mdv_engine_law.specs.Standing.{StandsAt, Goes, IsSteadyBlock, Reached, Knows, IsKnown, IsKnownAfter, CarryMoment, CarriedTo, is_up}
+use Rattle.mdv_engine_law.specs.Line.{Memory, ToDo, is_in}
+use Rattle.mdv_engine_law.specs.Standing.{StandsAt, Goes, Reached, Knows, IsKnown, IsKnownAfter, CarryMoment, CarriedTo, is_steady}
 use Rattle.mdv_store_law.proofs.Parts.{part_itself}
 use Rattle.mdv_engine_law.proofs.Going.{not_among, not_other, goes_more, happened}
 use Rattle.mdv_engine_law.proofs.Growing.{IsGrown, are_woken, grown, grown_stands, only_asked, ready_grown}
 use Rattle.mdv_volumes.proofs.Lists.{contains_first}
+use Rattle.mdv_engine_law.proofs.Knowing.{same_steady}
 use Rattle.mdv_engine_law.proofs.Lifting.{lift_log}
 use Rattle.mdv_engine_law.proofs.Owning.{own_gone}
 use Rattle.mdv_engine_law.proofs.Refusing.{known_open, knows_its, of_opened, knows_opened}
@@ -48,7 +46,7 @@ module _ (host : Host) (sizes : List ℕ) (ready : IsReady host sizes) (memory :
   is_commit h known = record { stand = known.stands.databases; is_open = known_open host memory o opened t h known; of_geometry = placed; made = made }
 
   changing : (After : Log → Type 0) (Then : List Event → History → Type 0) (h : History) (known : IsKnown host memory h t) (goes : GoOn host.drives h.databases o.key o.identity (Some change ∷ []) After m)
-      → ((es : List Event) (g : History) → StandsAt host g m → g.up (key_of host) ≡ memory.up → AreWoken host.drives table (is_up memory) g (key_of host) → g.databases ≡ with_events o.key goes.es h.databases → Then es g)
+      → ((es : List Event) (g : History) → StandsAt host g m → ((drive : ℕ) → is_in (g.up (key_of host)) drive ≡ is_steady memory drive) → AreWoken host.drives table (is_steady memory) g (key_of host) → g.databases ≡ with_events o.key goes.es h.databases → Then es g)
       → Goes host (Changed (key_of host) change ∷ []) [] Then m h
   changing After Then h known goes then =
       let key = key_of host in
@@ -86,19 +84,19 @@ module _ (host : Host) (sizes : List ℕ) (ready : IsReady host sizes) (memory :
               (λ other asks. subst (λ (k : Key). IsTableReady host.drives g k t other) (sym its)
               (ready_grown host sizes ready memory o opened volume slice table made placed t h known es g grows other
               (only_asked host sizes ready memory o opened volume slice table made placed t h known goes.es (subst (λ (k : Key). log.IsCourse host.drives (log_of h.databases k) goes.es) its goes.course) goes.come.begins other asks)))
-              (λ fs k there databases woken up. then (es ++ fs) k there (ap (λ (of : Key → Drives). of (key_of host)) (up ∙ grows.up) ∙ known.up)
+              (λ fs k there databases woken up. then (es ++ fs) k there (λ drive. ap (λ (of : Key → Drives). is_in (of (key_of host)) drive) (up ∙ grows.up) ∙ known.up drive)
               (are_woken host sizes ready memory o opened volume slice table made placed t h known es g grows k woken) (databases ∙ ap (with_events o.key goes.es) grows.databases))
 
   pub changing_moment : told m ≡ told t → ((all : List Database) → IsCommit host.drives all o (Some change) table t → GoOn host.drives all o.key o.identity (Some change ∷ []) AnyLog m) → CarryMoment host (ToDo (Changed (key_of host) change)) memory t m
   changing_moment quiet goes = record { home = stays_on_site host t m kept; within = opened_kept t m memory.opened o opened within; quiet = quiet; goes = λ h known. inr (changing AnyLog Reached h known (goes h.databases (is_commit h known)) (λ es g there up woken databases. tt)) }
 
   -- it was committed, and its `ok` may be told
-  pub changed : (new : Opened) (next : Memory) → next.up ≡ memory.up → next.clean ≡ memory.clean → memory.begun ≤ next.begun → next.opened ≡ Some new → new.key ≡ o.key → new.table ≡ table → (IsOpenedAt host.drives o t → IsOpenedAt host.drives new m)
+  pub changed : (new : Opened) (next : Memory) → next.up ≡ memory.up → next.unsteady ≡ memory.unsteady → memory.begun ≤ next.begun → next.opened ≡ Some new → new.key ≡ o.key → new.table ≡ table → (IsOpenedAt host.drives o t → IsOpenedAt host.drives new m)
       → ((all : List Database) → IsCommit host.drives all o (Some change) table t → IsCommittedIn host.drives all o new (Some change) m) → CarriedTo host (ToDo (Changed (key_of host) change)) memory (Said outcome.Ok) next t m
-  changed new next up clean begun is same table_is opens goes =
+  changed new next up unsteady begun is same table_is opens goes =
       let knows : Knows host memory t → Knows host next m = λ known.
       (let its = knows_its host memory o opened t known in
-      knows_opened host next new m is (same ∙ its.0) (opens its.1) (free_kept host sizes ready memory next t m kept (λ drive on. same_up drive ∙ on) steady known.steady)) in
+      knows_opened host next new m is (same ∙ its.0) (opens its.1) (free_kept host sizes ready memory next t m kept (λ drive on. still_on drive ∙ on) known.steady)) in
       record {
         done = Changed (key_of host) change ∷ [];
         acks = refl;
@@ -112,9 +110,9 @@ module _ (host : Host) (sizes : List ℕ) (ready : IsReady host sizes) (memory :
                 its = own_gone host memory.begun h known.its o.key done.goes.es next.begun g begun databases;
                 is_open = of_opened next new (λ n. IsOpenIn host.drives n g.databases m) is (subst (λ (ds : List Database). IsOpenIn host.drives new ds m) (sym databases) done.is_open);
                 free = λ none clean. absurd (cc (is, none));
-                up = drives ∙ sym up;
-                woken = of_opened next new (λ n. AreWoken host.drives n.table (is_up next) g (key_of host)) is
-                    (subst (λ (x : Table). AreWoken host.drives x (is_up next) g (key_of host)) (sym table_is) (λ number v lies upon. woken number v lies (λ b drive block lt has. same_up drive ∙ upon b drive block lt has)));
+                up = λ drive. drives drive ∙ still_on drive;
+                woken = of_opened next new (λ n. AreWoken host.drives n.table (is_steady next) g (key_of host)) is
+                    (subst (λ (x : Table). AreWoken host.drives x (is_steady next) g (key_of host)) (sym table_is) (λ number v lies upon. woken number v lies (λ b drive block lt has. still_on drive ∙ upon b drive block lt has)));
                 knows = knows known.knows;
               },
               record { may = tellable h g done its databases },
@@ -122,26 +120,14 @@ module _ (host : Host) (sizes : List ℕ) (ready : IsReady host sizes) (memory :
         knows = knows;
       }
     where
-      same_up : (drive : ℕ) → is_up memory drive ≡ is_up next drive
-      same_up drive = ap (λ (of : Drives). is_in of drive) (sym up)
+      still_on : (drive : ℕ) → is_steady memory drive ≡ is_steady next drive
+      still_on drive = sym (same_steady memory next up unsteady drive)
 
       tellable : (h g : History) (done : IsCommittedIn host.drives h.databases o new (Some change) m) → o.key ≡ key_of host → g.databases ≡ with_events o.key done.goes.es h.databases → IsNewestTellable (log_of g.databases (key_of host)) (Some change)
       tellable h g done its databases =
           let own : log_of (with_events o.key done.goes.es h.databases) o.key ≡ log.log_after_all (log_of h.databases o.key) done.goes.es = events_log o.key done.goes.es h.databases done.goes.its.database done.goes.its.current in
           subst (λ (k : Key). IsNewestTellable (log_of g.databases k) (Some change)) its
           (subst (λ (l : Log). IsNewestTellable l (Some change)) (sym (ap (λ (ds : List Database). log_of ds o.key) databases ∙ own)) (done.goes.after.tellable change refl))
-
-      steady : (drive block : ℕ) → IsSteadyBlock host next drive block → IsSteadyBlock host memory drive block
-      steady drive block of = record {
-        plain = of.plain;
-        free = λ torn. (
-            let none = of.free (clean ∙ torn) in
-            let same : none.0 ≡ new = some_is next.opened none.0 new none.1 is in (
-              o,
-              opened,
-              λ number v lies. none.2 number v (subst (λ (x : Table). IsMapOf host.drives x number v) (sym (ap (λ (n : Opened). n.table) same ∙ table_is)) (tables_lie.stays host.drives o.table table volume slice number v made.0 lies)),
-            ));
-      }
 
   -- whether it was committed isn't known
   pub changed_or_lost : (active listed : ℕ) (next : Memory) → ((all : List Database) → IsCommit host.drives all o (Some change) table t → GoOn host.drives all o.key o.identity (Some change ∷ []) AnyLog m)

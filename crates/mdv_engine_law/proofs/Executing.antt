@@ -28,7 +28,7 @@ use Rattle.mdv_engine_law.specs.Efforts.{LineCalls, replied_to}
 use Rattle.mdv_shelf.specs.Made.{Made}
 use Rattle.mdv_engine_law.specs.Standing.{OnlyReplied, Executed}
 use Rattle.mdv_engine_law.proofs.Efforts.{line_too, too_itself}
-use Rattle.mdv_engine_law.proofs.Widening.{AreWithin, IsBlamed, beside_more, calm_more, committed_more, end_more, left_more, lost_records_more, made_more, match_more, moved_more, unmoved_more, now_more, on_more, read_more, unmade_more, up_more}
+use Rattle.mdv_engine_law.proofs.Widening.{AreWithin, IsBlamed, beside_more, calm_more, committed_more, end_more, left_more, lost_records_more, made_more, match_more, moved_more, unmoved_more, now_more, blocks_more, read_more, unmade_more, up_more}
 
 -- a read of the drive gives what it gave
 pub content_kept : (u v : Tale) → KeptOutside nowhere u v → contents u ≡ contents v
@@ -143,8 +143,8 @@ module _ (failed more : Outcomes) (cause : AreWithin failed more) (host : Host) 
   fault_more (AddListed number force) is = absurd is
   fault_more (DropPlaces slices force) is = (is.0, is.1, is.2, undeleted_more is.0 is.3)
   fault_more (MakeStripe volume slice) is = absurd is
-  fault_more (Read volume at count) is = (is.0, on_more failed more cause is.0.drive is.1, is.2, is.3)
-  fault_more (Write volume at block) is = (is.0, on_more failed more cause is.0.drive is.1, is.2, is.3, is.4)
+  fault_more (Read volume at count) is = (blocks_more failed more cause host kept.memory volume at count is.0, is.1)
+  fault_more (Write volume at block) is = (blocks_more failed more cause host kept.memory volume at 1 is.0, is.1, is.2)
   fault_more (Print names) is = absurd is
 
   effect_more : (command : Command) → Effect failed host kept command answer next → Effect more host kept command answer next
@@ -153,7 +153,7 @@ module _ (failed more : Outcomes) (cause : AreWithin failed more) (host : Host) 
   effect_more (DropPlaces slices force) is = (is.0, is.1, is.2, match_more (are_all is.1 slices) _ _ _ _ (deleted_more is.1) (λ moved. (moved.0, moved_on_more is.1 _ moved.0 moved.1)) is.3)
   effect_more (MakeStripe volume slice) is =
       (is.0, is.1, is.2, record { opened = is.3.opened; committed = committed_more failed more cause is.1 is.3.opened _ is.3.committed; calm = beside_more failed more cause _ is.3.calm; memory = is.3.memory; content = is.3.content; beside = is.3.beside })
-  effect_more (Read volume at count) is = (calm_more failed more cause is.0, is.1, is.2, is.3, is.4)
+  effect_more (Read volume at count) is = (calm_more failed more cause is.0, is.1, is.2, is.3, is.4, is.5, is.6, is.7)
   effect_more (Write volume at block) is = (calm_more failed more cause is.0, is.1, is.2, is.3, is.4, is.5)
   effect_more (Print names) is = (calm_more failed more cause is.0, is.1, is.2, is.3, is.4)
 

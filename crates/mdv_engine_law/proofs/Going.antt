@@ -1,6 +1,6 @@
 -- How what goes on is joined, told of less, and taken from what the history's laws say.
 use Rattle.std.proofs.Common.{◌≡◌, ◌⊎◌, inl, inr, List, [], ◌∷◌, ◌++◌, Some, None, Contains, refl, sym, ◌∙◌, subst, arith}
-use Rattle.mdv_engine_law.specs.Below.{KeptOutside, nowhere, Tale, History, Deed, Event, Happens, IsCourse, history_after, history_after_all, IsIssue, Acknowledges, Boots, Changed, Crashes, Creation, Deleted, Deletes, Issue, OfChange, OfCreation, OfDatabase, OfEnd, OfPlaces, OfVolume, Reads, Shows, Stops}
+use Rattle.mdv_engine_law.specs.Below.{KeptOutside, nowhere, Tale, History, Deed, Event, Happens, IsCourse, history_after, history_after_all, IsIssue, Acknowledges, Boots, Changed, Crashes, Creation, Deleted, Deletes, Issue, OfChange, OfCreation, OfDatabase, OfEnd, OfPlaces, OfVolume, Reads, Shows, Stops, Unsettles}
 use Rattle.mdv_store_law.specs.Log as log
 use Rattle.mdv_store_law.proofs.Parts.{part_before, part_front, part_itself}
 use Rattle.mdv_volumes.proofs.Lists.{contains_behind, contains_first, first_or_behind}
@@ -82,6 +82,7 @@ module _ (host : Host) (asks all : List Deed) (more : IsPart asks all) where
   issue_more (Shows place key volume at blocks) is = tt
   issue_more (Deletes place key) is = tt
   issue_more (Boots key up) is = tt
+  issue_more (Unsettles key drive) is = tt
   issue_more Stops is = absurd is
   issue_more Crashes is = absurd is
 

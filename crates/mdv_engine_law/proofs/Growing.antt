@@ -1,15 +1,12 @@
 -- A volume that a change makes begins with one value in each block, and then its table may be written.
-use Rattle.std.proofs.Common.{◌≡◌, ◌⊎◌, inl, inr, ◌+◌, ◌<◌, ℕ, true, false, List, [], ◌∷◌, Some, refl, sym, ◌∙◌, ap, subst, arith}
-use Rattle.mdv_engine_law.specs.Below.{Among, AreWoken, Begins, Event, Happens, History, IsMapOf, IsNamed, Key, Log, MakeStripe, Map, MayLeave, OfPlan, OfVolume, Opened, SliceName, Table, Tale, Version, VolId, VolumeKind, Base, Woke, area_of_map, history_after, history_after_all, last, log_of, run_map}
-use Rattle.mdv_map.proofs.Covering.{areas_cover}
+use Rattle.std.proofs.Common.{◌≡◌, ◌⊎◌, inl, inr, ℕ, List, [], ◌∷◌, Some, refl, sym, ◌∙◌, ap, subst, arith}
+use Rattle.mdv_dev.proofs.Copies.{has_place}
+use Rattle.mdv_dev.specs.Pieces.{IsOneCopy}
+use Rattle.mdv_engine_law.specs.Below.{AreWoken, Begins, Event, Happens, History, IsMapOf, IsNamed, Key, Log, MakeStripe, Map, OfPlan, OfVolume, Opened, SliceName, Table, Tale, Version, VolId, Woke, history_after, history_after_all, log_of}
 use Rattle.mdv_map.specs.Logs.{Follows, VolumeLog, opening}
-use Rattle.mdv_shelf.proofs.Settled.{covered}
 use Rattle.mdv_store_law.specs.Log as log
 use Rattle.mdv_store_law.specs.Log.{IsLog, IsMade, IsSameOrSettled}
 use Rattle.mdv_store_law.specs.Part.{IsPart}
-use Rattle.mdv_table.specs.declared.volume.Base.TheVariants.{Slice}
-use Rattle.mdv_table.specs.declared.volume.Component.{Component}
-use Rattle.mdv_table.specs.declared.volume.VolumeKind.TheVariants.{Stripe}
 use Rattle.mdv_store.specs.Commit.{IsNewestWritten}
 use Rattle.mdv_store_law.specs.Machine.{AreAll}
 use Rattle.mdv_table.specs.Table.{IsOfGeometry}
@@ -18,26 +15,25 @@ use Rattle.mdv_volumes.specs.Happening.{IsIssue, MayBeFound}
 use Rattle.mdv_volumes.specs.Histories.{Stands}
 use Rattle.mdv_volumes.specs.HistoryLaws.{IsAsked, IsBegun, IsReady as IsTableReady, IsUpon}
 use Rattle.mdv_volumes.specs.Standing.{GoesBy, HaveOneValue}
-use Rattle.mdv_volumes.specs.Tables.{AreLaid, IsBaseMap, IsKindMap}
+use Rattle.mdv_volumes.specs.Tables.{AreLaid}
+use Rattle.mdv_volumes.proofs.Copies.{content as content_of, one_value as value_of, upon_or_not}
 use Rattle.mdv_volumes.proofs.Databases.{is_log_of, volume_itself, volume_number}
 use Rattle.mdv_volumes.proofs.Found.{newest_found, only_found}
 use Rattle.mdv_volumes.proofs.Made.{map_was, ready_more}
+use Rattle.mdv_volumes.proofs.Maps.{same_map}
 use Rattle.mdv_volumes.proofs.Standing.{boots_stand}
-use Rattle.mdv_volumes.proofs.Tables.{tables_lie}
+use Rattle.mdv_volumes.proofs.Tables.{blocks_plain, tables_lie}
 use Rattle.mdv_volumes.proofs.Transfers.{noted}
 use Rattle.mdv_volumes.proofs.Volumes.{after_own}
 use Rattle.mdv_volumes.proofs.Waking.{beginnings_go}
 use Rattle.mdv_engine_law.specs.declared.host.Host.{Host}
 use Rattle.mdv_engine_law.specs.Hosts.{IsReady, key_of}
 use Rattle.mdv_engine_law.specs.Line.{Memory}
-use Rattle.mdv_engine_law.specs.Standing.{IsKnown, IsOfRun, IsSteadyBlock, Knows, StandsAt, is_up}
+use Rattle.mdv_engine_law.specs.Standing.{IsKnown, IsOfRun, Knows, StandsAt, is_steady}
 use Rattle.mdv_engine_law.proofs.Asking.{Alone, asked_is}
-use Rattle.mdv_engine_law.proofs.Beside.{lies_plain}
 use Rattle.mdv_engine_law.proofs.Going.{AllAwake}
 use Rattle.mdv_engine_law.proofs.Owning.{own_alone}
 use Rattle.mdv_engine_law.proofs.Refusing.{known_newest, opened_has}
-use Rattle.mdv_engine_law.proofs.Staying.{plain_has}
-use Rattle.mdv_engine_law.proofs.Steady.{not_true}
 use Rattle.mdv_shelf.proofs.Blocks.{both_ways}
 
 -- the table of a change
@@ -49,59 +45,26 @@ module _ (host : Host) (sizes : List ℕ) (ready : IsReady host sizes) (memory :
   laid : AreLaid host.drives table
   laid = tables_lie.laid host.drives table ready.sound placed
 
-  -- a volume of it lies together on a drive
-  as_base : (c : Component) (base : Base) (v : Map) → IsBaseMap host.drives c base v → (drive : ℕ) × (first : ℕ) × (v ≡ run_map drive first c.blocks)
-  as_base c (Slice name) v lies = (lies.0.drive.0, lies.0.start + c.start, lies.2)
-
-  as_kind : (kind : VolumeKind) (v : Map) → IsKindMap host.drives kind v → (drive : ℕ) × (first : ℕ) × (count : ℕ) × (v ≡ run_map drive first count)
-  as_kind (Stripe s) v lies = let run = as_base s.component s.component.on v lies in (run.0, run.1, s.component.blocks, run.2)
-
   -- where the new one lies
-  pub record NewRun : Type 0 where
-    pub drive : ℕ
-    pub first : ℕ
-    pub count : ℕ
-    pub lies : IsMapOf host.drives table volume (run_map drive first count)
-
-  pub new_run : NewRun
-  new_run =
-      let found = tables_lie.lies host.drives newest.table table volume slice made.0 placed in
-      let run = as_kind found.1.of.kind found.0 found.1.kind in
-      record { drive = run.0; first = run.1; count = run.2; lies = subst (λ (v : Map). IsMapOf host.drives table volume v) run.3 found.1 }
+  pub new_map : (v : Map) × IsMapOf host.drives table volume v
+  new_map = tables_lie.lies host.drives newest.table table volume slice made.0 placed
 
   abbrev pub map : Map
-  map = run_map new_run.drive new_run.first new_run.count
+  map = new_map.0
 
-  abbrev pub content : Tale → ℕ → List ℕ
-  content t b = last t new_run.drive (new_run.first + b)
+  -- each of its blocks in one place
+  one : IsOneCopy map
+  one = laid.one volume map new_map.1
+
+  abbrev content : Tale → ℕ → List ℕ
+  content = content_of map one
 
   never_old : (other : VolId) (w : Map) → IsMapOf host.drives newest.table other w → volume ≡ other → ⊥
   never_old other w lies same = tables_lie.new host.drives newest.table table volume slice w ready.sound made.0 (subst (λ (x : VolId). IsMapOf host.drives newest.table x w) (sym same) lies)
 
-  -- its blocks are no volume's until then
-  steady_block : (b : ℕ) → b < new_run.count → IsSteadyBlock host memory new_run.drive (new_run.first + b)
-  steady_block b lt = record {
-    plain = plain_has host new_run.drive new_run.first new_run.count (lies_plain host ready.sound table placed volume new_run.drive new_run.first new_run.count new_run.lies) new_run.first new_run.count new_run.drive (new_run.first + b) (omega arith) (omega arith) (covered new_run.drive new_run.first new_run.count b lt);
-    free = λ torn. (
-      newest,
-      opened,
-      λ other w lies.
-          not_true (area_of_map w new_run.drive (new_run.first + b)) (λ has.
-          let inside = areas_cover.inside w new_run.drive (new_run.first + b) has in
-          laid.apart volume other map w (never_old other w lies) new_run.lies (tables_lie.stays host.drives newest.table table volume slice other w made.0 lies) b inside.0 new_run.drive (new_run.first + b) lt inside.1 (inl (refl, refl)) inside.2),
-    );
-  }
-
-  -- and have one value each
-  one_value : (t : Tale) → is_up memory new_run.drive ≡ true → Knows host memory t → HaveOneValue map (content t) t
-  one_value t up knows = record {
-    some = λ b lt. inl refl;
-    alone = λ image b x is lt among. by image b x lt (is.each new_run.drive (new_run.first + b)) among;
-  }
-    where
-      by : (image : ℕ → ℕ → List ℕ) (b : ℕ) (x : List ℕ) → b < new_run.count → MayLeave t new_run.drive (new_run.first + b) (image new_run.drive (new_run.first + b)) → Among (image new_run.drive (new_run.first + b) ∷ []) x → x ≡ last t new_run.drive (new_run.first + b)
-      by image b x lt left (inl same) = same ∙ knows.steady new_run.drive (new_run.first + b) up (steady_block b lt) (image new_run.drive (new_run.first + b)) left
-      by image b x lt left (inr none) = absurd none
+  -- which has one value, where its drive is steady
+  one_value : (t : Tale) → IsUpon (is_steady memory) map → Knows host memory t → HaveOneValue map (content t) t
+  one_value t upon knows = value_of map one t (is_steady memory) (λ b drive block lt at on. knows.steady drive block on (blocks_plain host.drives table laid volume map new_map.1 b drive block lt (has_place map b drive block at))) upon
 
   -- a boot finds the open table alone
   alone_of : (lg : Log) → IsLog host.drives lg → IsNewestWritten lg newest.mark newest.table → Alone host.drives (OfPlan (MakeStripe volume slice)) tt newest.table table made lg
@@ -130,7 +93,7 @@ module _ (host : Host) (sizes : List ℕ) (ready : IsReady host sizes) (memory :
     begins = OfVolume key volume (Begins 0 (opening map t))
 
     abbrev wakes : Event
-    wakes = OfVolume key volume (Woke new_run.count (content t))
+    wakes = OfVolume key volume (Woke map.blocks (content t))
 
     abbrev first : History
     first = history_after h begins
@@ -144,7 +107,7 @@ module _ (host : Host) (sizes : List ℕ) (ready : IsReady host sizes) (memory :
       empty : Follows (record map { blocks = 0 }) (h.volumes key volume) t
       empty = record { reads = λ b x lt. absurd (omega (arith, lt)); leaves = λ image b x is lt. absurd (omega (arith, lt)) }
 
-    -- What is so once it has begun, and, where the last boot brought its drive up, is woken.
+    -- What is so once it has begun, and, where its drives are steady, is woken.
     pub record IsGrown (es : List Event) (g : History) : Type 0 where
       pub happens : Happens host.drives h es [] [] t
       pub is : g ≡ history_after_all h es
@@ -153,7 +116,7 @@ module _ (host : Host) (sizes : List ℕ) (ready : IsReady host sizes) (memory :
       pub databases : g.databases ≡ h.databases
       pub up : g.up ≡ h.up
       pub follows : Follows map (g.volumes key volume) t
-      pub own : IsUpon (is_up memory) map → g.woken key volume ≡ new_run.count
+      pub own : IsUpon (is_steady memory) map → g.woken key volume ≡ map.blocks
       pub others : (number : VolId) → (number ≡ volume → ⊥) → g.woken key number ≡ h.woken key number
 
     other_count : (number : VolId) → (number ≡ volume → ⊥) → second.woken key number ≡ h.woken key number
@@ -168,21 +131,13 @@ module _ (host : Host) (sizes : List ℕ) (ready : IsReady host sizes) (memory :
       | inr never ↦ rw never refl
     ]
 
-    own_count : second.woken key volume ≡ new_run.count
+    own_count : second.woken key volume ≡ map.blocks
     own_count = let here = volume_itself key volume in rw here refl
 
-    -- a volume has a block
-    some_block : 0 < new_run.count
-    some_block =
-        let plain = lies_plain host ready.sound table placed volume new_run.drive new_run.first new_run.count new_run.lies in
-        let each = ready.sound.each plain.name plain.at plain.has in
-        let some = each.some in
-        let count = plain.count_is in omega (arith, some, count)
-
-    grown_up : is_up memory new_run.drive ≡ true → (es : List Event) × (g : History) × IsGrown es g
-    grown_up up =
-        let woke : GoesBy map (first.volumes key volume) (Woke new_run.count (content t) ∷ []) t = boots_stand.woken map (content t) (first.volumes key volume) t (one_value t up known.knows) begun.follows in
-        let stands : Stands host.drives second t = noted host.drives first key volume (Woke new_run.count (content t)) t begun.happens.stands (λ w named. absurd (unnamed w named)) in (
+    grown_up : IsUpon (is_steady memory) map → (es : List Event) × (g : History) × IsGrown es g
+    grown_up upon =
+        let woke : GoesBy map (first.volumes key volume) (Woke map.blocks (content t) ∷ []) t = boots_stand.woken map (content t) (first.volumes key volume) t (one_value t upon known.knows) begun.follows in
+        let stands : Stands host.drives second t = noted host.drives first key volume (Woke map.blocks (content t)) t begun.happens.stands (λ w named. absurd (unnamed w named)) in (
           begins ∷ wakes ∷ [],
           second,
           record {
@@ -192,13 +147,13 @@ module _ (host : Host) (sizes : List ℕ) (ready : IsReady host sizes) (memory :
             issues = (tt, (tt, tt));
             databases = refl;
             up = refl;
-            follows = subst (λ (l : VolumeLog). Follows map l t) (sym (after_own host.drives first key volume (Woke new_run.count (content t)) t t begun.happens.stands)) woke.follows;
+            follows = subst (λ (l : VolumeLog). Follows map l t) (sym (after_own host.drives first key volume (Woke map.blocks (content t)) t t begun.happens.stands)) woke.follows;
             own = λ upon. own_count;
             others = other_count;
           },
         )
 
-    grown_down : is_up memory new_run.drive ≡ false → (es : List Event) × (g : History) × IsGrown es g
+    grown_down : (IsUpon (is_steady memory) map → ⊥) → (es : List Event) × (g : History) × IsGrown es g
     grown_down down = (
       begins ∷ [],
       first,
@@ -210,13 +165,13 @@ module _ (host : Host) (sizes : List ℕ) (ready : IsReady host sizes) (memory :
         databases = refl;
         up = refl;
         follows = begun.follows;
-        own = λ upon. absurd (let up = upon 0 new_run.drive (new_run.first + 0) some_block (inl (refl, refl)) in cc (up, down));
+        own = λ upon. absurd (down upon);
         others = first_count;
       },
     )
 
     pub grown : (es : List Event) × (g : History) × IsGrown es g
-    grown = elim (both_ways (is_up memory new_run.drive)) [ inl up ↦ grown_up up | inr down ↦ grown_down down ]
+    grown = elim (upon_or_not map one (is_steady memory)) [ inl upon ↦ grown_up upon | inr down ↦ grown_down down ]
 
     newest_of : (w : Map) (other : VolId) → IsMapOf host.drives newest.table other w → IsNamed host.drives h.databases key other w
     newest_of w other lies = record {
@@ -241,19 +196,19 @@ module _ (host : Host) (sizes : List ℕ) (ready : IsReady host sizes) (memory :
           by number w lies (inl old) = grown_stands.volumes key number w (subst (λ (ds : List Database). IsNamed host.drives ds key number w) (sym grows.databases) (newest_of w number old))
           by number w lies (inr same) =
               let here : IsMapOf host.drives table volume w = subst (λ (n : VolId). IsMapOf host.drives table n w) same lies in
-              subst (λ (n : VolId). Follows w (g.volumes key n) t) (sym same) (subst (λ (v : Map). Follows v (g.volumes key volume) t) (laid.one volume map w new_run.lies here) grows.follows)
+              subst (λ (n : VolId). Follows w (g.volumes key n) t) (sym same) (subst (λ (v : Map). Follows v (g.volumes key volume) t) (same_map host.drives table volume map w new_map.1 here) grows.follows)
 
       -- what is woken then
-      pub are_woken : (k : History) → k.woken ≡ g.woken → AreWoken host.drives table (is_up memory) k key
+      pub are_woken : (k : History) → k.woken ≡ g.woken → AreWoken host.drives table (is_steady memory) k key
       are_woken k same number w lies upon = ap (λ (f : _). f key number) same ∙ by (tables_lie.made host.drives newest.table table volume slice number w made.0 lies) where
         by : IsMapOf host.drives newest.table number w ⊎ (number ≡ volume) → g.woken key number ≡ w.blocks
         by (inl old) =
-            let were = opened_has memory newest (λ n. AreWoken host.drives n.table (is_up memory) h key) opened known.woken in
+            let were = opened_has memory newest (λ n. AreWoken host.drives n.table (is_steady memory) h key) opened known.woken in
             grows.others number (λ same_number. never_old number w old (sym same_number)) ∙ were number w old upon
         by (inr same_number) =
             let here : IsMapOf host.drives table volume w = subst (λ (n : VolId). IsMapOf host.drives table n w) same_number lies in
-            let maps : w ≡ map = sym (laid.one volume map w new_run.lies here) in
-            ap (λ (n : VolId). g.woken key n) same_number ∙ grows.own (subst (λ (v : Map). IsUpon (is_up memory) v) maps upon) ∙ ap (λ (v : Map). v.blocks) (sym maps)
+            let maps : w ≡ map = sym (same_map host.drives table volume map w new_map.1 here) in
+            ap (λ (n : VolId). g.woken key n) same_number ∙ grows.own (subst (λ (v : Map). IsUpon (is_steady memory) v) maps upon) ∙ ap (λ (v : Map). v.blocks) (sym maps)
 
     pub only_asked : (es : List log.Event) → log.IsCourse host.drives (log_of h.databases key) es → IsPart (log.begun_by es) (Some (OfPlan (MakeStripe volume slice)) ∷ []) → (other : Table) → IsAsked es other → IsSameOrSettled table other
     only_asked es course within other asked = asked_is host.drives (OfPlan (MakeStripe volume slice)) tt newest.table table made (log_of h.databases key) es is_log alone course within other asked

@@ -1,6 +1,6 @@
 -- What a line leaves in memory and on the drive, where it did what was asked.
-use Rattle.std.proofs.Common.{◌≡◌, ⊎_elim, inl, inr, ◌+◌, ◌-◌, ℕ, suc, List, [], ◌∷◌, length, slice_index_or, Some, refl, sym, ◌∙◌, ap, arith}
-use Rattle.mdv_engine_law.specs.Below.{Area, DriveBlock, Geometry, Identity, IsOpenedAt, IsSettled, Key, KeptOutside, Opened, Settling, SliceLine, Table, Tale, last, nowhere, seats_area, values_reply}
+use Rattle.std.proofs.Common.{◌≡◌, ◌+◌, ℕ, List, Some, refl}
+use Rattle.mdv_engine_law.specs.Below.{Area, Geometry, Identity, IsOpenedAt, Key, KeptOutside, Map, Opened, SliceLine, Table, Tale, last, nowhere, seats_area}
 use Rattle.mdv_shelf.specs.Failing.{Outcomes}
 use Rattle.mdv_standing.specs.Creating.{first_mark}
 use Rattle.mdv_store.specs.Commit as commit
@@ -12,22 +12,13 @@ use Rattle.mdv_store.specs.Progress.{Claimed, Progress, Rewritten, Settled}
 use Rattle.mdv_store.specs.Seats.{AreTheirs, drives_of}
 use Rattle.mdv_store.specs.Taking.{LeftHold, open_with, second_mark}
 use Rattle.mdv_table.specs.Plan.{settled}
-use Rattle.mdv_shelf.specs.Calls.{Shows}
-use Rattle.mdv_shelf.proofs.Settled.{covered}
+use Rattle.mdv_map.specs.Requests.{AllRead, Rewriting}
 use Rattle.mdv_shelf.proofs.Everywhere.{last_image}
 use Rattle.mdv_engine_law.specs.declared.host.Host.{Host}
 use Rattle.mdv_engine_law.specs.Commands.{LeavesPlaces, LeavesTable}
 use Rattle.mdv_engine_law.specs.Hosts.{identity_of, key_of, opened_area, places_area}
-use Rattle.mdv_engine_law.specs.Line.{AreCalmBeside, AreFormedOn, Memory, IsSame, IsSameBeside, LeftHoldOn, Stays, IsCreated, IsUncreated, IsCommitted, IsOpenOn, ArePut, MayBePut, blocks_of, contents, kept_at}
+use Rattle.mdv_engine_law.specs.Line.{AreCalmBeside, AreFormedOn, Memory, IsSame, IsSameBeside, LeftHoldOn, Stays, IsCreated, IsUncreated, IsCommitted, IsOpenOn, ArePut, MayBePut, contents, kept_at}
 use Rattle.mdv_engine_law.proofs.Within.{opened_kept}
-
--- these blocks are what a read gives
-pub blocks_shown : (t : Tale) (drive block : ℕ) (blocks : List (List ℕ)) → Shows t drive block blocks → blocks_of (contents t) (record { drive = drive; block = block }) (length blocks) ≡ blocks
-blocks_shown t drive block [] shows = refl
-blocks_shown t drive block (x ∷ blocks) shows =
-    let first : last t drive block ≡ x = ap (λ (b : ℕ). last t drive b) (omega arith) ∙ sym (shows 0 (omega arith)) in
-    let behind = blocks_shown t drive (block + 1) blocks (λ k lt. shows (suc k) (omega (arith, lt)) ∙ ap (λ (b : ℕ). last t drive b) (omega arith)) in
-    cc (first, behind)
 
 module _ (t u : Tale) where
   -- no block changed
@@ -35,17 +26,12 @@ module _ (t u : Tale) where
   same_content kept drive block = (kept drive block refl).last
 
   -- blocks were written
-  module _ (from : DriveBlock) (blocks : List (List ℕ)) (settling : Settling from.drive from.block blocks t u) where
-    pub are_put : IsSettled from.drive from.block blocks u → ArePut from blocks (contents t) (contents u)
-    are_put settled = record { here = λ k lt. sym (settled.shows k lt); elsewhere = λ drive b out. (settling.outside drive b out).last }
+  module _ (v : Map) (at : ℕ) (blocks : List (List ℕ)) (rewriting : Rewriting v at blocks t u) where
+    pub are_put : AllRead v at blocks u → ArePut v at blocks (contents t) (contents u)
+    are_put read = record { here = λ k x lt reading. read k x lt reading; elsewhere = λ drive b off. (rewriting.outside drive b off).last }
 
-    pub may_be_put : MayBePut from blocks (contents t) (contents u)
-    may_be_put = record {
-      here = λ k lt.
-          let same : (from.block + k) - from.block ≡ k = omega arith in
-          ⊎_elim (λ old. inl old) (λ new. inr (new ∙ ap (λ (i : ℕ). slice_index_or blocks i []) same)) (settling.inside (from.block + k) (covered from.drive from.block (length blocks) k lt)).last;
-      elsewhere = λ drive b out. (settling.outside drive b out).last;
-    }
+    pub may_be_put : MayBePut v at blocks (contents t) (contents u)
+    may_be_put = record { here = λ k drive b lt has. (rewriting.inside k drive b lt has).last; elsewhere = λ drive b off. (rewriting.outside drive b off).last }
 
 -- no block outside the area changed
 pub same_beside : (area : Area) (t u : Tale) → KeptOutside area t u → IsSameBeside area (contents t) (contents u)
@@ -113,7 +99,3 @@ module _ (host : Host) (memory next : Memory) (t u : Tale) where
   pub committed : (calls : Outcomes) (o new : Opened) (table : Table) → commit.IsCommitted calls o new table → AreCalmBeside (drives_of o.seats) calls → KeptOutside (seats_area o.seats) t u → next ≡ record memory { opened = Some new } → IsOpenedAt host.drives new u
       → IsCommitted calls host o table (kept_at memory t) (kept_at next u)
   committed calls o new table done calm kept is opened = record { opened = new; committed = done; calm = calm; memory = is; content = open_on host.drives new u opened; beside = same_beside (seats_area o.seats) t u kept }
-
--- a read told what is there
-pub read_values : (t : Tale) (at drive block : ℕ) (blocks : List (List ℕ)) (text : List ℕ) → Shows t drive block blocks → text ≡ values_reply at blocks → text ≡ values_reply at (blocks_of (contents t) (record { drive = drive; block = block }) (length blocks))
-read_values t at drive block blocks text shows is = is ∙ ap (λ (bs : List (List ℕ)). values_reply at bs) (sym (blocks_shown t drive block blocks shows))

@@ -1,5 +1,6 @@
 -- What a creation leaves of a host's history.
-use Rattle.std.proofs.Common.{◌≡◌, ◌⊎◌, inr, ◌+◌, ◌*◌, ◌<◌, ◌≤◌, ℕ, true, false, List, [], ◌∷◌, ◌++◌, Contains, Option, Some, None, IfSome, refl, sym, ◌∙◌, ap, subst, arith}
+use Rattle.std.proofs.Common.{◌≡◌, ◌⊎◌, inr, ◌+◌, ◌*◌, ◌<◌, ◌≤◌, ◌==◌, ℕ, true, false, List, [], ◌∷◌, ◌++◌, find, Contains, Option, Some, None, IfSome, refl, sym, ◌∙◌, ap, subst}
+use Rattle.std.proofs.lemmas.Option.{none-some}
 use Rattle.mdv_databases.proofs.Creating.{begun_stand}
 use Rattle.mdv_databases.proofs.Lists.{events_log}
 use Rattle.mdv_databases.specs.Creating.{IsCreation, IsMadeIn, IsUnmadeIn}
@@ -14,19 +15,20 @@ use Rattle.mdv_store_law.proofs.Parts.{part_front, part_itself, part_of_part}
 use Rattle.mdv_databases.specs.Lasting.{AreFreed}
 use Rattle.mdv_table.specs.Table.{IsOfGeometry}
 use Rattle.mdv_volumes.specs.Databases.{with_creation}
+use Rattle.mdv_volumes.specs.Tables.{map_at}
 use Rattle.mdv_volumes.proofs.Lifting.{creations_go}
 use Rattle.mdv_volumes.specs.Happening.{IsOver}
 use Rattle.mdv_engine_law.proofs.Freed.{freed_current}
-use Rattle.mdv_engine_law.specs.Awake.{is_in}
 use Rattle.mdv_engine_law.specs.declared.answer.Answer.TheVariants.{Said, Over}
 use Rattle.mdv_engine_law.specs.declared.answer.Ended.TheVariants as ended
 use Rattle.mdv_engine_law.specs.declared.answer.Outcome.TheVariants as outcome
 use Rattle.mdv_engine_law.specs.declared.host.Host.{Host}
 use Rattle.mdv_engine_law.specs.Hosts.{IsReady, identity_of, key_of, places_area}
 use Rattle.mdv_engine_law.specs.Replies.{AcksAnswer}
-use Rattle.mdv_engine_law.specs.Line.{Ask, Memory, deeds}
-use Rattle.mdv_engine_law.specs.Standing.{StandsAt, Goes, Reached, Knows, IsKnown, IsKnownAfter, CarryMoment, CarriedTo, WritesOnly, is_up}
+use Rattle.mdv_engine_law.specs.Line.{Ask, Memory, deeds, is_in}
+use Rattle.mdv_engine_law.specs.Standing.{StandsAt, Goes, Reached, Knows, IsKnown, IsKnownAfter, CarryMoment, CarriedTo, WritesOnly, is_steady}
 use Rattle.mdv_engine_law.proofs.Going.{not_among, goes_more, happened}
+use Rattle.mdv_engine_law.proofs.Knowing.{same_steady}
 use Rattle.mdv_engine_law.proofs.Lifting.{lift_log, never_asked}
 use Rattle.mdv_engine_law.proofs.Owning.{own_begun, own_fresh}
 use Rattle.mdv_engine_law.proofs.Steady.{free_kept}
@@ -66,7 +68,7 @@ module _ (host : Host) (sizes : List ℕ) (ready : IsReady host sizes) (memory :
   kept = places_on_site t m host.site lines count blocks sites room within
 
   making : (After : Log → Type 0) (Then : List Event → History → Type 0) (h : History) (known : IsKnown host memory h t) (on : GoOn host.drives (now h.databases) (key_of host) identity [] After m)
-      → ((es : List Event) (g : History) → StandsAt host g m → g.up (key_of host) ≡ memory.up → g.databases ≡ with_events (key_of host) on.es (now h.databases) → Then es g) → Goes host (deeds ask) [] Then m h
+      → ((es : List Event) (g : History) → StandsAt host g m → ((drive : ℕ) → is_in (g.up (key_of host)) drive ≡ is_steady memory drive) → g.databases ≡ with_events (key_of host) on.es (now h.databases) → Then es g) → Goes host (deeds ask) [] Then m h
   making After Then h known on then =
       let newly = creations_go host.drives h (key_of host) identity t known.stands (record { fresh = (may h known).fresh; free = free h known }) (begun_stand host.drives h.databases (key_of host) identity lines count blocks t (may h known)) in
       goes_more host (Created (key_of host) ∷ []) [] (deeds ask) [] [] (λ es g. (es ≡ first ∷ []) × (g ≡ history_after h first)) Then t m h (subst (λ (l : List Deed). IsPart (Created (key_of host) ∷ []) l) (sym asks) (part_front (Created (key_of host) ∷ []) rest))
@@ -84,7 +86,7 @@ module _ (host : Host) (sizes : List ℕ) (ready : IsReady host sizes) (memory :
       went there =
           lift_log host [] (λ more. Then (first ∷ more)) (key_of host) identity [] After t m (subst (λ (s : Site). KeptOutside (site_area s) t m) ready.site kept) tt tt (history_after h first) there on
           (λ table asked. absurd (never_asked on.es table (nothing on.es on.come.begins) asked))
-          (λ es g stands databases woken up. then (first ∷ es) g stands (ap (λ (of : Key → Drives). of (key_of host)) up ∙ known.up) databases)
+          (λ es g stands databases woken up. then (first ∷ es) g stands (λ drive. ap (λ (of : Key → Drives). is_in (of (key_of host)) drive) up ∙ known.up drive) databases)
 
   -- how all databases go on by then
   pub making_moment : told m ≡ told t → ((all : List Database) → IsCreation host.drives all (key_of host) identity lines count blocks t → GoOn host.drives (now all) (key_of host) identity [] AnyLog m)
@@ -92,18 +94,16 @@ module _ (host : Host) (sizes : List ℕ) (ready : IsReady host sizes) (memory :
   making_moment quiet goes =
       record { home = stays_on_site host t m kept; within = writes; quiet = quiet; goes = λ h known. inr (making AnyLog Reached h known (goes h.databases (may h known)) (λ es g there up databases. tt)) }
 
-  -- steady blocks stay so
-  freed : (next : Memory) → next.up ≡ memory.up → Knows host memory t → IsFree host next m
-  freed next up known = free_kept host sizes ready memory next t m kept still (λ drive block is. record { plain = is.plain; free = λ torn. absurd (cc (clean, torn)) }) known.steady
-    where
-      still : (drive : ℕ) → is_up next drive ≡ true → is_up memory drive ≡ true
-      still drive on = subst (λ (drives : Drives). is_in drives drive ≡ true) up on
+  -- the blocks of steady drives stay so
+  freed : (next : Memory) → ((drive : ℕ) → is_steady next drive ≡ is_steady memory drive) → Knows host memory t → IsFree host next m
+  freed next same known = free_kept host sizes ready memory next t m kept (λ drive on. sym (same drive) ∙ on) known.steady
 
   -- it was made, and its `ok` may be told
-  pub made : (o : Opened) (next : Memory) → next.up ≡ memory.up → memory.begun < next.begun → o.key ≡ key_of host → o.table.plan.volumes ≡ [] → next.opened ≡ Some o → IsOpenedAt host.drives o m
+  pub made : (o : Opened) (next : Memory) → next.up ≡ memory.up → next.unsteady ≡ memory.unsteady → memory.begun < next.begun → o.key ≡ key_of host → o.table.plan.volumes ≡ [] → next.opened ≡ Some o → IsOpenedAt host.drives o m
       → ((all : List Database) → IsCreation host.drives all (key_of host) identity lines count blocks t → IsMadeIn host.drives (now all) (key_of host) identity o m) → CarriedTo host ask memory (Said outcome.Ok) next t m
-  made o next same_up begun its empty opened is goes =
-      let knows : Knows host memory t → Knows host next m = λ known. knows_opened host next o m opened its is (freed next same_up known) in
+  made o next same_up same_unsteady begun its empty opened is goes =
+      let same : (drive : ℕ) → is_steady next drive ≡ is_steady memory drive = same_steady memory next same_up same_unsteady in
+      let knows : Knows host memory t → Knows host next m = λ known. knows_opened host next o m opened its is (freed next same known) in
       record {
         done = Created (key_of host) ∷ [];
         acks = acks;
@@ -116,8 +116,8 @@ module _ (host : Host) (sizes : List ℕ) (ready : IsReady host sizes) (memory :
                 its = own_begun host memory.begun h known.its done.goes.es next.begun g begun databases;
                 is_open = of_opened next o (λ n. IsOpenIn host.drives n g.databases m) opened (subst (λ (ds : List Database). IsOpenIn host.drives o ds m) (sym databases) done.is_open);
                 free = λ closed calm. absurd (cc (opened, closed));
-                up = up ∙ sym same_up;
-                woken = of_opened next o (λ n. AreWoken host.drives n.table (is_up next) g (key_of host)) opened (λ volume v map upon. absurd (no_map volume v map));
+                up = λ drive. up drive ∙ sym (same drive);
+                woken = of_opened next o (λ n. AreWoken host.drives n.table (is_steady next) g (key_of host)) opened (λ volume v map upon. absurd (no_map volume v map));
                 knows = knows known.knows;
               },
               record { may = tellable h g done databases },
@@ -126,7 +126,7 @@ module _ (host : Host) (sizes : List ℕ) (ready : IsReady host sizes) (memory :
       }
     where
       no_map : (volume : VolId) (v : Map) → IsMapOf host.drives o.table volume v → ⊥
-      no_map volume v map = let has = subst (λ (l : List Volume). Contains l map.of) empty map.has.0 in omega (arith, has.1)
+      no_map volume v lies = none-some v (sym (ap (λ (vs : List Volume). map_at host.drives (find (λ (of : Volume). of.number.0 == volume.0) vs)) empty) ∙ lies)
 
       tellable : (h g : History) (done : IsMadeIn host.drives (now h.databases) (key_of host) identity o m) → g.databases ≡ with_events (key_of host) done.goes.es (now h.databases) → IsNewestTellable (log_of g.databases (key_of host)) None
       tellable h g done databases =
@@ -134,12 +134,13 @@ module _ (host : Host) (sizes : List ℕ) (ready : IsReady host sizes) (memory :
           subst (λ (l : Log). IsNewestTellable l None) (sym (ap (λ (ds : List Database). log_of ds (key_of host)) databases ∙ own)) done.goes.after.tellable
 
   -- it failed, and nothing is there
-  pub unmade : (next : Memory) → next.up ≡ memory.up → memory.begun < next.begun → next.opened ≡ None
+  pub unmade : (next : Memory) → next.up ≡ memory.up → next.unsteady ≡ memory.unsteady → memory.begun < next.begun → next.opened ≡ None
       → ((all : List Database) → IsCreation host.drives all (key_of host) identity lines count blocks t → IsUnmadeIn host.drives (now all) (key_of host) identity t m)
       → CarriedTo host ask memory (Said (outcome.Refused IoFault)) next t m
-  unmade next same_up begun closed goes =
+  unmade next same_up same_unsteady begun closed goes =
+      let same : (drive : ℕ) → is_steady next drive ≡ is_steady memory drive = same_steady memory next same_up same_unsteady in
       let empty : (P : Opened → Type 0) → IfSome next.opened P = λ P. subst (λ (x : Option Opened). IfSome x P) (sym closed) tt in
-      let knows : Knows host memory t → Knows host next m = λ known. record { opened = empty (λ o. (o.key ≡ key_of host) × IsOpenedAt host.drives o m); steady = freed next same_up known } in
+      let knows : Knows host memory t → Knows host next m = λ known. record { opened = empty (λ o. (o.key ≡ key_of host) × IsOpenedAt host.drives o m); steady = freed next same known } in
       record {
         done = [];
         acks = refl;
@@ -150,9 +151,9 @@ module _ (host : Host) (sizes : List ℕ) (ready : IsReady host sizes) (memory :
               stands = there;
               its = own_begun host memory.begun h known.its done.goes.es next.begun g begun databases;
               free = λ none_open calm. subst (λ (ds : List Database). AreFreed host.drives ds (key_of host) m) (sym databases) done.free;
-              up = up ∙ sym same_up;
+              up = λ drive. up drive ∙ sym (same drive);
               is_open = empty (λ o. IsOpenIn host.drives o g.databases m);
-              woken = empty (λ o. AreWoken host.drives o.table (is_up next) g (key_of host));
+              woken = empty (λ o. AreWoken host.drives o.table (is_steady next) g (key_of host));
               knows = knows known.knows;
             }));
         knows = knows;

@@ -4,7 +4,6 @@ use Rattle.mdv_databases.proofs.Lists.{events_log}
 use Rattle.mdv_databases.proofs.Moving.{move_end, move_failed, move_moment}
 use Rattle.mdv_databases.specs.Going.{GoOnBy, with_events}
 use Rattle.mdv_databases.specs.Moving.{IsMoveIn, IsMovedIn}
-use Rattle.mdv_shelf.proofs.Moments.{some_is}
 use Rattle.mdv_engine_law.specs.Below.{AreWoken, Change, Changed, Created, Database, Deed, Drives, Event, History, IoFault, IsMapOf, IsNamed, IsNewestTellable, IsOpenIn, IsOpenedAt, Key, KeptOutside, Log, Map, Opened, SliceLine, SliceName, Table, Tale, VolId, log_of, nowhere, site_area, site_of}
 use Rattle.mdv_places.specs.Asked.{Adds, Asks, Drops, KeepsFirst, change_of, places_added}
 use Rattle.mdv_places.specs.Changing.{both_of}
@@ -30,17 +29,17 @@ use Rattle.mdv_volumes.specs.Tables.{AreLaid}
 use Rattle.mdv_volumes.proofs.Databases.{is_log_of}
 use Rattle.mdv_volumes.proofs.Found.{newest_found, only_found}
 use Rattle.mdv_volumes.proofs.Lists.{contains_first}
-use Rattle.mdv_engine_law.specs.Awake.{is_in}
 use Rattle.mdv_engine_law.specs.declared.answer.Answer.TheVariants.{Said, Over}
 use Rattle.mdv_engine_law.specs.declared.answer.Ended.TheVariants as ended
 use Rattle.mdv_engine_law.specs.declared.answer.Outcome.TheVariants as outcome
 use Rattle.mdv_engine_law.specs.declared.host.Host.{Host}
 use Rattle.mdv_engine_law.specs.Hosts.{IsReady, key_of}
-use Rattle.mdv_engine_law.specs.Line.{Ask, Memory, deeds}
+use Rattle.mdv_engine_law.specs.Line.{Ask, Memory, deeds, is_in}
 use Rattle.mdv_engine_law.specs.Replies.{AcksAnswer}
-use Rattle.mdv_engine_law.specs.Standing.{AddsThese, AreOwn, CanTellAll, CarriedTo, CarryMoment, Goes, IsKnown, IsKnownAfter, IsSteadyBlock, Knows, Reached, StandsAt, WritesOnly, is_up}
+use Rattle.mdv_engine_law.specs.Standing.{AddsThese, AreOwn, CanTellAll, CarriedTo, CarryMoment, Goes, IsKnown, IsKnownAfter, Knows, Reached, StandsAt, WritesOnly, is_steady}
 use Rattle.mdv_engine_law.proofs.Alike.{MovesPlaces, asked_volumes, map_alike}
 use Rattle.mdv_engine_law.proofs.Going.{goes_weaker, not_among, not_other}
+use Rattle.mdv_engine_law.proofs.Knowing.{same_steady}
 use Rattle.mdv_engine_law.proofs.Lifting.{lift_events}
 use Rattle.mdv_engine_law.proofs.Owning.{own_gone}
 use Rattle.mdv_engine_law.proofs.Raising.{begun_by, later_by, move_issues, part_one}
@@ -121,10 +120,12 @@ module _ (host : Host) (begun : ℕ) (o : Opened) (t : Tale) (h : History) (know
 
     laid : AreLaid host.drives version.table → AreLaid host.drives table
     laid is = record {
-      one = λ volume v w lies other. is.one volume v w (was volume v lies) (was volume w other);
       disjoint = λ volume v lies. is.disjoint volume v (was volume v lies);
       apart = λ volume beside v w differ lies other. is.apart volume beside v w differ (was volume v lies) (was beside w other);
       clear = λ volume v lies. is.clear volume v (was volume v lies);
+      plain = λ volume v lies. is.plain volume v (was volume v lies);
+      one = λ volume v lies. is.one volume v (was volume v lies);
+      bounded = λ volume v lies. is.bounded volume v (was volume v lies);
     }
 
     pub ready_alike : IsTableReady host.drives h o.key t table
@@ -182,28 +183,16 @@ module _ (host : Host) (sizes : List ℕ) (ready : IsReady host sizes) (o : Open
 
   -- Of what is open and in memory, before and behind.
   module _ (memory : Memory) (opened : memory.opened ≡ Some o) where
-    same_up : (next : Memory) → next.up ≡ memory.up → (drive : ℕ) → is_up memory drive ≡ is_up next drive
-    same_up next up drive = ap (λ (of : Drives). is_in of drive) (sym up)
-
     -- It has the same volumes then.
-    module _ (new : Opened) (next : Memory) (now : next.opened ≡ Some new) (up : next.up ≡ memory.up) (clean : next.clean ≡ memory.clean) (begun : memory.begun ≤ next.begun) (keyed : new.key ≡ o.key) (alike : new.table.plan.volumes ≡ o.table.plan.volumes)
+    module _ (new : Opened) (next : Memory) (now : next.opened ≡ Some new) (up : next.up ≡ memory.up) (unsteady : next.unsteady ≡ memory.unsteady) (begun : memory.begun ≤ next.begun) (keyed : new.key ≡ o.key) (alike : new.table.plan.volumes ≡ o.table.plan.volumes)
         (shown : IsOpenedAt host.drives o t → IsOpenedAt host.drives new m) where
-      steady : (drive block : ℕ) → IsSteadyBlock host next drive block → IsSteadyBlock host memory drive block
-      steady drive block of = record {
-        plain = of.plain;
-        free = λ torn. (
-            let none = of.free (clean ∙ torn) in
-            let same : none.0 ≡ new = some_is next.opened none.0 new none.1 now in (
-              o,
-              opened,
-              λ number v lies. none.2 number v (subst (λ (n : Opened). IsMapOf host.drives n.table number v) (sym same) (map_alike host.drives o.table new.table (sym alike) number v lies)),
-            ));
-      }
+      still_on : (drive : ℕ) → is_steady memory drive ≡ is_steady next drive
+      still_on drive = sym (same_steady memory next up unsteady drive)
 
       pub knows_moved : Knows host memory t → Knows host next m
       knows_moved known =
           let was = knows_its host memory o opened t known in
-          knows_opened host next new m now (keyed ∙ was.0) (shown was.1) (free_kept host sizes ready memory next t m kept (λ drive on. same_up next up drive ∙ on) steady known.steady)
+          knows_opened host next new m now (keyed ∙ was.0) (shown was.1) (free_kept host sizes ready memory next t m kept (λ drive on. still_on drive ∙ on) known.steady)
 
       pub known_moved : (h : History) → IsKnown host memory h t → (es : List log.Event) (g : History) → StandsAt host g m → g.databases ≡ with_events o.key es h.databases → g.woken ≡ h.woken → g.up ≡ h.up
           → IsOpenIn host.drives new (with_events o.key es h.databases) m → IsKnown host next g m
@@ -212,11 +201,11 @@ module _ (host : Host) (sizes : List ℕ) (ready : IsReady host sizes) (o : Open
         its = own_gone host memory.begun h known.its o.key es next.begun g begun databases;
         is_open = of_opened next new (λ n. IsOpenIn host.drives n g.databases m) now (subst (λ (ds : List Database). IsOpenIn host.drives new ds m) (sym databases) is_open);
         free = λ none clean. absurd (cc (now, none));
-        up = ap (λ (of : Key → Drives). of (key_of host)) drives ∙ known.up ∙ sym up;
-        woken = of_opened next new (λ n. AreWoken host.drives n.table (is_up next) g (key_of host)) now (λ volume v lies upon.
+        up = λ drive. ap (λ (of : Key → Drives). is_in (of (key_of host)) drive) drives ∙ known.up drive ∙ still_on drive;
+        woken = of_opened next new (λ n. AreWoken host.drives n.table (is_steady next) g (key_of host)) now (λ volume v lies upon.
             ap (λ (f : Key → VolId → ℕ). f (key_of host) volume) woken
-            ∙ opened_has memory o (λ n. AreWoken host.drives n.table (is_up memory) h (key_of host)) opened known.woken volume v (map_alike host.drives new.table o.table alike volume v lies)
-            (λ b drive block lt has. same_up next up drive ∙ upon b drive block lt has));
+            ∙ opened_has memory o (λ n. AreWoken host.drives n.table (is_steady memory) h (key_of host)) opened known.woken volume v (map_alike host.drives new.table o.table alike volume v lies)
+            (λ b drive block lt has. still_on drive ∙ upon b drive block lt has));
         knows = knows_moved known.knows;
       }
 
@@ -260,8 +249,8 @@ module _ (host : Host) (sizes : List ℕ) (ready : IsReady host sizes) (memory :
     same_up_now : next.up ≡ memory.up
     same_up_now = ap (λ (n : Memory). n.up) next_is
 
-    clean_still : next.clean ≡ memory.clean
-    clean_still = ap (λ (n : Memory). n.clean) next_is
+    same_unsteady : next.unsteady ≡ memory.unsteady
+    same_unsteady = ap (λ (n : Memory). n.unsteady) next_is
 
     begun : memory.begun ≤ next.begun
     begun = (let same = ap (λ (n : Memory). n.begun) next_is in omega (arith, same))
@@ -270,7 +259,7 @@ module _ (host : Host) (sizes : List ℕ) (ready : IsReady host sizes) (memory :
     shown is_open = (shows (record { opened = is_open; of_geometry = is.of_geometry; sites = is.sites; front = is.front })).0
 
     pub knows_then : Knows host memory t → Knows host next m
-    knows_then = knows_moved host sizes ready o asked change is t m kept memory opened new next now same_up_now clean_still begun keyed alike shown
+    knows_then = knows_moved host sizes ready o asked change is t m kept memory opened new next now same_up_now same_unsteady begun keyed alike shown
 
     done_in : (h : History) → IsKnown host memory h t → IsMovedIn host.drives h.databases o new asked change m
     done_in h known = move_end host.drives h.databases o asked change t (may h known) new clean m moment ends keyed identified
@@ -289,7 +278,7 @@ module _ (host : Host) (sizes : List ℕ) (ready : IsReady host sizes) (memory :
         let done = done_in h known in
         moving host sizes ready o asked change is t m kept memory.begun (Some change ∷ []) (part_itself (Some change ∷ [])) (IsCommittedTo host.drives new (Some change)) (λ es g. IsKnown host next g m × CanTellAll host deed g) h
         (has_open host memory o opened t h known) done.goes (λ es g there databases woken up. (
-          known_moved host sizes ready o asked change is t m kept memory opened new next now same_up_now clean_still begun keyed alike shown h known done.goes.es g there databases woken up done.is_open,
+          known_moved host sizes ready o asked change is t m kept memory opened new next now same_up_now same_unsteady begun keyed alike shown h known done.goes.es g there databases woken up done.is_open,
           record { may = tellable h g known databases },
         ))
 

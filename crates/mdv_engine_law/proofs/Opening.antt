@@ -32,10 +32,10 @@ module _ (calls : Outcomes) (host : Host) (kept next : Kept) where
   effect_opens (AddListed number force) is none = absurd is
   effect_opens (DropPlaces slices force) is none = (slices, force, refl)
   effect_opens (MakeStripe volume slice) (same, o, there, done) none = absurd (not_none next.memory done.opened (ap (λ (m : Memory). m.opened) done.memory) none)
-  effect_opens (Read volume at count) (calm, from, there, same, stays) none = absurd (cc (same))
-  effect_opens (Write volume at block) (calm, place, there, same, memory, put) none =
-      let is : next.memory.opened ≡ Some there.lies.0 = ap (λ (m : Memory). m.opened) memory ∙ there.lies.1 in
-      absurd (not_none next.memory there.lies.0 is none)
+  effect_opens (Read volume at count) (calm, v, there, blocks, counted, seen, same, stays) none = absurd (cc (same))
+  effect_opens (Write volume at block) (calm, v, there, same, memory, put) none =
+      let is : next.memory.opened ≡ Some there.o = ap (λ (m : Memory). m.opened) memory ∙ there.opened in
+      absurd (not_none next.memory there.o is none)
   effect_opens (Print names) (calm, o, there, same, stays) none = absurd (cc (same))
 
   command_opens : (command : Command) → CameTo calls host kept command accepted next → next.memory.opened ≡ None → Drops command

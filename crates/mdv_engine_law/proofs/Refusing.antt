@@ -1,9 +1,9 @@
 -- A line that ends before anything is done, and what is known by what is in memory.
-use Rattle.std.proofs.Common.{◌≡◌, inr, ◌≤◌, ℕ, true, List, [], Option, Some, IfSome, refl, sym, ◌∙◌, ap, subst}
-use Rattle.mdv_engine_law.specs.Below.{Created, AreWoken, Drives, History, Key, MayLeave, last, log_of, Refusal, Tale, Opened, IsOpenedAt, IsOpenIn}
+use Rattle.std.proofs.Common.{◌≡◌, inr, ◌≤◌, ℕ, true, List, [], Option, Some, IfSome, refl, sym, ◌∙◌, subst}
+use Rattle.mdv_engine_law.specs.Below.{Created, AreWoken, History, Key, MayLeave, last, log_of, Refusal, Tale, Opened, IsOpenedAt, IsOpenIn}
 use Rattle.mdv_store.specs.Commit.{IsNewestWritten}
 use Rattle.mdv_store_law.specs.Log.{Lives}
-use Rattle.mdv_engine_law.specs.Awake.{is_in}
+use Rattle.mdv_layout_law.specs.Laid.{plain_area}
 use Rattle.mdv_engine_law.specs.declared.answer.Answer.TheVariants.{Said, Over}
 use Rattle.mdv_engine_law.specs.declared.answer.Ended.TheVariants as ended
 use Rattle.mdv_engine_law.specs.declared.answer.Outcome.TheVariants as outcome
@@ -11,9 +11,9 @@ use Rattle.mdv_engine_law.specs.declared.host.Host.{Host}
 use Rattle.mdv_engine_law.specs.Hosts.{key_of}
 use Rattle.mdv_engine_law.specs.Line.{Ask, Memory}
 use Rattle.mdv_engine_law.specs.Replies.{issued_by}
-use Rattle.mdv_engine_law.specs.Standing.{IsKnown, IsSteadyBlock, Knows, IsKnownAfter, CarriedTo, is_up}
+use Rattle.mdv_engine_law.specs.Standing.{IsKnown, Knows, IsKnownAfter, CarriedTo, is_steady}
 use Rattle.mdv_engine_law.proofs.Going.{not_among, goes_none}
-use Rattle.mdv_engine_law.proofs.Knowing.{some_more}
+use Rattle.mdv_engine_law.proofs.Knowing.{same_steady, some_more}
 use Rattle.mdv_engine_law.proofs.Owning.{own_still}
 
 -- what holds of the database that is open
@@ -23,9 +23,9 @@ of_opened memory o P opened is = subst (λ (x : Option Opened). IfSome x P) (sym
 pub opened_has : (memory : Memory) (o : Opened) (P : Opened → Type 0) → memory.opened ≡ Some o → IfSome memory.opened P → P o
 opened_has memory o P opened is = subst (λ (x : Option Opened). IfSome x P) opened is
 
--- of each steady block on a drive that the last boot brought up a crash leaves what a read gives
+-- of each block of a slice for volumes on a steady drive a crash leaves what a read gives
 abbrev pub IsFree : Host → Memory → Tale → Type 0
-IsFree host memory t = (drive block : ℕ) → is_up memory drive ≡ true → IsSteadyBlock host memory drive block → (x : List ℕ) → MayLeave t drive block x → x ≡ last t drive block
+IsFree host memory t = (drive block : ℕ) → is_steady memory drive ≡ true → plain_area host.drives drive block ≡ true → (x : List ℕ) → MayLeave t drive block x → x ≡ last t drive block
 
 -- a database that is open is known by its newest table, and by that
 pub knows_opened : (host : Host) (memory : Memory) (o : Opened) (u : Tale) → memory.opened ≡ Some o → o.key ≡ key_of host → IsOpenedAt host.drives o u → IsFree host memory u → Knows host memory u
@@ -52,14 +52,14 @@ module _ (host : Host) (memory : Memory) (o : Opened) (is : memory.opened ≡ So
 
 module _ (host : Host) (ask : Ask) (old next : Memory) (t : Tale) where
   -- what is in memory is the same but for how many creations were begun
-  module _ (opened : next.opened ≡ old.opened) (up : next.up ≡ old.up) (clean : next.clean ≡ old.clean) (begun : old.begun ≤ next.begun) where
-    same_up : (drive : ℕ) → is_up old drive ≡ is_up next drive
-    same_up drive = ap (λ (drives : Drives). is_in drives drive) (sym up)
+  module _ (opened : next.opened ≡ old.opened) (up : next.up ≡ old.up) (unsteady : next.unsteady ≡ old.unsteady) (clean : next.clean ≡ old.clean) (begun : old.begun ≤ next.begun) where
+    still_on : (drive : ℕ) → is_steady old drive ≡ is_steady next drive
+    still_on drive = sym (same_steady old next up unsteady drive)
 
     still_knows : Knows host old t → Knows host next t
     still_knows knows = record {
       opened = subst (λ (o : Option Opened). IfSome o (λ n. (n.key ≡ key_of host) × IsOpenedAt host.drives n t)) (sym opened) knows.opened;
-      steady = λ drive block on is. knows.steady drive block (same_up drive ∙ on) (record { plain = is.plain; free = λ torn. (let none = is.free (clean ∙ torn) in (none.0, sym opened ∙ none.1, none.2)) });
+      steady = λ drive block on. knows.steady drive block (still_on drive ∙ on);
     }
 
     -- a refusal before anything was done
@@ -73,10 +73,10 @@ module _ (host : Host) (ask : Ask) (old next : Memory) (t : Tale) where
         its = own_still host old.begun h known.its next.begun h begun refl;
         is_open = subst (λ (o : Option Opened). IfSome o (λ n. IsOpenIn host.drives n h.databases t)) (sym opened) known.is_open;
         free = λ none calm. known.free (sym opened ∙ none) (sym clean ∙ calm);
-        up = known.up ∙ sym up;
-        woken = subst (λ (o : Option Opened). IfSome o (λ n. AreWoken host.drives n.table (is_up next) h (key_of host))) (sym opened)
-            (some_more old.opened (λ n. AreWoken host.drives n.table (is_up old) h (key_of host)) (λ n. AreWoken host.drives n.table (is_up next) h (key_of host))
-            (λ n are volume v map upon. are volume v map (λ b drive block lt has. same_up drive ∙ upon b drive block lt has)) known.woken);
+        up = λ drive. known.up drive ∙ still_on drive;
+        woken = subst (λ (o : Option Opened). IfSome o (λ n. AreWoken host.drives n.table (is_steady next) h (key_of host))) (sym opened)
+            (some_more old.opened (λ n. AreWoken host.drives n.table (is_steady old) h (key_of host)) (λ n. AreWoken host.drives n.table (is_steady next) h (key_of host))
+            (λ n are volume v map upon. are volume v map (λ b drive block lt has. still_on drive ∙ upon b drive block lt has)) known.woken);
         knows = still_knows known.knows;
       }));
       knows = still_knows;

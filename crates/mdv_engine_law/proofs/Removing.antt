@@ -24,14 +24,14 @@ use Rattle.mdv_volumes.specs.Happening.{IsOver, begun_at}
 use Rattle.mdv_volumes.specs.HistoryLaws.{IsAsked}
 use Rattle.mdv_volumes.proofs.Lifting.{untold_by}
 use Rattle.mdv_volumes.proofs.Lists.{contains_behind, contains_first}
-use Rattle.mdv_engine_law.specs.Awake.{is_in}
 use Rattle.mdv_engine_law.specs.declared.answer.Answer.TheVariants.{Said}
 use Rattle.mdv_engine_law.specs.declared.answer.Outcome.TheVariants as outcome
 use Rattle.mdv_engine_law.specs.declared.host.Host.{Host}
 use Rattle.mdv_engine_law.specs.Hosts.{IsReady, key_of}
-use Rattle.mdv_engine_law.specs.Line.{Ask, Memory, ToDrop, deeds}
-use Rattle.mdv_engine_law.specs.Standing.{CanTellAll, CarriedTo, CarryMoment, Goes, IsKnown, IsKnownAfter, IsOfRun, IsOfNoVolume, IsSteadyBlock, Knows, Reached, StandsAt, WritesOnly, is_up}
+use Rattle.mdv_engine_law.specs.Line.{Ask, Memory, ToDrop, deeds, is_in}
+use Rattle.mdv_engine_law.specs.Standing.{CanTellAll, CarriedTo, CarryMoment, Goes, IsKnown, IsKnownAfter, IsOfRun, Knows, Reached, StandsAt, WritesOnly, is_steady}
 use Rattle.mdv_engine_law.proofs.Going.{goes_more, not_among, not_other}
+use Rattle.mdv_engine_law.proofs.Knowing.{same_steady}
 use Rattle.mdv_engine_law.proofs.Lifting.{lift_events}
 use Rattle.mdv_engine_law.proofs.Moving.{HasOpen, IsMoveOf, behind, has_open}
 use Rattle.mdv_engine_law.proofs.Owning.{own_gone}
@@ -159,12 +159,9 @@ module _ (host : Host) (sizes : List ℕ) (ready : IsReady host sizes) (memory :
   }
 
   -- None is open then, and so many creations were begun.
-  module _ (next : Memory) (closed : next.opened ≡ None) (same_up : next.up ≡ memory.up) (begun : next.begun ≡ memory.begun) (calm : next.clean ≡ true → memory.clean ≡ true) where
-    steady : (drive block : ℕ) → IsSteadyBlock host next drive block → IsSteadyBlock host memory drive block
-    steady drive block of = record { plain = of.plain; free = λ torn. by next.clean refl torn } where
-      by : (c : Bool) → next.clean ≡ c → memory.clean ≡ false → IsOfNoVolume host memory drive block
-      by true is torn = (let clean = calm is in absurd (cc (clean, torn)))
-      by false is torn = (let none = of.free is in let other = none.1 in absurd (cc (closed, other)))
+  module _ (next : Memory) (closed : next.opened ≡ None) (same_up : next.up ≡ memory.up) (same_unsteady : next.unsteady ≡ memory.unsteady) (begun : next.begun ≡ memory.begun) where
+    still_on : (drive : ℕ) → is_steady memory drive ≡ is_steady next drive
+    still_on drive = sym (same_steady memory next same_up same_unsteady drive)
 
     empty : (P : Opened → Type 0) → IfSome next.opened P
     empty P = subst (λ (x : Option Opened). IfSome x P) (sym closed) tt
@@ -172,7 +169,7 @@ module _ (host : Host) (sizes : List ℕ) (ready : IsReady host sizes) (memory :
     knows_none : Knows host memory t → Knows host next m
     knows_none known = record {
       opened = empty (λ n. (n.key ≡ key_of host) × IsOpenedAt host.drives n m);
-      steady = free_kept host sizes ready memory next t m both_kept (λ drive on. subst (λ (up : Drives). is_in up drive ≡ true) same_up on) steady known.steady;
+      steady = free_kept host sizes ready memory next t m both_kept (λ drive on. still_on drive ∙ on) known.steady;
     }
 
     known_none : (h g k : History) → IsKnown host memory h t → IsKnown host left g u → (es : List log.Event) → StandsAt host k m → k.databases ≡ with_events new.key es g.databases → k.up ≡ g.up → (next.clean ≡ true → AreFreed host.drives k.databases (key_of host) m) → IsKnown host next k m
@@ -181,8 +178,8 @@ module _ (host : Host) (sizes : List ℕ) (ready : IsReady host sizes) (memory :
       its = own_gone host memory.begun g known.its new.key es next.begun k (omega (arith, begun)) databases;
       is_open = empty (λ n. IsOpenIn host.drives n k.databases m);
       free = λ none clean. freed clean;
-      up = ap (λ (of : Key → Drives). of (key_of host)) up ∙ known.up ∙ sym same_up;
-      woken = empty (λ n. AreWoken host.drives n.table (is_up next) k (key_of host));
+      up = λ drive. ap (λ (of : Key → Drives). is_in (of (key_of host)) drive) up ∙ known.up drive ∙ still_on drive;
+      woken = empty (λ n. AreWoken host.drives n.table (is_steady next) k (key_of host));
       knows = knows_none was.knows;
     }
 

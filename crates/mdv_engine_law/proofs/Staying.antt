@@ -1,21 +1,17 @@
 -- What happens stays within the blocks that a host's run may touch.
-use Rattle.std.proofs.Common.{◌≡◌, inl, inr, ◌+◌, ◌≤◌, ◌<◌, ℕ, not, ◌&&◌, true, List, Option, IfSome, refl, ◌∙◌, ap, arith}
-use Rattle.std.proofs.lemmas.Bool.Decides.{nat_tests}
-use Rattle.std.proofs.lemmas.Bool.{and_from, not_from_false}
-use Rattle.std.proofs.lemmas.List.Folds.{list_any_at}
-use Rattle.mdv_engine_law.specs.Below.{DriveBlock, VolId, SliceLine, KeptOutside, nowhere, range, Moments, Tale, covers, site_area}
-use Rattle.mdv_plan.specs.Slices.{meets_db}
+use Rattle.std.proofs.Common.{◌≡◌, ℕ, List, Option, IfSome, refl, sym, ◌∙◌}
+use Rattle.std.proofs.lemmas.Bool.{false≢true}
+use Rattle.mdv_engine_law.specs.Below.{IsKept, IsOff, KeptOutside, Map, Moments, Tale, VolId, nowhere, site_area}
+use Rattle.mdv_layout_law.specs.Laid.{plain_area}
 use Rattle.mdv_table.specs.Table.{IsOfGeometry}
-use Rattle.mdv_shelf.proofs.Blocks.{both_ways}
-use Rattle.mdv_shelf.proofs.Frame.{kept_outside_same, kept_outside_more, kept_outside_left, kept_outside_wider, neither}
+use Rattle.mdv_shelf.proofs.Frame.{kept_outside_same, kept_outside_more, kept_outside_left, neither}
 use Rattle.mdv_shelf.proofs.Moments.{moments_none, moments_weaker, moments_more}
 use Rattle.mdv_engine_law.specs.declared.host.Host.{Host}
-use Rattle.mdv_engine_law.specs.Hosts.{IsReady, StaysHome, host_area, plain_area, takes_volumes}
-use Rattle.mdv_engine_law.specs.Line.{Memory, AreBlocksAt, Ask}
+use Rattle.mdv_engine_law.specs.Hosts.{IsReady, StaysHome, host_area}
+use Rattle.mdv_engine_law.specs.Line.{Ask, HasBlocks, Memory}
 use Rattle.mdv_engine_law.specs.Standing.{BootMoment, TurnMoment}
-use Rattle.mdv_engine_law.proofs.Beside.{IsPlain}
+use Rattle.mdv_engine_law.proofs.Beside.{lies_plain}
 use Rattle.mdv_engine_law.proofs.Refusing.{opened_has}
-use Rattle.mdv_engine_law.proofs.Transfer.{plain_listed}
 
 module _ (host : Host) where
   pub stays_same : (t : Tale) → StaysHome host t t
@@ -32,36 +28,13 @@ module _ (host : Host) where
   pub stays_on_site : (t m : Tale) → KeptOutside (site_area host.site) t m → StaysHome host t m
   stays_on_site t m kept = kept_outside_left (site_area host.site) (plain_area host.drives) t m kept
 
-  -- blocks of a slice on which volumes may lie are among them
-  pub plain_has : (number start count : ℕ) → IsPlain host number start count → (block blocks drive b : ℕ) → start ≤ block → block + blocks ≤ start + count → range number block blocks drive b ≡ true → plain_area host.drives drive b ≡ true
-  plain_has number start count is block blocks drive b from to here =
-      let line : SliceLine = record { name = is.name; at = is.at } in
-      let p = λ (l : SliceLine). takes_volumes host.drives l && covers l.at.drive.0 l.at.start l.at.blocks drive b in
-      list_any_at p host.drives.slices is.has.0 line is.has.1 (ap p is.has.2 ∙ and_from (takes_volumes host.drives line) (covers is.at.drive.0 is.at.start is.at.blocks drive b) takes in_line)
-    where
-      takes : not is.at.db && not (meets_db host.drives is.name) ≡ true
-      takes = and_from (not is.at.db) (not (meets_db host.drives is.name)) (not_from_false is.at.db is.plain) (not_from_false (meets_db host.drives is.name) is.clear)
-
-      in_line : covers is.at.drive.0 is.at.start is.at.blocks drive b ≡ true
-      in_line = rw (← is.drive_is, ← is.first_is, ← is.count_is) (within number start count block blocks drive b from to here)
-        where
-          within : (number start count block blocks drive b : ℕ) → start ≤ block → block + blocks ≤ start + count → range number block blocks drive b ≡ true → covers number start count drive b ≡ true
-          within number start count block blocks drive b from to here = grind (arith, nat_tests)
-
-  -- within a volume of the open database
-  pub stays_in_volume : (sizes : List ℕ) → IsReady host sizes → (memory : Memory) (volume : VolId) (at count : ℕ) (place : DriveBlock) → 0 < count → AreBlocksAt host memory volume at count place
-      → IfSome memory.opened (λ o. IsOfGeometry host.drives o.table) → (t m : Tale) → KeptOutside (range place.drive place.block count) t m → StaysHome host t m
-  stays_in_volume sizes ready memory volume at count place some there listed t m kept =
-      let table = opened_has memory there.lies.0 (λ o. IsOfGeometry host.drives o.table) there.lies.1 listed in
-      let from : there.first ≤ place.block = (let is = there.block_is in omega arith) in
-      let to : place.block + count ≤ there.first + there.blocks = (let is = there.block_is in let within = there.within in omega arith) in
-      kept_outside_wider (range place.drive place.block count) (host_area host) t m (λ drive b out. elim (both_ways (range place.drive place.block count drive b)) [
-        | inr away ↦ away
-        | inl here ↦
-            let beside = (neither (site_area host.site drive b) (plain_area host.drives drive b) out).1 in
-            let among = plain_has place.drive there.first there.blocks (plain_listed host sizes ready memory volume at count place some there table) place.block count drive b from to here in
-            absurd (cc (beside, among))
-      ]) kept
+  -- within blocks of a volume of the open database
+  pub stays_in_volume : (sizes : List ℕ) → IsReady host sizes → (memory : Memory) (volume : VolId) (at count : ℕ) (v : Map) → HasBlocks host memory volume at count v
+      → IfSome memory.opened (λ o. IsOfGeometry host.drives o.table) → (t m : Tale) → ((drive block : ℕ) → IsOff v at count drive block → IsKept t m drive block) → StaysHome host t m
+  stays_in_volume sizes ready memory volume at count v there listed t m kept drive block out =
+      let table = opened_has memory there.o (λ o. IsOfGeometry host.drives o.table) there.opened listed in
+      let beside = (neither (site_area host.site drive block) (plain_area host.drives drive block) out).1 in
+      kept drive block (λ k lt has. false≢true (sym beside ∙ lies_plain host ready.sound memory volume at count v there table k drive block lt has))
 
   -- the same of all moments
   pub nothing_stays : (a b : Option Tale) → b ≡ a → Moments (StaysHome host) a b

@@ -1,40 +1,42 @@
 -- What a read and a write of blocks of a volume leave of a host's history.
-use Rattle.std.proofs.Common.{◌≡◌, inl, inr, ◌⊎◌, ◌+◌, ◌<◌, ◌≤◌, ◌==◌, ℕ, Bool, true, false, List, [], ◌∷◌, length, refl, sym, ◌∙◌, ap, subst, arith}
+use Rattle.std.proofs.Common.{◌≡◌, inl, inr, ◌+◌, ◌<◌, ◌==◌, ◌&&◌, not, ℕ, zero, suc, Bool, true, false, List, [], ◌∷◌, length, slice_index_or, refl, sym, ◌∙◌, ap, subst, arith}
+use Rattle.std.proofs.lemmas.Bool.{false≢true}
 use Rattle.std.proofs.lemmas.Bool.Decides.{nat_tests}
-use Rattle.std.proofs.lemmas.List.FromFn.{length-map-range_with_len, get_or-map-range_with_len}
-use Rattle.mdv_engine_law.specs.Below.{Created, Answers, AreWoken, Deed, DriveBlock, Drives, Event, Flushes, HasRange, IsThere, Version, History, IoFault, Issues, IsMapOf, IsOpenIn, IsOpenedAt, IsSettled, Key, Map, OfVolume, Opened, Reads, Saw, Settling, Table, Tale, VolId, Wrote, area_of_map, history_after, history_after_all, log_of, range, run_map, values_reply, MayLeave, last}
-use Rattle.mdv_shelf.proofs.Moments.{some_is}
+use Rattle.std.proofs.Math.Bool.{and-true}
 use Rattle.mdv_databases.proofs.Lasting.{freed_elsewhere, open_elsewhere, opened_elsewhere}
-use Rattle.mdv_databases.specs.Lasting.{AreFreed}
-use Rattle.mdv_databases.specs.Lasting.{IsElsewhere}
+use Rattle.mdv_databases.proofs.Lists.{key_itself}
+use Rattle.mdv_databases.specs.Lasting.{AreFreed, IsElsewhere}
+use Rattle.mdv_dev.proofs.Copies.{drive_is, has_copy, one_place, one_reading}
+use Rattle.mdv_dev.proofs.Counting.{has_at, same_number}
+use Rattle.mdv_dev.specs.Pieces.{LiesAt, drive_of, has_drive}
+use Rattle.mdv_engine_law.specs.Below.{Answers, AreOnDisk, AreWoken, Created, Deed, Drives, Event, Flushes, HasDriveBlock, HasRange, History, IoFault, IsMapOf, IsOff, IsOpenIn, IsOpenedAt, IsThere, Issues, KeptOutside, Key, Map, OfVolume, Opened, Reads, Saw, Table, Tale, Unsettles, Version, VolId, Wrote, history_after, history_after_all, last, log_of, values_reply}
+use Rattle.mdv_map.proofs.Covering.{areas_cover, one_of}
+use Rattle.mdv_map.specs.Maps.{area_of_map}
+use Rattle.mdv_map.specs.Requests.{AllRead, Rewriting}
+use Rattle.mdv_shelf.proofs.Blocks.{both_ways}
 use Rattle.mdv_store.specs.Commit.{IsNewestWritten}
-use Rattle.mdv_table.specs.Table.{IsOfGeometry}
-use Rattle.mdv_volumes.specs.Databases.{Database}
-use Rattle.mdv_map.specs.Requests.{AllOnDisk, AllRead, Rewriting}
-use Rattle.mdv_map.proofs.Covering.{runs_lie}
-use Rattle.mdv_shelf.specs.Calls.{Shows}
 use Rattle.mdv_store_law.proofs.Parts.{part_itself}
-use Rattle.mdv_volumes.specs.Databases.{is_volume}
+use Rattle.mdv_volumes.proofs.Drives.{has_without}
+use Rattle.mdv_volumes.proofs.Maps.{same_map}
+use Rattle.mdv_volumes.proofs.Transfers.{reads_go, writes_go}
+use Rattle.mdv_volumes.specs.Databases.{Database, is_volume}
 use Rattle.mdv_volumes.specs.Events.{VolumeEvent}
 use Rattle.mdv_volumes.specs.History.{woken_by}
 use Rattle.mdv_volumes.specs.HistoryLaws.{IsUpon, write_of}
-use Rattle.mdv_volumes.proofs.Runs.{runs_stand}
-use Rattle.mdv_volumes.proofs.Tables.{tables_lie}
-use Rattle.mdv_volumes.proofs.Transfers.{reads_go, writes_go}
-use Rattle.mdv_engine_law.specs.Awake.{AreFound, is_in}
+use Rattle.mdv_volumes.specs.Standing.{HaveCopies}
+use Rattle.mdv_engine_law.specs.Awake.{AreFound}
 use Rattle.mdv_engine_law.specs.declared.answer.Answer.TheVariants.{Said}
 use Rattle.mdv_engine_law.specs.declared.answer.Outcome.TheVariants as outcome
 use Rattle.mdv_engine_law.specs.declared.host.Host.{Host}
 use Rattle.mdv_engine_law.specs.Hosts.{IsReady, StaysHome, key_of}
-use Rattle.mdv_engine_law.specs.Line.{Memory, ToDo, ToSee, AreBlocksAt, blocks_of, contents}
-use Rattle.mdv_engine_law.specs.Standing.{Goes, IsOfNoVolume, StandsAt, Reached, Knows, IsKnown, IsKnownAfter, CarryMoment, CarriedTo, is_up}
-use Rattle.mdv_engine_law.proofs.Beside.{IsPlain, lies_plain, run_beside}
-use Rattle.mdv_engine_law.proofs.Going.{not_among, not_other, happened, happened_stands}
+use Rattle.mdv_engine_law.specs.Line.{AreSeen, HasBlocks, HasUnsettled, Memory, ToDo, ToSee, contents, is_in}
+use Rattle.mdv_engine_law.specs.Standing.{CarriedTo, CarryMoment, Goes, IsKnown, IsKnownAfter, Knows, Reached, StandsAt, is_steady}
+use Rattle.mdv_engine_law.proofs.Beside.{lies_at, lies_beside}
+use Rattle.mdv_engine_law.proofs.Going.{happened, happened_stands, not_among, not_other}
 use Rattle.mdv_engine_law.proofs.Knowing.{known_on, some_more}
 use Rattle.mdv_engine_law.proofs.Owning.{own_still}
-use Rattle.mdv_engine_law.proofs.Refusing.{IsFree, known_lives, known_newest, knows_its, opened_has, knows_opened}
+use Rattle.mdv_engine_law.proofs.Refusing.{IsFree, known_lives, known_newest, knows_its, knows_opened, opened_has}
 use Rattle.mdv_engine_law.proofs.Writing.{put_by}
-use Rattle.mdv_shelf.proofs.Blocks.{both_ways}
 
 -- what happens to a volume, but for a boot's waking, leaves all counts
 count_kept : (h : History) (key : Key) (volume : VolId) (e : VolumeEvent) → ((n : ℕ) → woken_by e n ≡ n) → (other : Key) (beside : VolId) → (history_after h (OfVolume key volume e)).woken other beside ≡ h.woken other beside
@@ -43,224 +45,284 @@ count_kept h key volume e keeps other beside = elim (both_ways (is_volume key vo
   | inr never ↦ rw never refl
 ]
 
--- blocks of a volume of the open database
-module _ (host : Host) (sizes : List ℕ) (ready : IsReady host sizes) (memory : Memory) (volume : VolId) (at count : ℕ) (place : DriveBlock) (some : 0 < count) (there : AreBlocksAt host memory volume at count place) where
-  abbrev newest : Opened
-  newest = there.lies.0
+-- one of the blocks lies on a drive that they lie on
+drive_there : (v : Map) (at n drive : ℕ) → has_drive v at n drive ≡ true → (k : ℕ) × (k < n) × (drive_of (v.copies (at + k)) ≡ drive)
+unfolding has_drive
+drive_there v at zero drive is = absurd (cc (is))
+drive_there v at (suc n) drive is = elim (one_of (drive_of (v.copies (at + n)) == drive) (has_drive v at n drive) is) [
+  | inl here ↦ (n, omega arith, same_number (drive_of (v.copies (at + n))) drive here)
+  | inr rest ↦ let found = drive_there v at n drive rest in (found.0, (let lt = found.1 in omega (arith, lt)), found.2)
+]
 
-  abbrev map : Map
-  map = run_map place.drive there.first there.blocks
+-- blocks of a volume of the open database
+module _ (host : Host) (sizes : List ℕ) (ready : IsReady host sizes) (memory : Memory) (volume : VolId) (at count : ℕ) (v : Map) (some : 0 < count) (there : HasBlocks host memory volume at count v) where
+  abbrev newest : Opened
+  newest = there.o
 
   is_opened : (t : Tale) → Knows host memory t → IsOpenedAt host.drives newest t
-  is_opened t knows = (knows_its host memory newest there.lies.1 t knows).1
+  is_opened t knows = (knows_its host memory newest there.opened t knows).1
 
-  -- they are all of them on a slice that isn't set aside for replicas, where the table is one of the table of drives
-  pub plain_listed : IsOfGeometry host.drives newest.table → IsPlain host place.drive there.first there.blocks
-  plain_listed listed = lies_plain host ready.sound newest.table listed volume place.drive there.first there.blocks there.lies.2
+  -- each lies in one place
+  place_at : (t : Tale) → Knows host memory t → (k : ℕ) → k < count → (drive : ℕ) × (block : ℕ) × LiesAt v (at + k) drive block
+  place_at t knows = lies_at host ready.sound memory volume at count v there (is_opened t knows).of_geometry
 
-  -- and where the database is open
-  pub plain_blocks : (t : Tale) → Knows host memory t → IsPlain host place.drive there.first there.blocks
-  plain_blocks t knows = plain_listed (is_opened t knows).of_geometry
-
-  -- so no boot looks there for replicas
-  pub blocks_beside : (t : Tale) → Knows host memory t → IsElsewhere host.drives (range place.drive place.block count)
-  blocks_beside t knows =
-      let from : there.first ≤ place.block = (let is = there.block_is in omega arith) in
-      let to : place.block + count ≤ there.first + there.blocks = (let is = there.block_is in let within = there.within in omega arith) in
-      run_beside host ready.sound place.drive there.first there.blocks (plain_blocks t knows) place.block count from to
+  -- where no boot looks for replicas
+  blocks_beside : (t : Tale) → Knows host memory t → IsElsewhere host.drives (area_of_map v)
+  blocks_beside t knows = lies_beside host ready.sound memory volume at count v there (is_opened t knows).of_geometry
 
   -- the history has them
   pub has_range : (h : History) (t : Tale) → IsKnown host memory h t → HasRange host.drives h.databases (key_of host) volume at count
   has_range h t known =
-      let is : IsNewestWritten (log_of h.databases (key_of host)) newest.mark newest.table = known_newest host memory newest there.lies.1 t h known in
+      let is : IsNewestWritten (log_of h.databases (key_of host)) newest.mark newest.table = known_newest host memory newest there.opened t h known in
       record {
-        map = map;
+        map = v;
         there = record {
-          lives = known_lives host memory newest there.lies.1 t h known;
+          lives = known_lives host memory newest there.opened t h known;
           newest = is.newest.version;
           older = is.newest.older;
           family = is.newest.family;
           written = is.written;
-          map = subst (λ (table : Table). IsMapOf host.drives table volume map) (sym is.newest.same) there.lies.2;
+          map = subst (λ (table : Table). IsMapOf host.drives table volume v) (sym is.newest.same) there.lies;
         };
         some = some;
         within = there.within;
       }
 
   -- the history has no other map of the volume
-  map_is : (h : History) (t : Tale) → IsKnown host memory h t → (v : Map) → IsThere host.drives h.databases (key_of host) volume v → v ≡ map
-  map_is h t known v is =
-      let newest_is : IsNewestWritten (log_of h.databases (key_of host)) newest.mark newest.table = known_newest host memory newest there.lies.1 t h known in
+  map_is : (h : History) (t : Tale) → IsKnown host memory h t → (w : Map) → IsThere host.drives h.databases (key_of host) volume w → w ≡ v
+  map_is h t known w is =
+      let newest_is : IsNewestWritten (log_of h.databases (key_of host)) newest.mark newest.table = known_newest host memory newest there.opened t h known in
       let families : is.newest ∷ is.older ≡ newest_is.newest.version ∷ newest_is.newest.older = sym is.family ∙ newest_is.newest.family in
       let version : is.newest ≡ newest_is.newest.version = cc (families) in
       let table : is.newest.table ≡ newest.table = ap (λ (w : Version). w.table) version ∙ newest_is.newest.same in
-      let placed = is_opened t known.knows in
-      (tables_lie.laid host.drives newest.table ready.sound placed.of_geometry).one volume v map (subst (λ (x : Table). IsMapOf host.drives x volume v) table is.map) there.lies.2
+      same_map host.drives newest.table volume w v (subst (λ (x : Table). IsMapOf host.drives x volume w) table is.map) there.lies
 
-  -- and one value of each was found, where the last boot brought its drive up
+  -- and one value of each was found, where its drive is steady
   pub are_found : (h : History) (t : Tale) → IsKnown host memory h t → AreFound host.drives h (key_of host) volume at count
-  are_found h t known v is upon =
-      let woken : AreWoken host.drives newest.table (is_up memory) h (key_of host) = opened_has memory newest (λ n. AreWoken host.drives n.table (is_up memory) h (key_of host)) there.lies.1 known.woken in
-      let on : IsUpon (is_up memory) map = subst (λ (w : Map). IsUpon (is_up memory) w) (map_is h t known v is) (subst (λ (up : Drives). IsUpon (is_in up) v) known.up upon) in
-      let all : h.woken (key_of host) volume ≡ there.blocks = woken volume map there.lies.2 on in
+  are_found h t known w is upon =
+      let woken : AreWoken host.drives newest.table (is_steady memory) h (key_of host) = opened_has memory newest (λ n. AreWoken host.drives n.table (is_steady memory) h (key_of host)) there.opened known.woken in
+      let on : IsUpon (is_steady memory) w = λ b drive block lt has. sym (known.up drive) ∙ upon b drive block lt has in
+      let all : h.woken (key_of host) volume ≡ v.blocks = woken volume v there.lies (subst (λ (x : Map). IsUpon (is_steady memory) x) (map_is h t known w is) on) in
       let within = there.within in omega (arith, all, within)
 
-  -- they were read
-  pub saw : (t : Tale) (text : List ℕ) → text ≡ values_reply at (blocks_of (contents t) place count) → CarriedTo host (ToSee (key_of host) volume at count) memory (Said (outcome.Values text)) memory t t
+-- blocks of a volume that were read
+module _ (host : Host) (sizes : List ℕ) (ready : IsReady host sizes) (memory : Memory) (volume : VolId) (at : ℕ) (v : Map) (blocks : List (List ℕ)) (some : 0 < length blocks)
+    (there : HasBlocks host memory volume at (length blocks) v) (t : Tale) (seen : AreSeen v at blocks (contents t)) where
+  -- each from its one copy
+  copy_at : Knows host memory t → (k : ℕ) → k < length blocks → (drive : ℕ) × (block : ℕ) × LiesAt v (at + k) drive block
+  copy_at = place_at host sizes ready memory volume at (length blocks) v some there t
+
+  copies : Knows host memory t → HaveCopies v at (length blocks)
+  copies knows k lt = let place = copy_at knows k lt in (place.0, place.1, has_copy v (at + k) place.0 place.1 place.2)
+
+  all_read : Knows host memory t → AllRead v at blocks t
+  all_read knows k x lt reading =
+      let place = copy_at knows k lt in
+      one_reading v (at + k) place.0 place.1 place.2 (last t) x reading ∙ sym (one_reading v (at + k) place.0 place.1 place.2 (last t) (slice_index_or blocks k []) (seen.each k lt))
+
+  saw_all : (text : List ℕ) → text ≡ values_reply at blocks → CarriedTo host (ToSee (key_of host) volume at (length blocks)) memory (Said (outcome.Values text)) memory t t
   unfolding has_range
-  saw t text is = record {
+  saw_all text is = record {
     done = Saw (key_of host) volume at blocks ∷ [];
-    acks = inr (record { blocks = blocks; counted = counted; told = is; seen = refl });
+    acks = inr (record { blocks = blocks; counted = refl; told = is; seen = refl });
     free = λ has. absurd (not_other (Saw (key_of host) volume at blocks) (Created (key_of host)) (λ same. cc (same)) has);
     goes = λ h known. inr
-        (let read = reads_go host.drives h (key_of host) volume at blocks t (range_of h known) known.stands (runs_stand.copies place.drive there.first there.blocks at (length blocks)) (runs_stand.read place.drive there.first there.blocks at blocks t shown) in
+        (let read = reads_go host.drives h (key_of host) volume at blocks t (has_range host sizes ready memory volume at (length blocks) v some there h t known) known.stands (copies known.knows) (all_read known.knows) in
         let event : Event = Reads (key_of host) volume at blocks in
         let stands = happened_stands host [] [] [] t h (event ∷ []) read.happens (tt, tt) in
         happened host [] [] [] t h (event ∷ []) read.happens (tt, tt) (λ es g. IsKnownAfter host (Saw (key_of host) volume at blocks ∷ []) (Said (outcome.Values text)) memory g t)
-        (subst (λ (n : ℕ). AreFound host.drives h (key_of host) volume at n) (sym counted) (are_found h t known), tt) tt (
+        (are_found host sizes ready memory volume at (length blocks) v some there h t known, tt) tt (
           known_on host memory h (history_after h event) t stands (own_still host memory.begun h known.its memory.begun (history_after h event) (omega arith) refl) (λ o is_open. is_open) (λ free. free) refl (λ other. refl) known,
           read.untold,
         ));
     knows = λ knows. knows;
   }
-    where
-      blocks : List (List ℕ)
-      blocks = blocks_of (contents t) place count
 
-      counted : length blocks ≡ count
-      counted = length-map-range_with_len (contents t place.drive) place.block count
-
-      range_of : (h : History) → IsKnown host memory h t → HasRange host.drives h.databases (key_of host) volume at (length blocks)
-      range_of h known = subst (λ (n : ℕ). HasRange host.drives h.databases (key_of host) volume at n) (sym counted) (has_range h t known)
-
-      shown : Shows t place.drive (there.first + at) blocks
-      shown k lt =
-          let within : k < count = subst (λ (n : ℕ). k < n) counted lt in
-          let is = there.block_is in
-          get_or-map-range_with_len (contents t place.drive) place.block count k ((there.first + at) + k) [] within (omega (arith, is))
+-- they were read, so many of them
+pub saw : (host : Host) (sizes : List ℕ) → IsReady host sizes → (memory : Memory) (volume : VolId) (at count : ℕ) (v : Map) → 0 < count → HasBlocks host memory volume at count v → (t : Tale) (text : List ℕ) (blocks : List (List ℕ)) → length blocks ≡ count → AreSeen v at blocks (contents t)
+    → text ≡ values_reply at blocks → CarriedTo host (ToSee (key_of host) volume at count) memory (Said (outcome.Values text)) memory t t
+saw host sizes ready memory volume at count v some there t text blocks counted seen is =
+    let within = there.within in
+    let has : HasBlocks host memory volume at (length blocks) v = record { o = there.o; opened = there.opened; lies = there.lies; within = omega (arith, within, counted) } in
+    subst (λ (n : ℕ). CarriedTo host (ToSee (key_of host) volume at n) memory (Said (outcome.Values text)) memory t t) counted (saw_all host sizes ready memory volume at v blocks (omega (arith, some, counted)) has t seen text is)
 
 -- blocks of a volume that are written
-module _ (host : Host) (sizes : List ℕ) (ready : IsReady host sizes) (memory : Memory) (volume : VolId) (at : ℕ) (place : DriveBlock) (blocks : List (List ℕ)) (some : 0 < length blocks)
-    (there : AreBlocksAt host memory volume at (length blocks) place) (t m : Tale) (settling : Settling place.drive place.block blocks t m) where
+module _ (host : Host) (sizes : List ℕ) (ready : IsReady host sizes) (memory : Memory) (volume : VolId) (at : ℕ) (v : Map) (blocks : List (List ℕ)) (some : 0 < length blocks)
+    (there : HasBlocks host memory volume at (length blocks) v) (t m : Tale) (rewriting : Rewriting v at blocks t m) where
   abbrev wrote : Deed
   wrote = Wrote (key_of host) volume at blocks
 
-  same_block : place.block ≡ there.first + at
-  same_block = there.block_is
+  -- no block beside those of the volume is touched
+  kept : KeptOutside (area_of_map v) t m
+  kept = areas_cover.kept v at blocks t m there.within rewriting
 
-  rewriting : Rewriting (run_map place.drive there.first there.blocks) at blocks t m
-  rewriting = runs_stand.written place.drive there.first there.blocks at blocks t m (subst (λ (b : ℕ). Settling place.drive b blocks t m) same_block settling)
+  place : Knows host memory t → (k : ℕ) → k < length blocks → (drive : ℕ) × (block : ℕ) × LiesAt v (at + k) drive block
+  place = place_at host sizes ready memory volume at (length blocks) v some there t
 
-  -- memory behind a write a call of which failed
-  abbrev torn : Memory
-  torn = record memory { clean = false }
+  -- each of its places is on a drive that they lie on
+  on_drive : Knows host memory t → (k drive b : ℕ) → k < length blocks → HasDriveBlock (v.places (at + k)) drive b → drive_of (v.copies (at + k)) ≡ drive
+  on_drive knows k drive b lt has = let at_k = place knows k lt in drive_is v (at + k) at_k.0 at_k.1 at_k.2 ∙ sym (one_place v (at + k) at_k.0 at_k.1 at_k.2 drive b has).0
 
-  -- a block that no volume has isn't one of them
-  outside : (drive b : ℕ) → IsOfNoVolume host torn drive b → range place.drive place.block (length blocks) drive b ≡ false
-  outside drive b none =
-      let same : none.0 ≡ there.lies.0 = some_is memory.opened none.0 there.lies.0 none.1 there.lies.1 in
-      let away : area_of_map (run_map place.drive there.first there.blocks) drive b ≡ false = none.2 volume (run_map place.drive there.first there.blocks) (subst (λ (o : Opened). IsMapOf host.drives o.table volume (run_map place.drive there.first there.blocks)) (sym same) there.lies.2) in
-      within place.drive place.block there.first there.blocks drive b (sym (runs_lie.area place.drive there.first there.blocks drive b) ∙ away) there.block_is there.within
-    where
-      within : (number block first count drive b : ℕ) → range number first count drive b ≡ false → block ≡ first + at → at + length blocks ≤ count → range number block (length blocks) drive b ≡ false
-      within number block first count drive b away is fits = grind (arith, nat_tests)
+  -- the blocks of steady drives stay so, where they are on the disk with all that their drives were given
+  free_settled : AreOnDisk v at blocks m → Knows host memory t → IsFree host memory m
+  free_settled settled knows drive b on plain x left = elim (both_ways (has_drive v at (length blocks) drive)) [
+    | inl its ↦ settled.synced drive its b x left
+    | inr other ↦
+        let same = rewriting.outside drive b (λ k lt has. false≢true (sym other ∙ has_at v at (length blocks) k drive lt (on_drive knows k drive b lt has))) in
+        knows.steady drive b on plain x (same.left x left) ∙ sym same.last
+  ]
 
-  -- the steady blocks stay so, but for those of volumes
-  free_torn : IsFree host memory t → IsFree host torn m
-  free_torn free drive b on is x left =
-      let kept = settling.outside drive b (outside drive b (is.free refl)) in free drive b on (record { plain = is.plain; free = λ dirty. is.free refl }) x (kept.left x left) ∙ sym kept.last
+  elsewhere : Knows host memory t → IsElsewhere host.drives (area_of_map v)
+  elsewhere knows = blocks_beside host sizes ready memory volume at (length blocks) v some there t knows
 
-  -- and all do, where the blocks are on the disk with all that their drive was given
-  free_settled : IsSettled place.drive place.block blocks m → IsFree host memory t → IsFree host memory m
-  free_settled settled free drive b on is x left = by (both_ways (drive == place.drive)) where
-    apart : (number block count drive : ℕ) → (drive == number) ≡ false → range number block count drive b ≡ false
-    apart number block count drive other = grind (arith, nat_tests)
-
-    by : ((drive == place.drive) ≡ true) ⊎ ((drive == place.drive) ≡ false) → x ≡ last m drive b
-    by (inl its) = (let same : drive ≡ place.drive = grind (arith, nat_tests, its) in (subst (λ (d : ℕ). MayLeave m d b x → x ≡ last m d b) (sym same) (settled.synced b x)) left)
-    by (inr other) = (let kept = settling.outside drive b (apart place.drive place.block (length blocks) drive other) in free drive b on is x (kept.left x left) ∙ sym kept.last)
-
-  elsewhere : Knows host memory t → IsElsewhere host.drives (range place.drive place.block (length blocks))
-  elsewhere knows = blocks_beside host sizes ready memory volume at (length blocks) place some there t knows
+  -- memory behind a write, by the drives that are unsteady then
+  abbrev then_in : Drives → Memory
+  then_in unsteady = record memory { unsteady = unsteady }
 
   -- what is known of the open database stays
-  knows_written : (next : Memory) → next.opened ≡ memory.opened → (IsFree host memory t → IsFree host next m) → Knows host memory t → Knows host next m
-  knows_written next opened free knows =
-      let n = there.lies.0 in
-      let its = knows_its host memory n there.lies.1 t knows in
-      knows_opened host next n m (opened ∙ there.lies.1) its.0 (opened_elsewhere host.drives (range place.drive place.block (length blocks)) (elsewhere knows) t m settling.outside n its.1) (free knows.steady)
+  knows_written : (unsteady : Drives) → (Knows host memory t → IsFree host (then_in unsteady) m) → Knows host memory t → Knows host (then_in unsteady) m
+  knows_written unsteady free knows =
+      let n = there.o in
+      let its = knows_its host memory n there.opened t knows in
+      knows_opened host (then_in unsteady) n m there.opened its.0 (opened_elsewhere host.drives (area_of_map v) (elsewhere knows) t m kept n its.1) (free knows)
 
-  knows_torn : Knows host memory t → Knows host torn m
-  knows_torn = knows_written torn refl free_torn
-
-  knows_settled : IsSettled place.drive place.block blocks m → Knows host memory t → Knows host memory m
-  knows_settled settled = knows_written memory refl (free_settled settled)
+  knows_settled : AreOnDisk v at blocks m → Knows host memory t → Knows host memory m
+  knows_settled settled = knows_written memory.unsteady (free_settled settled)
 
   module _ (h : History) (known : IsKnown host memory h t) where
     abbrev own : HasRange host.drives h.databases (key_of host) volume at (length blocks)
-    own = has_range host sizes ready memory volume at (length blocks) place some there h t known
+    own = has_range host sizes ready memory volume at (length blocks) v some there h t known
 
     found : AreFound host.drives h (key_of host) volume at (length blocks)
-    found = are_found host sizes ready memory volume at (length blocks) place some there h t known
+    found = are_found host sizes ready memory volume at (length blocks) v some there h t known
 
-    -- what was known is known, but for what memory tells of failed calls
-    still : (clean : Bool) → (clean ≡ true → memory.clean ≡ true) → Knows host (record memory { clean = clean }) m → (g : History) → StandsAt host g m → g.databases ≡ h.databases → g.up ≡ h.up → ((other : VolId) → g.woken (key_of host) other ≡ h.woken (key_of host) other)
-        → IsKnown host (record memory { clean = clean }) g m
-    still clean calm knows g stands same drives counts = record {
+    -- what was known is known, but for the drives that are unsteady
+    still : (unsteady : Drives) → ((drive : ℕ) → is_steady (then_in unsteady) drive ≡ true → is_steady memory drive ≡ true) → Knows host (then_in unsteady) m → (g : History) → StandsAt host g m → g.databases ≡ h.databases
+        → ((drive : ℕ) → is_in (g.up (key_of host)) drive ≡ is_steady (then_in unsteady) drive) → ((other : VolId) → g.woken (key_of host) other ≡ h.woken (key_of host) other) → IsKnown host (then_in unsteady) g m
+    still unsteady fewer knows g stands same up counts = record {
       stands = stands;
       its = own_still host memory.begun h known.its memory.begun g (omega arith) same;
-      free = λ none is. subst (λ (ds : List Database). AreFreed host.drives ds (key_of host) m) (sym same) (freed_elsewhere host.drives (range place.drive place.block (length blocks)) (elsewhere known.knows) t m settling.outside h.databases (key_of host) (known.free none (calm is)));
-      up = ap (λ (up : Key → Drives). up (key_of host)) drives ∙ known.up;
+      free = λ none clean. subst (λ (ds : List Database). AreFreed host.drives ds (key_of host) m) (sym same) (freed_elsewhere host.drives (area_of_map v) (elsewhere known.knows) t m kept h.databases (key_of host) (known.free none clean));
+      up = up;
       is_open = some_more memory.opened (λ o. IsOpenIn host.drives o h.databases t) (λ o. IsOpenIn host.drives o g.databases m)
-          (λ o is. subst (λ (ds : List Database). IsOpenIn host.drives o ds m) (sym same) (open_elsewhere host.drives (range place.drive place.block (length blocks)) (elsewhere known.knows) t m settling.outside o h.databases is)) known.is_open;
-      woken = some_more memory.opened (λ n. AreWoken host.drives n.table (is_up memory) h (key_of host)) (λ n. AreWoken host.drives n.table (is_up memory) g (key_of host))
-          (λ n are other v lies upon. counts other ∙ are other v lies upon) known.woken;
+          (λ o is. subst (λ (ds : List Database). IsOpenIn host.drives o ds m) (sym same) (open_elsewhere host.drives (area_of_map v) (elsewhere known.knows) t m kept o h.databases is)) known.is_open;
+      woken = some_more memory.opened (λ n. AreWoken host.drives n.table (is_steady memory) h (key_of host)) (λ n. AreWoken host.drives n.table (is_steady (then_in unsteady)) g (key_of host))
+          (λ n are other w lies upon. counts other ∙ are other w lies (λ b drive block lt has. fewer drive (upon b drive block lt has))) known.woken;
       knows = knows;
     }
 
     abbrev issued_then : History
     issued_then = history_after h (OfVolume (key_of host) volume (Issues at blocks))
 
-    issued_stands : StandsAt host issued_then m
-    unfolding has_range
-    issued_stands = happened_stands host [] (wrote ∷ []) [] m h (OfVolume (key_of host) volume (Issues at blocks) ∷ []) (writes_go.issued host.drives h (key_of host) volume at blocks t m own known.stands rewriting) (tt, tt)
-
     -- its values were issued
-    issued_by : (After : List Event → History → Type 0) → After (OfVolume (key_of host) volume (Issues at blocks) ∷ []) issued_then → Goes host (wrote ∷ []) [] After m h
+    issued_by : Goes host (wrote ∷ []) [] Reached m h
     unfolding has_range
-    issued_by After then =
+    issued_by =
         let issued = writes_go.issued host.drives h (key_of host) volume at blocks t m own known.stands rewriting in
-        happened host (wrote ∷ []) (wrote ∷ []) [] m h (OfVolume (key_of host) volume (Issues at blocks) ∷ []) issued (tt, tt) After (found, tt) (part_itself (wrote ∷ [])) then
-
-    issued_known : IsKnown host torn issued_then m
-    issued_known = still false (λ never. absurd (cc (never))) (knows_torn known.knows) issued_then issued_stands refl refl (λ other. count_kept h (key_of host) volume (Issues at blocks) (λ n. refl) (key_of host) other)
+        happened host (wrote ∷ []) (wrote ∷ []) [] m h (OfVolume (key_of host) volume (Issues at blocks) ∷ []) issued (tt, tt) Reached (found, tt) (part_itself (wrote ∷ [])) tt
 
     -- they are on the disk
-    written_by : IsSettled place.drive place.block blocks m → AllRead (run_map place.drive there.first there.blocks) at blocks m → AllOnDisk (run_map place.drive there.first there.blocks) at (length blocks) m
-        → Goes host (wrote ∷ []) [] (λ es g. IsKnownAfter host (wrote ∷ []) (Said outcome.Ok) memory g m) m h
+    written_by : AreOnDisk v at blocks m → Goes host (wrote ∷ []) [] (λ es g. IsKnownAfter host (wrote ∷ []) (Said outcome.Ok) memory g m) m h
     unfolding has_range
-    written_by settled read on =
-        let done = writes_go.done host.drives h (key_of host) volume at blocks t m own known.stands rewriting read on in
+    written_by settled =
+        let done = writes_go.done host.drives h (key_of host) volume at blocks t m own known.stands rewriting settled.read settled.on_disk in
         let es = write_of (key_of host) volume at blocks in
-        let first = history_after h (OfVolume (key_of host) volume (Issues at blocks)) in
-        let second = history_after first (OfVolume (key_of host) volume (Answers at blocks)) in
+        let second = history_after issued_then (OfVolume (key_of host) volume (Answers at blocks)) in
         let stands = happened_stands host [] (wrote ∷ []) [] m h es done.happens (tt, (tt, (tt, tt))) in
         happened host (wrote ∷ []) (wrote ∷ []) [] m h es done.happens (tt, (tt, (tt, tt))) (λ es g. IsKnownAfter host (wrote ∷ []) (Said outcome.Ok) memory g m) (found, (tt, (tt, tt))) (part_itself (wrote ∷ [])) (
-          still memory.clean (λ is. is) (knows_settled settled known.knows) (history_after_all h es) stands refl refl (λ other.
-              count_kept second (key_of host) volume (Flushes at (length blocks)) (λ n. refl) (key_of host) other ∙ count_kept first (key_of host) volume (Answers at blocks) (λ n. refl) (key_of host) other
+          still memory.unsteady (λ drive on. on) (knows_settled settled known.knows) (history_after_all h es) stands refl known.up (λ other.
+              count_kept second (key_of host) volume (Flushes at (length blocks)) (λ n. refl) (key_of host) other ∙ count_kept issued_then (key_of host) volume (Answers at blocks) (λ n. refl) (key_of host) other
               ∙ count_kept h (key_of host) volume (Issues at blocks) (λ n. refl) (key_of host) other),
           done.can_tell,
         )
 
   pub writing_moment : StaysHome host t m → CarryMoment host (ToDo wrote) memory t m
-  writing_moment home = record { home = home; within = inr (place, there, put_by place blocks t m settling); quiet = settling.quiet; goes = λ h known. inr (issued_by h known Reached tt) }
+  writing_moment home = record { home = home; within = inr (v, there, put_by v at blocks t m rewriting); quiet = rewriting.quiet; goes = λ h known. inr (issued_by h known) }
 
   -- they are on the disk, and the `ok` may be told
-  pub wrote_blocks : IsSettled place.drive place.block blocks m → CarriedTo host (ToDo wrote) memory (Said outcome.Ok) memory t m
-  wrote_blocks settled =
-      let both = runs_stand.settled place.drive there.first there.blocks at blocks m (subst (λ (b : ℕ). IsSettled place.drive b blocks m) same_block settled) in
-      record { done = wrote ∷ []; acks = refl; free = λ has. absurd (not_other wrote (Created (key_of host)) (λ same. cc (same)) has); goes = λ h known. inr (written_by h known settled both.0 both.1); knows = knows_settled settled }
+  pub wrote_blocks : AreOnDisk v at blocks m → CarriedTo host (ToDo wrote) memory (Said outcome.Ok) memory t m
+  wrote_blocks settled = record { done = wrote ∷ []; acks = refl; free = λ has. absurd (not_other wrote (Created (key_of host)) (λ same. cc (same)) has); goes = λ h known. inr (written_by h known settled); knows = knows_settled settled }
 
-  -- a call on the drive failed
-  pub wrote_some : CarriedTo host (ToDo wrote) memory (Said (outcome.Refused IoFault)) torn t m
-  wrote_some = record { done = []; acks = refl; free = λ has. absurd (not_among (Created (key_of host)) has); goes = λ h known. inr (issued_by h known (λ es g. IsKnownAfter host [] (Said (outcome.Refused IoFault)) torn g m) (issued_known h known)); knows = knows_torn }
+  -- A call failed on the drive of the one block that is written, which is unsteady then.
+  module _ (single : length blocks ≡ 1) (failed : ℕ) (on : has_drive v at (length blocks) failed ≡ true) (unsteady : Drives) (here : is_in unsteady failed ≡ true) (others : (drive : ℕ) → (drive ≡ failed → ⊥) → is_in unsteady drive ≡ is_in memory.unsteady drive) where
+    abbrev torn : Memory
+    torn = then_in unsteady
+
+    of_failed : (k : ℕ) × (k < length blocks) × (drive_of (v.copies (at + k)) ≡ failed)
+    of_failed = drive_there v at (length blocks) failed on
+
+    -- it lies on no other
+    never_off : Knows host memory t → (drive b : ℕ) → (drive ≡ failed → ⊥) → IsOff v at (length blocks) drive b
+    never_off knows drive b differs k lt has =
+        let first = of_failed.1 in
+        let same : k ≡ of_failed.0 = omega (arith, lt, first, single) in
+        differs (sym (on_drive knows k drive b lt has) ∙ ap (λ (n : ℕ). drive_of (v.copies (at + n))) same ∙ of_failed.2)
+
+    other_drive : (drive : ℕ) → (drive == failed) ≡ false → drive ≡ failed → ⊥
+    other_drive drive is same = grind (arith, nat_tests, is, same)
+
+    -- so the others are steady that were
+    steady_then : (drive : ℕ) → is_steady memory drive && not (drive == failed) ≡ is_steady torn drive
+    steady_then drive = elim (both_ways (drive == failed)) [
+      | inl is ↦
+          let same : is_in unsteady drive ≡ true = ap (λ (d : ℕ). is_in unsteady d) (same_number drive failed is) ∙ here in
+          rw (is, same) (none_of (is_steady memory drive) (is_in memory.up drive))
+      | inr not_it ↦
+          let same = others drive (other_drive drive not_it) in
+          rw (not_it, same) (and-true (is_steady memory drive))
+    ]
+      where
+        none_of : (a b : Bool) → a && false ≡ b && false
+        none_of true true = refl
+        none_of true false = refl
+        none_of false true = refl
+        none_of false false = refl
+
+    fewer : (drive : ℕ) → is_steady torn drive ≡ true → is_steady memory drive ≡ true
+    fewer drive on_then = first_of (is_steady memory drive) (not (drive == failed)) (steady_then drive ∙ on_then) where
+      first_of : (a b : Bool) → a && b ≡ true → a ≡ true
+      first_of true b is = refl
+      first_of false b is = is
+
+    never_failed : (drive : ℕ) → is_steady torn drive ≡ true → drive ≡ failed → ⊥
+    never_failed drive on_then same = by (is_in memory.up drive) (is_in unsteady drive) on_then (ap (λ (d : ℕ). is_in unsteady d) same ∙ here) where
+      by : (a b : Bool) → a && not b ≡ true → b ≡ true → ⊥
+      by true true steady is = cc (steady)
+      by false true steady is = cc (steady)
+      by a false steady is = cc (is)
+
+    free_torn : Knows host memory t → IsFree host torn m
+    free_torn knows drive b on_then plain x left =
+        let same = rewriting.outside drive b (never_off knows drive b (never_failed drive on_then)) in knows.steady drive b (fewer drive on_then) plain x (same.left x left) ∙ sym same.last
+
+    knows_torn : Knows host memory t → Knows host torn m
+    knows_torn = knows_written unsteady free_torn
+
+    -- the history takes it so
+    abbrev events : List Event
+    events = OfVolume (key_of host) volume (Issues at blocks) ∷ Unsettles (key_of host) (record { 0 = failed }) ∷ []
+
+    torn_by : (h : History) → IsKnown host memory h t → Goes host (wrote ∷ []) [] (λ es g. IsKnownAfter host [] (Said (outcome.Refused IoFault)) torn g m) m h
+    unfolding has_range
+    torn_by h known =
+        let k = of_failed.0 in
+        let at_k = place known.knows k of_failed.1 in
+        let is_drive : at_k.0 ≡ failed = sym (drive_is v (at + k) at_k.0 at_k.1 at_k.2) ∙ of_failed.2 in
+        let has = subst (λ (d : ℕ). HasDriveBlock (v.copies (at + k)) d at_k.1) is_drive (has_copy v (at + k) at_k.0 at_k.1 at_k.2) in
+        let goes = writes_go.torn host.drives h (key_of host) volume at blocks t m (own h known) (record { 0 = failed }) k at_k.1 known.stands rewriting of_failed.1 has in
+        let stands = happened_stands host [] (wrote ∷ []) [] m h events goes (tt, (tt, tt)) in
+        happened host (wrote ∷ []) (wrote ∷ []) [] m h events goes (tt, (tt, tt)) (λ es g. IsKnownAfter host [] (Said (outcome.Refused IoFault)) torn g m) (found h known, (tt, tt)) (part_itself (wrote ∷ []))
+        (still h known unsteady fewer (knows_torn known.knows) (history_after_all h events) stands refl (up_then h known) (λ other. count_kept h (key_of host) volume (Issues at blocks) (λ n. refl) (key_of host) other))
+      where
+        up_then : (h : History) → IsKnown host memory h t → (drive : ℕ) → is_in ((history_after_all h events).up (key_of host)) drive ≡ is_steady torn drive
+        up_then h known drive =
+            let itself = key_itself (key_of host) in
+            rw itself (has_without (h.up (key_of host)) (record { 0 = failed }) (record { 0 = drive }) ∙ ap (λ (b : Bool). b && not (drive == failed)) (known.up drive) ∙ steady_then drive)
+
+    torn_carried : CarriedTo host (ToDo wrote) memory (Said (outcome.Refused IoFault)) torn t m
+    torn_carried = record { done = []; acks = refl; free = λ has. absurd (not_among (Created (key_of host)) has); goes = λ h known. inr (torn_by h known); knows = knows_torn }
+
+  pub wrote_some : (next : Memory) (failed : ℕ) → length blocks ≡ 1 → has_drive v at (length blocks) failed ≡ true → HasUnsettled failed memory next → CarriedTo host (ToDo wrote) memory (Said (outcome.Refused IoFault)) next t m
+  wrote_some next failed single on unsettled =
+      subst (λ (n : Memory). CarriedTo host (ToDo wrote) memory (Said (outcome.Refused IoFault)) n t m) (sym unsettled.beside)
+      (torn_carried single failed on next.unsteady unsettled.here unsettled.others)

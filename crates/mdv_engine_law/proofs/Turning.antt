@@ -192,7 +192,7 @@ entered_none host memory entries text t = record {
 }
   where
     still : Knows host memory t → Knows host (record memory { entries = entries }) t
-    still known = record { opened = known.opened; steady = λ drive block up is. known.steady drive block up (record { plain = is.plain; free = is.free }) }
+    still known = record { opened = known.opened; steady = known.steady }
 
 -- a reply that was told, where nothing else was done: a refusal, whatever the line asks, and the `ok` of one that asks nothing
 module _ (host : Host) (memory : Memory) where

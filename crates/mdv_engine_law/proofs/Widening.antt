@@ -2,7 +2,7 @@
 use Rattle.std.proofs.Common.{◌≡◌, ◌⊎◌, inl, inr, ℕ, Bool, true, false, List, Option, None, Some, Contains}
 use Rattle.std.specs.Bool.{MatchBool}
 use Rattle.mdv_base.proofs.Causes.{IsWithin}
-use Rattle.mdv_engine_law.specs.Below.{BootEnd, DriveNo, Drives, Geometry, Identity, Key, Opened, Site, SliceLine, Table, Command, AddListed, AddPlaces, DropPlaces, Print, Read, Write}
+use Rattle.mdv_engine_law.specs.Below.{BootEnd, DriveNo, Drives, Geometry, Identity, Key, Opened, Site, SliceLine, Table, VolId, Command, AddListed, AddPlaces, DropPlaces, Print, Read, Write}
 use Rattle.mdv_store.proofs.Passes.{left_as}
 use Rattle.mdv_store.specs.Boot.{IsEndBy, IsOnce, IsShortAt, IsShortBy, IsWrittenTo, is_memory}
 use Rattle.mdv_store.specs.Commit as commit
@@ -114,8 +114,8 @@ module _ (failed more : Outcomes) (cause : AreWithin failed more) where
   end_more One Other so site survey end.Memory is = is
 
   -- why a command is answered so
-  blocks_more : (host : Host) (memory : Memory) (volume : _) (at count : ℕ) → FailedBlocks failed host memory volume at count → FailedBlocks more host memory volume at count
-  blocks_more host memory volume at count of = record { place = of.place; there = of.there; failed = on_more of.place.drive of.failed }
+  abbrev pub blocks_more : (host : Host) (memory : Memory) (volume : VolId) (at count : ℕ) → FailedBlocks failed host memory volume at count → FailedBlocks more host memory volume at count
+  blocks_more host memory volume at count of = record { map = of.map; there = of.there; drive = of.drive; on = of.on; failed = on_more of.drive of.failed }
 
   -- so of a change of places
   moved_left : (g : Geometry) (o : Opened) (asked : Asks) (Takes : Replica → Replica → Type 0) (seats now : List Seat) → AreLeft (till_wiped failed g o asked) Takes seats now → AreLeft (till_wiped more g o asked) Takes seats now

@@ -1,10 +1,13 @@
 -- The blocks that a line may write, and those that it leaves, where more calls write none.
 use Rattle.std.specs.Bool.{MatchBool}
-use Rattle.std.proofs.Common.{◌≡◌, inl, inr, ℕ, ◌-◌, Bool, true, false, List, [], ◌∷◌, length, slice_index_or, Option, None, Some, refl}
+use Rattle.std.proofs.Common.{◌≡◌, inl, inr, ℕ, Bool, true, false, List, [], ◌∷◌, length, slice_index_or, Option, None, Some, refl}
 use Rattle.mdv_map.proofs.Joining.{kept_is_old, old_or_new_more}
+use Rattle.mdv_map.proofs.Standing.{requests_stand}
+use Rattle.mdv_map.specs.Requests.{Rewriting}
 use Rattle.mdv_shelf.proofs.Everywhere.{everywhere_kept}
-use Rattle.mdv_shelf.proofs.Frame.{kept_outside_more, settled_still}
-use Rattle.mdv_engine_law.specs.Below.{Command, AddListed, AddPlaces, DropPlaces, DriveBlock, Head, IsOwn, KeptOutside, Print, Read, Settling, Spells, Write, nowhere, site_area, site_of, range, Changed, Created, Saw, Tale, Wrote, listed_by, Deleted, Identity, Key, Opened, PlaceAt, Seat, SliceLine, SliceName, joined}
+use Rattle.mdv_shelf.proofs.Frame.{kept_more, kept_outside_more}
+use Rattle.mdv_shelf.proofs.Settled.{synced_still}
+use Rattle.mdv_engine_law.specs.Below.{Command, AddListed, AddPlaces, DropPlaces, AreOnDisk, Head, IsOwn, KeptOutside, Map, Print, Read, Spells, Write, nowhere, site_area, site_of, Changed, Created, Saw, Tale, Wrote, listed_by, Deleted, Identity, Key, Opened, PlaceAt, Seat, SliceLine, SliceName, joined}
 use Rattle.mdv_words.specs.declared.command.Command.TheVariants.{MakeStripe}
 use Rattle.mdv_engine_law.specs.declared.host.Host.{Host}
 use Rattle.mdv_engine_law.specs.Hosts.{dropped_area, identity_of, key_of, lines_asked, listed_area, opened_area, places_area}
@@ -20,16 +23,24 @@ use Rattle.mdv_places.specs.Moments.{IsBlankAt, places_dropped}
 use Rattle.mdv_store.specs.Create.{seats_asked}
 use Rattle.mdv_store.specs.Seats.{AreTheirs}
 
-module _ (place : DriveBlock) (blocks : List (List ℕ)) (t m : Tale) where
-  pub put_by : Settling place.drive place.block blocks t m → ArePutBy place blocks t m
-  put_by settling = record { inside = settling.inside; outside = settling.outside }
+module _ (v : Map) (at : ℕ) (blocks : List (List ℕ)) (t m : Tale) where
+  pub put_by : Rewriting v at blocks t m → ArePutBy v at blocks t m
+  put_by rewriting = record { inside = rewriting.inside; outside = rewriting.outside }
 
-  pub put_still : (u : Tale) → ArePutBy place blocks t u → KeptOutside nowhere u m → ArePutBy place blocks t m
+  pub put_still : (u : Tale) → ArePutBy v at blocks t u → KeptOutside nowhere u m → ArePutBy v at blocks t m
   put_still u put kept = record {
-    inside = λ block here.
-        let new = slice_index_or blocks (block - place.block) [] in
-        old_or_new_more t u m place.drive block new (put.inside block here) (kept_is_old u m place.drive block new (kept place.drive block refl));
-    outside = kept_outside_more (range place.drive place.block (length blocks)) t u m put.outside (λ drive block out. kept drive block refl);
+    inside = λ k drive block lt has.
+        let new = slice_index_or blocks k [] in
+        old_or_new_more t u m drive block new (put.inside k drive block lt has) (kept_is_old u m drive block new (kept drive block refl));
+    outside = λ drive block off. kept_more t u m drive block (put.outside drive block off) (kept drive block refl);
+  }
+
+  -- blocks that are on the disk stay there
+  on_disk_still : AreOnDisk v at blocks t → KeptOutside nowhere t m → AreOnDisk v at blocks m
+  on_disk_still left kept = record {
+    read = requests_stand.reads v at (length blocks) blocks t m (λ k drive block lt has. kept drive block refl) left.read;
+    on_disk = requests_stand.on_disk v at (length blocks) t m (λ k drive block lt has. kept drive block refl) left.on_disk;
+    synced = λ drive on. synced_still drive t m (λ block. kept drive block refl) (left.synced drive on);
   }
 
 module _ (host : Host) (memory : Memory) where
@@ -65,7 +76,7 @@ module _ (host : Host) (memory : Memory) where
   writes_still (ToDo (Changed key change)) t u m writes kept = kept_outside_more (opened_area memory.opened) t u m writes (λ drive block out. kept drive block refl)
   writes_still (ToDo (Deleted key)) t u m none kept = kept_outside_more nowhere t u m none kept
   writes_still (ToDo (Wrote key volume at blocks)) t u m (inl none) kept = inl (kept_outside_more nowhere t u m none kept)
-  writes_still (ToDo (Wrote key volume at blocks)) t u m (inr writes) kept = inr (writes.0, writes.1, put_still writes.0 blocks t m u writes.2 kept)
+  writes_still (ToDo (Wrote key volume at blocks)) t u m (inr writes) kept = inr (writes.0, writes.1, put_still writes.0 at blocks t m u writes.2 kept)
   writes_still (ToDo (Saw key volume at blocks)) t u m none kept = kept_outside_more nowhere t u m none kept
   writes_still (ToSee key volume at count) t u m none kept = kept_outside_more nowhere t u m none kept
 
@@ -93,7 +104,7 @@ module _ (host : Host) (memory : Memory) where
   done_still calls (DropPlaces slices force) t m kept left = blank_still calls slices t m kept left
   done_still calls (MakeStripe volume slice) t m kept left = tt
   done_still calls (Read volume at count) t m kept left = tt
-  done_still calls (Write volume at block) t m kept left = (left.0, left.1, settled_still left.0.drive left.0.block (block ∷ []) t m kept left.2)
+  done_still calls (Write volume at block) t m kept left = (left.0, left.1, on_disk_still left.0 at (block ∷ []) t m left.2 kept)
   done_still calls (Print names) t m kept left = tt
 
   -- so where it was ended

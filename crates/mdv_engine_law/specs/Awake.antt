@@ -1,12 +1,9 @@
 -- What a run's boots settle: blocks of a volume whose drives the last boot brought up are read and written only where one value of each was found since it began.
-use Rattle.std.specs.Prelude.{ℕ, ◌+◌, ◌≤◌, Bool, List, length, Contains}
-use Rattle.mdv_engine_law.specs.Below.{Acknowledges, Answers, Begins, Boots, Crashes, Creation, Deletes, Drives, Event, Flushes, History, IsThere, IsUpon, Map, Geometry, has_drive, Issues, Key, MayHappen, OfDatabase, OfVolume, Reads, Shows, Stops, VolId, VolumeEvent, Woke}
+use Rattle.std.specs.Prelude.{ℕ, ◌+◌, ◌≤◌, List, length, Contains}
+use Rattle.mdv_engine_law.specs.Below.{Acknowledges, Answers, Begins, Boots, Crashes, Creation, Deletes, Drives, Event, Flushes, History, IsThere, IsUpon, Map, Geometry, Issues, Key, MayHappen, OfDatabase, OfVolume, Reads, Shows, Stops, Unsettles, VolId, VolumeEvent, Woke}
 use Rattle.mdv_volumes.specs.Events as lives
 use Rattle.mdv_engine_law.specs.declared.host.Host.{Host}
-
--- whether a drive is one of these
-abbrev pub is_in : Drives → ℕ → Bool
-is_in up drive = has_drive up (record { 0 = drive })
+use Rattle.mdv_engine_law.specs.Line.{is_in}
 
 -- of each of these blocks of the volume one value was found, where the last boot brought its drives up
 abbrev pub AreFound : Geometry → History → Key → VolId → ℕ → ℕ → Type 0
@@ -29,6 +26,7 @@ IsAwakeAt g h (Acknowledges place key volume at blocks) = Unit {0}
 IsAwakeAt g h (Shows place key volume at blocks) = Unit {0}
 IsAwakeAt g h (Deletes place key) = Unit {0}
 IsAwakeAt g h (Boots key up) = Unit {0}
+IsAwakeAt g h (Unsettles key drive) = Unit {0}
 IsAwakeAt g h Stops = Unit {0}
 IsAwakeAt g h Crashes = Unit {0}
 

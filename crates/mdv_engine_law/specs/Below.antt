@@ -20,10 +20,13 @@ pub use Rattle.mdv_base.specs.declared.state_word.StateWord.TheVariants.{Absent,
 pub use Rattle.mdv_base.specs.declared.state_word.StateWord.{StateWord}
 pub use Rattle.mdv_databases.specs.Going.{IsOpenIn}
 pub use Rattle.mdv_databases.specs.Lasting.{HasNoTable}
+pub use Rattle.mdv_dev.specs.Pieces.{drives, has_drive as lies_on, pieces}
+pub use Rattle.mdv_dev.specs.Works.{AreOnDisk}
 pub use Rattle.mdv_home.specs.Drives.{own_drives, sizes_of}
 pub use Rattle.mdv_home.specs.View.{own_view}
 pub use Rattle.mdv_listing.specs.Listing.{IsOfQuietLines, listing_of}
-pub use Rattle.mdv_map.specs.Maps.{DriveBlock, Map, area_of_map, run_map}
+pub use Rattle.mdv_map.specs.Maps.{HasDriveBlock, Map, no_map, readings}
+pub use Rattle.mdv_map.specs.Requests.{IsOff}
 pub use Rattle.mdv_name.specs.Geometry.{IsGeometry}
 pub use Rattle.mdv_name.specs.SliceIndex.{HasNoSlice, HasSlice}
 pub use Rattle.mdv_name.specs.declared.geometry.Geometry.{Geometry}
@@ -34,12 +37,12 @@ pub use Rattle.mdv_replica.specs.declared.replica.Head.{Head}
 pub use Rattle.mdv_replica.specs.declared.replica.PlaceAt.{PlaceAt}
 pub use Rattle.mdv_replica.specs.declared.replica.Slot.TheVariants.{First, Second}
 pub use Rattle.mdv_replica.specs.declared.replica.Slot.{Slot}
-pub use Rattle.mdv_shelf.specs.Area.{AreApart, Area, KeptOutside, joined, nowhere, range}
+pub use Rattle.mdv_shelf.specs.Area.{AreApart, Area, IsKept, KeptOutside, joined, nowhere, range}
 pub use Rattle.mdv_shelf.specs.Calls.{OnReplies, and_then}
 pub use Rattle.mdv_shelf.specs.Everywhere.{Everywhere, Image}
 pub use Rattle.mdv_shelf.specs.Moments.{Ends, Grew, Moments}
-pub use Rattle.mdv_shelf.specs.Settle.{IsOldOrNew, IsSettled, IsSynced, Settling}
-pub use Rattle.mdv_shelf.specs.Tale.{Among, Gave, IsImage, MayLeave, Tale, Then, covers, last, told}
+pub use Rattle.mdv_shelf.specs.Settle.{IsOldOrNew, IsSynced}
+pub use Rattle.mdv_shelf.specs.Tale.{Among, Gave, IsImage, MayLeave, Tale, Then, last, told}
 pub use Rattle.mdv_shown.specs.Found.{IsOwn}
 pub use Rattle.mdv_shown.specs.Shown.{IsNewestOf}
 pub use Rattle.mdv_shown.specs.Site.{site_area}
@@ -58,23 +61,22 @@ pub use Rattle.mdv_survey.specs.Replica.{IsOnShelf}
 pub use Rattle.mdv_tab.specs.Text.{IsTab}
 pub use Rattle.mdv_tab.specs.declared.entry.Entry.{Entry}
 pub use Rattle.mdv_table.specs.Slices.{HasBlock, IsSound}
-pub use Rattle.mdv_table.specs.Table.{IsComponentOn, IsKindOf, IsOfGeometry, IsStripeOf, IsWholeSlice}
+pub use Rattle.mdv_table.specs.Table.{IsOfGeometry, IsStripeOf, IsWholeSlice}
 pub use Rattle.mdv_table.specs.Volumes.{HasNoVolume}
 pub use Rattle.mdv_table.specs.declared.change.Change.TheVariants.{MakeStripe}
 pub use Rattle.mdv_table.specs.declared.change.Change.{Change as PlanChange}
 pub use Rattle.mdv_table.specs.declared.plan.Lists.TheVariants.{One}
 pub use Rattle.mdv_table.specs.declared.table.Table.{Table}
-pub use Rattle.mdv_table.specs.declared.volume.Base.{Base}
 pub use Rattle.mdv_table.specs.declared.volume.Volume.{Volume}
 pub use Rattle.mdv_table.specs.declared.volume.VolumeKind.{VolumeKind}
 pub use Rattle.mdv_volumes.specs.Databases.{Database, log_of, same_key}
 pub use Rattle.mdv_volumes.specs.Events.{Answers, Begins, Flushes, Issues, VolumeEvent, Woke}
 pub use Rattle.mdv_volumes.specs.Happening.{Adds, HasRange, IsCourse, IsIssue, IsNamed, IsThere, MayHappen, issued_by, told_by}
 pub use Rattle.mdv_volumes.specs.Histories.{Happens, Stands}
-pub use Rattle.mdv_volumes.specs.History.{Acknowledges, Boots, Changed, Crashes, Created, Creation, Deed, Deleted, Deletes, Event, History, OfDatabase, OfVolume, Reads, Saw, Shows, Stops, Wrote}
+pub use Rattle.mdv_volumes.specs.History.{Acknowledges, Boots, Changed, Crashes, Created, Creation, Deed, Deleted, Deletes, Event, History, OfDatabase, OfVolume, Reads, Saw, Shows, Stops, Unsettles, Wrote}
 pub use Rattle.mdv_volumes.specs.History.{history_after, history_after_all}
 pub use Rattle.mdv_volumes.specs.HistoryLaws.{AreWoken, CanTell, IsUpon}
-pub use Rattle.mdv_volumes.specs.Tables.{IsMapOf}
+pub use Rattle.mdv_volumes.specs.Tables.{IsMapOf, map_of}
 pub use Rattle.mdv_words.specs.Line.{Line}
 pub use Rattle.mdv_words.specs.Listed.{Replicas, listed_by, meant}
 pub use Rattle.mdv_words.specs.declared.command.Command.TheVariants.{AddListed, AddPlaces, DropPlaces, Print, Read, Write}

@@ -1,7 +1,7 @@
 -- What a command comes to, and a line.
 use Rattle.std.specs.Prelude.{◌≡◌, ◌+◌, ◌≤◌, ◌^◌, ℕ, true, false, List, [], ◌∷◌, length, MatchOption, Option, Some, None}
 use Rattle.std.specs.Bool.{MatchBool}
-use Rattle.mdv_engine_law.specs.Below.{DriveBlock, VolId, Refusal, BadLine, IoFault, OutOfMemory, TooMany, entries_reply, values_reply, Entry, IsTab, listing_of, printed_reply, MakeStripe, Command, AddListed, AddPlaces, DropPlaces, Opened, Read, SliceLine, SliceName, Table, Write, Line, meant}
+use Rattle.mdv_engine_law.specs.Below.{Map, VolId, lies_on, Refusal, BadLine, IoFault, OutOfMemory, TooMany, entries_reply, values_reply, Entry, IsTab, listing_of, printed_reply, MakeStripe, Command, AddListed, AddPlaces, DropPlaces, Opened, Read, SliceLine, SliceName, Table, Write, Line, meant}
 use Rattle.mdv_standing.specs.Creating.{first_mark}
 use Rattle.mdv_store.specs.Commit as commit
 use Rattle.mdv_store.specs.Create as create
@@ -24,7 +24,7 @@ use Rattle.mdv_engine_law.specs.declared.host.Host.{Host}
 use Rattle.mdv_engine_law.specs.Answers.{accepted, refusing, telling}
 use Rattle.mdv_shelf.specs.Failing.{AreCalm, FailedOn, Outcomes}
 use Rattle.mdv_engine_law.specs.Hosts.{identity_of, key_of, lines_asked, opened_area, places_area}
-use Rattle.mdv_engine_law.specs.Line.{AreCalmBeside, AreFormedOn, Kept, Memory, IsSameBeside, Stays, IsCreated, IsUncreated, IsUnbegun, IsCommitted, IsOpenOn, IsSame, AreBlocksAt, ArePut, MayBePut, IsRebooted, IsTurnedDown, blocks_of}
+use Rattle.mdv_engine_law.specs.Line.{AreCalmBeside, AreFormedOn, Kept, Memory, IsSameBeside, Stays, IsCreated, IsUncreated, IsUnbegun, IsCommitted, IsOpenOn, IsSame, HasBlocks, HasUnsettled, AreSeen, ArePut, MayBePut, IsRebooted, IsTurnedDown}
 use Rattle.mdv_engine_law.specs.Moves.{HasMovedOn, IsDeletedOn, IsLostChange, IsSpentChange, IsUndeletedOn, IsUnmovedOn, LeavesLists, drop_of}
 use Rattle.mdv_engine_law.specs.Places.{are_all, list_of}
 use Rattle.mdv_engine_law.specs.Replies.{Blame}
@@ -38,7 +38,7 @@ case_of host kept = record { host = host; memory = kept.memory }
 abbrev pub IsAllowed : Case → Command → Type 0
 IsAllowed case command = refusal_of case command ≡ None
 
--- What a command leaves that is done, and what it tells: a database that was made, or where one is open its places after the change; none where all went; the table after the change; what the drive has in the
+-- What a command leaves that is done, and what it tells: a database that was made, or where one is open its places after the change; none where all went; the table after the change; what the drives have in the
 -- volume's blocks; the block in its place; the open table, printed. Never what an entry says that isn't kept.
 abbrev pub Effect : Outcomes → Host → Kept → Command → Answer → Kept → Type 0
 Effect calls host kept (AddPlaces slices force count blocks) answer next =
@@ -49,17 +49,19 @@ Effect calls host kept (DropPlaces slices force) answer next =
 Effect calls host kept (command.MakeStripe volume slice) answer next =
     (answer ≡ accepted) × (o : Opened) × (kept.memory.opened ≡ Some o) × IsCommitted calls host o (table_after host.drives (MakeStripe volume slice) o.table) kept next
 Effect calls host kept (Read volume at count) answer next =
-    AreCalm calls × (from : DriveBlock) × AreBlocksAt host kept.memory volume at count from × (answer ≡ telling (values_reply at (blocks_of kept.content from count))) × Stays kept next
+    AreCalm calls × (v : Map) × HasBlocks host kept.memory volume at count v × (blocks : List (List ℕ)) × (length blocks ≡ count) × AreSeen v at blocks kept.content × (answer ≡ telling (values_reply at blocks)) × Stays kept next
 Effect calls host kept (Write volume at block) answer next =
-    AreCalm calls × (place : DriveBlock) × AreBlocksAt host kept.memory volume at 1 place × (answer ≡ accepted) × (next.memory ≡ kept.memory) × ArePut place (block ∷ []) kept.content next.content
+    AreCalm calls × (v : Map) × HasBlocks host kept.memory volume at 1 v × (answer ≡ accepted) × (next.memory ≡ kept.memory) × ArePut v at (block ∷ []) kept.content next.content
 Effect calls host kept (command.Print names) answer next =
     AreCalm calls × (o : Opened) × (kept.memory.opened ≡ Some o) × (answer ≡ telling (printed_reply (listing_of o.table.plan names))) × Stays kept next
 
--- the volume has these blocks, and a call on their drive failed
+-- the volume has these blocks, and a call failed on a drive that one of them lies on, and on no other
 pub record FailedBlocks (calls : Outcomes) (host : Host) (memory : Memory) (volume : VolId) (at count : ℕ) : Type 0 where
-  pub place : DriveBlock
-  pub there : AreBlocksAt host memory volume at count place
-  pub failed : FailedOn place.drive calls
+  pub map : Map
+  pub there : HasBlocks host memory volume at count map
+  pub drive : ℕ
+  pub on : lies_on map at count drive ≡ true
+  pub failed : FailedOn drive calls
 
 -- places of the open database were lost, so that of a list, the first one of which that is so, fewer than half took the table; no call failed beside their drives
 pub record IsLostCommit (calls : Outcomes) (old : Opened) (table : Table) (active listed : ℕ) : Type 0 where
@@ -123,7 +125,7 @@ MaySpend memory (Read volume at count) = ⊥
 MaySpend memory (Write volume at block) = ⊥
 MaySpend memory (command.Print names) = ⊥
 
--- What is left where a call on a drive failed and the line tells it: one of the places that were to be formatted, one of those that all go, or that of the blocks, of which memory isn't clean any more. A change that can't be
+-- What is left where a call on a drive failed and the line tells it: one of the places that were to be formatted, one of those that all go, or one of the drives of the blocks, which is unsteady from then on if they were to be written. A change that can't be
 -- committed ends the run instead.
 abbrev pub Fault : Outcomes → Host → Kept → Command → Kept → Type 0
 Fault calls host kept (AddPlaces slices force count blocks) next =
@@ -131,9 +133,9 @@ Fault calls host kept (AddPlaces slices force count blocks) next =
 Fault calls host kept (AddListed number force) next = ⊥
 Fault calls host kept (DropPlaces slices force) next = (o : Opened) × (kept.memory.opened ≡ Some o) × (are_all o slices ≡ true) × IsUndeletedOn calls host o kept next
 Fault calls host kept (command.MakeStripe volume slice) next = ⊥
-Fault calls host kept (Read volume at count) next = (place : DriveBlock) × FailedOn place.drive calls × AreBlocksAt host kept.memory volume at count place × Stays kept next
+Fault calls host kept (Read volume at count) next = FailedBlocks calls host kept.memory volume at count × Stays kept next
 Fault calls host kept (Write volume at block) next =
-    (place : DriveBlock) × FailedOn place.drive calls × AreBlocksAt host kept.memory volume at 1 place × (next.memory ≡ record kept.memory { clean = false }) × MayBePut place (block ∷ []) kept.content next.content
+    (failed : FailedBlocks calls host kept.memory volume at 1) × HasUnsettled failed.drive kept.memory next.memory × MayBePut failed.map at (block ∷ []) kept.content next.content
 Fault calls host kept (command.Print names) next = ⊥
 
 -- What is left where memory was wanting. A table is judged before it is copied, and how long its record is behind that; a write takes none, nor does a deletion of all places.

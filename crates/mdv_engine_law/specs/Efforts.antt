@@ -1,5 +1,5 @@
 -- How many calls on the drives a line makes, and how many blocks it writes.
-use Rattle.std.specs.Prelude.{◌≡◌, ◌⊎◌, ℕ, ◌+◌, ◌*◌, Bool, true, false, List, length, Contains, None, Option, Some}
+use Rattle.std.specs.Prelude.{◌≡◌, ◌⊎◌, ℕ, ◌+◌, ◌*◌, min, Bool, true, false, List, length, Contains, None, Option, Some}
 use Rattle.std.specs.Bool.{MatchBool}
 use Rattle.mdv_base.specs.DriveSet.{no_drives}
 use Rattle.mdv_shelf.specs.Everywhere.{Image}
@@ -24,7 +24,7 @@ use Rattle.mdv_survey.specs.Counts.{AreLinesBy}
 use Rattle.mdv_survey.specs.declared.replica.Survey.{Survey}
 use Rattle.mdv_words.specs.declared.command.Command.TheVariants.{MakeStripe, Print}
 use Rattle.mdv_words.specs.Line as words
-use Rattle.mdv_engine_law.specs.Below.{BootEnd, Command, AddListed, AddPlaces, DropPlaces, DriveNo, Drives, Geometry, IoFault, Line, Opened, OutOfMemory, Read, Seat, SliceLine, Table, Write, active_of, meant, record_text}
+use Rattle.mdv_engine_law.specs.Below.{BootEnd, Command, AddListed, AddPlaces, DropPlaces, DriveNo, Drives, Geometry, IoFault, Line, Opened, OutOfMemory, Read, Map, Seat, SliceLine, Table, VolId, Write, active_of, drives, map_of, meant, no_map, pieces, record_text}
 use Rattle.mdv_engine_law.specs.declared.answer.Answer.{Answer}
 use Rattle.mdv_engine_law.specs.declared.answer.Answer.TheVariants.{Said, Over}
 use Rattle.mdv_engine_law.specs.declared.answer.Ended.TheVariants as ended
@@ -77,26 +77,42 @@ pub record DeletionCalls (calls : Outcomes) (made : Made) (g : Geometry) (o : Op
   pub all : HaveNoFailure (drives_moved g o KeepsFirst) calls → made.exactly (deletion_calls o) (deletion_blocks o)
   pub some : made.within 14 (deletion_calls o) (deletion_blocks o)
 
+abbrev pub map_or_none : Option Map → Map
+map_or_none None = no_map
+map_or_none (Some v) = v
+
+-- the map of a volume of the open database, and none where there is no such one
+abbrev pub map_open : Geometry → Option Opened → VolId → Map
+map_open g None volume = no_map
+map_open g (Some o) volume = map_or_none (map_of g o.table volume)
+
+-- in how many pieces blocks of a volume lie, and on how many drives
+abbrev pub pieces_in : Host → Option Opened → VolId → ℕ → ℕ → ℕ
+pieces_in host opened volume at count = pieces (map_open host.drives opened volume) at count
+
+abbrev pub drives_in : Host → Option Opened → VolId → ℕ → ℕ → ℕ
+drives_in host opened volume at count = drives (map_open host.drives opened volume) at count
+
 -- the calls of a creation that is done, and of a change, by what was open before and is then
 abbrev pub MadeCallsOf : Outcomes → Made → Command → Host → Option Opened → Option Opened → Type 0
 MadeCallsOf calls made (AddPlaces slices force count blocks) host None (Some o) = CreationCalls made (lines_asked host slices) count blocks o
 MadeCallsOf calls made (AddPlaces slices force count blocks) host (Some old) new = MoveCalls calls made host.drives old (Adds (lines_asked host slices) count blocks)
 MadeCallsOf calls made (DropPlaces slices force) host (Some old) new = MatchBool (are_all old slices) (DeletionCalls calls made host.drives old) (MoveCalls calls made host.drives old (Drops slices))
 MadeCallsOf calls made (MakeStripe volume slice) host (Some old) (Some o) = PassCalls made (blocks_for (length (record_text o.table))) old.seats o.seats
-MadeCallsOf calls made (Read volume at count) host old new = made.exactly 1 0
-MadeCallsOf calls made (Write volume at block) host old new = made.exactly 2 1
+MadeCallsOf calls made (Read volume at count) host old new = made.exactly (pieces_in host old volume at count) 0
+MadeCallsOf calls made (Write volume at block) host old new = made.exactly (pieces_in host old volume at 1 + drives_in host old volume at 1) 1
 MadeCallsOf calls made (Print names) host old new = NoCalls made
 MadeCallsOf calls made other host old new = ⊥
 
 -- the calls of a command in which memory was wanting: a read has its blocks before the text of them is made, all else none
-abbrev pub wanting_calls : Command → ℕ
-wanting_calls (AddPlaces slices force count blocks) = 0
-wanting_calls (AddListed number force) = 0
-wanting_calls (DropPlaces slices force) = 0
-wanting_calls (MakeStripe volume slice) = 0
-wanting_calls (Read volume at count) = 1
-wanting_calls (Write volume at block) = 0
-wanting_calls (Print names) = 0
+abbrev pub wanting_calls : Host → Option Opened → Command → ℕ
+wanting_calls host old (AddPlaces slices force count blocks) = 0
+wanting_calls host old (AddListed number force) = 0
+wanting_calls host old (DropPlaces slices force) = 0
+wanting_calls host old (MakeStripe volume slice) = 0
+wanting_calls host old (Read volume at count) = pieces_in host old volume at (min count 1024)
+wanting_calls host old (Write volume at block) = 0
+wanting_calls host old (Print names) = 0
 
 -- how many calls the formats of a creation make, and how many blocks they write
 abbrev pub format_calls : List SliceLine → ℕ → ℕ
@@ -114,8 +130,8 @@ FaultCalls made (AddListed number force) host old = ⊥
 FaultCalls made (DropPlaces slices force) host None = ⊥
 FaultCalls made (DropPlaces slices force) host (Some o) = MatchBool (are_all o slices) (made.within 12 (deletion_calls o) (deletion_blocks o)) ⊥
 FaultCalls made (MakeStripe volume slice) host old = ⊥
-FaultCalls made (Read volume at count) host old = made.within 1 1 0
-FaultCalls made (Write volume at block) host old = made.within 1 2 1
+FaultCalls made (Read volume at count) host old = made.within 1 (pieces_in host old volume at count) 0
+FaultCalls made (Write volume at block) host old = made.within 1 (pieces_in host old volume at 1 + drives_in host old volume at 1) 1
 FaultCalls made (Print names) host old = ⊥
 
 -- Where too few places took a table: a creation's formats were made, and a change made a call.
@@ -132,7 +148,7 @@ abbrev pub CommandCalls : Outcomes → Made → Host → Command → Answer → 
 CommandCalls calls made host command (Said outcome.Ok) old new = MadeCallsOf calls made command host old new
 CommandCalls calls made host command (Said (outcome.Values text)) old new = MadeCallsOf calls made command host old new
 CommandCalls calls made host command (Said (outcome.Refused IoFault)) old new = FaultCalls made command host old
-CommandCalls calls made host command (Said (outcome.Refused OutOfMemory)) old new = made.within 0 (wanting_calls command) 0
+CommandCalls calls made host command (Said (outcome.Refused OutOfMemory)) old new = made.within 0 (wanting_calls host old command) 0
 CommandCalls calls made host command (Said (outcome.Refused other)) old new = NoCalls made
 CommandCalls calls made host command (Over (ended.Lost active listed)) old new = LossCalls made command host old
 CommandCalls calls made host command (Over other) old new = NoCalls made

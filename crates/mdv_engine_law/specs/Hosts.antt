@@ -1,13 +1,13 @@
 -- A host: what it sees of the table of drives, where its database's replicas may lie, and the blocks that its run may touch.
-use Rattle.std.specs.Prelude.{◌≡◌, ◌<◌, ◌+◌, ◌*◌, ◌^◌, ℕ, Bool, not, ◌&&◌, List, [], ◌∷◌, filter, filter_map, Option, Some, None, Contains}
+use Rattle.std.specs.Prelude.{◌≡◌, ◌<◌, ◌+◌, ◌*◌, ◌^◌, ℕ, List, [], ◌∷◌, filter, filter_map, Option, Some, None, Contains}
 use Rattle.std.specs.List.{flat_map, list_any}
 use Rattle.mdv_home.specs.View.{own_view}
+use Rattle.mdv_layout_law.specs.Laid.{plain_area}
 use Rattle.mdv_places.specs.Moments.{found_at, master_area}
-use Rattle.mdv_plan.specs.Slices.{meets_db}
 use Rattle.mdv_store_law.specs.Changes.{is_on}
 use Rattle.mdv_table.specs.Plan.{last_of}
 use Rattle.mdv_name.specs.SliceIndex.{slice_at}
-use Rattle.mdv_engine_law.specs.Below.{Area, Geometry, Identity, IsGeometry, IsOnShelf, IsSound, Key, KeptOutside, Local, Opened, Place, PlaceAt, Replicas, SliceAt, SliceLine, SliceName, Tale, covers, joined, nowhere, range, seats_area, site_area, site_of, sizes_of}
+use Rattle.mdv_engine_law.specs.Below.{Area, Geometry, Identity, IsGeometry, IsOnShelf, IsSound, Key, KeptOutside, Local, Opened, Place, PlaceAt, Replicas, SliceAt, SliceLine, SliceName, Tale, joined, nowhere, range, seats_area, site_area, site_of, sizes_of}
 use Rattle.mdv_engine_law.specs.declared.host.Host.{Host}
 
 -- the key of the host's own database
@@ -45,15 +45,7 @@ abbrev pub dropped_area : Geometry → Option Opened → List SliceName → Area
 dropped_area g (Some o) slices = masters_area g (filter (is_on slices) (last_of o.table.plan.lists))
 dropped_area g None slices = nowhere
 
--- a slice on which volumes may lie: it isn't set aside for replicas, and shares no block with one that is
-abbrev pub takes_volumes : Geometry → SliceLine → Bool
-takes_volumes g line = not line.at.db && not (meets_db g line.name)
-
--- the blocks of these slices, of those that the host sees
-abbrev pub plain_area : Geometry → Area
-plain_area g drive block = list_any (λ line. takes_volumes g line && covers line.at.drive.0 line.at.start line.at.blocks drive block) g.slices
-
--- the blocks that a run of the host may touch: those where its replicas may lie, and those of such slices
+-- the blocks that a run of the host may touch: those where its replicas may lie, and those of the slices that it sees on which volumes may lie
 abbrev pub host_area : Host → Area
 host_area host = joined (site_area host.site) (plain_area host.drives)
 

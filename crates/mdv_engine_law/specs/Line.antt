@@ -1,7 +1,6 @@
 -- What is kept from line to line, what a boot comes to, and what lines ask.
-use Rattle.std.specs.Prelude.{◌≡◌, ◌⊎◌, ◌+◌, ◌<◌, ◌≤◌, ℕ, Bool, true, false, if◌then◌else◌, List, [], ◌∷◌, length, map, Option, Some, None, Contains, slice_index_or}
+use Rattle.std.specs.Prelude.{◌≡◌, ◌⊎◌, ◌+◌, ◌<◌, ◌≤◌, ℕ, Bool, true, false, if◌then◌else◌, List, [], ◌∷◌, length, Option, Some, None, Contains, slice_index_or}
 use Rattle.std.specs.Bool.{MatchBool}
-use Rattle.std.specs.List.{range_with_len}
 use Rattle.mdv_places.specs.Asked.{names_of}
 use Rattle.mdv_shelf.specs.Failing.{Outcomes}
 use Rattle.mdv_standing.specs.Laws.{ShowsNoTable}
@@ -22,7 +21,7 @@ use Rattle.mdv_survey.specs.declared.replica.Survey.{Survey}
 use Rattle.mdv_table.specs.Plan.{settled}
 use Rattle.mdv_words.specs.declared.command.Command.TheVariants as command
 use Rattle.mdv_words.specs.Line as words
-use Rattle.mdv_engine_law.specs.Below.{Area, BootEnd, Changed, Deleted, SliceName, Command, Created, Deed, DriveBlock, DriveNo, Drives, Entry, Geometry, Head, Identity, Image, IsMapOf, IsNewestOf, IsOwn, Key, Line, MakeStripe, OfPlan, Opened, Read, Refusal, Seat, SliceLine, Slot, Spells, Table, Tale, VolId, Write, Wrote, covers, has_drive, last, no_drives, replicas_of, run_map, seats_area, site_of, AddListed, AddPlaces, DropPlaces}
+use Rattle.mdv_engine_law.specs.Below.{Area, BootEnd, Changed, Deleted, SliceName, Command, Created, Deed, DriveNo, Drives, Entry, Geometry, Head, Identity, Image, IsMapOf, IsNewestOf, IsOwn, Key, Line, MakeStripe, OfPlan, Opened, Read, Refusal, Seat, SliceLine, Slot, Spells, Table, Tale, VolId, Write, Wrote, has_drive, last, no_drives, replicas_of, seats_area, site_of, AddListed, AddPlaces, DropPlaces, Among, HasDriveBlock, IsOff, Map, readings}
 use Rattle.mdv_engine_law.specs.declared.answer.Answer.{Answer}
 use Rattle.mdv_engine_law.specs.declared.answer.Answer.TheVariants.{Over}
 use Rattle.mdv_engine_law.specs.declared.answer.Ended.TheVariants as ended
@@ -30,14 +29,19 @@ use Rattle.mdv_engine_law.specs.declared.host.Host.{Host}
 use Rattle.mdv_engine_law.specs.Answers.{accepted, refusing}
 use Rattle.mdv_engine_law.specs.Hosts.{identity_of, key_of, lines_asked, places_area}
 
--- what an engine keeps in memory: the open database, which drives the last boot brought up, whether no call failed in it, nor in a write of blocks or the blanking of a last replica since, how many
--- creations the run has begun, and the entries of the last `tab` block that was kept since that boot
+-- what an engine keeps in memory: the open database, which drives the last boot brought up, on which of them a write of blocks failed since, whether no call failed in the boot, nor in the blanking of a last replica
+-- since, how many creations the run has begun, and the entries of the last `tab` block that was kept since that boot
 pub record Memory : Type 0 where
   pub opened : Option Opened
   pub up : Drives
+  pub unsteady : Drives
   pub clean : Bool
   pub begun : ℕ
   pub entries : List Entry
+
+-- whether a drive is one of these
+abbrev pub is_in : Drives → ℕ → Bool
+is_in drives drive = has_drive drives (record { 0 = drive })
 
 -- what a read gives of the drives' blocks
 abbrev pub contents : Tale → Image
@@ -53,7 +57,7 @@ kept_at memory t = record { memory = memory; content = contents t }
 
 -- before a boot there is nothing in memory but how many creations were begun
 abbrev pub unbooted : ℕ → Memory
-unbooted begun = record { opened = None; up = no_drives; clean = false; begun = begun; entries = [] }
+unbooted begun = record { opened = None; up = no_drives; unsteady = no_drives; clean = false; begun = begun; entries = [] }
 
 -- each block is as it was
 abbrev pub IsSame : Image → Image → Type 0
@@ -126,35 +130,36 @@ pub record IsCommitted (calls : Outcomes) (host : Host) (old : Opened) (table : 
   pub content : IsOpenOn host.drives opened next.content
   pub beside : IsSameBeside (seats_area old.seats) kept.content next.content
 
--- so many blocks of a drive, from this one on
-abbrev pub blocks_of : Image → DriveBlock → ℕ → List (List ℕ)
-blocks_of content from count = map (content from.drive) (range_with_len from.block count)
+-- the open database has the volume, with this map, and of it so many blocks from that one on
+pub record HasBlocks (host : Host) (memory : Memory) (volume : VolId) (at count : ℕ) (v : Map) : Type 0 where
+  pub o : Opened
+  pub opened : memory.opened ≡ Some o
+  pub lies : IsMapOf host.drives o.table volume v
+  pub within : at + count ≤ v.blocks
 
--- the open database has the volume, on so many blocks of that drive from the first on
-abbrev pub HasVolumeOn : Host → Memory → VolId → ℕ → ℕ → ℕ → Type 0
-HasVolumeOn host memory volume drive first count = (o : Opened) × (memory.opened ≡ Some o) × IsMapOf host.drives o.table volume (run_map drive first count)
+-- each of these values is what one of the block's copies holds
+pub record AreSeen (v : Map) (at : ℕ) (blocks : List (List ℕ)) (content : Image) : Type 0 where
+  pub each : (k : ℕ) → k < length blocks → Among (readings v content (at + k)) (slice_index_or blocks k [])
 
--- the volume has these blocks, which lie on a drive from that one on
-pub record AreBlocksAt (host : Host) (memory : Memory) (volume : VolId) (at count : ℕ) (from : DriveBlock) : Type 0 where
-  pub first : ℕ
-  pub blocks : ℕ
-  pub lies : HasVolumeOn host memory volume from.drive first blocks
-  pub within : at + count ≤ blocks
-  pub block_is : from.block ≡ first + at
+-- each copy of these blocks holds these values, and all others are as they were
+pub record ArePut (v : Map) (at : ℕ) (blocks : List (List ℕ)) (old new : Image) : Type 0 where
+  pub here : (k : ℕ) (x : List ℕ) → k < length blocks → Among (readings v new (at + k)) x → x ≡ slice_index_or blocks k []
+  pub elsewhere : (drive b : ℕ) → IsOff v at (length blocks) drive b → new drive b ≡ old drive b
 
--- the blocks there are these, and all others as they were
-pub record ArePut (from : DriveBlock) (blocks : List (List ℕ)) (old new : Image) : Type 0 where
-  pub here : (k : ℕ) → k < length blocks → new from.drive (from.block + k) ≡ slice_index_or blocks k []
-  pub elsewhere : (drive b : ℕ) → covers from.drive from.block (length blocks) drive b ≡ false → new drive b ≡ old drive b
+-- wherever one of these blocks lies, it is as it was, or as it was to be, and all others are as they were
+pub record MayBePut (v : Map) (at : ℕ) (blocks : List (List ℕ)) (old new : Image) : Type 0 where
+  pub here : (k drive b : ℕ) → k < length blocks → HasDriveBlock (v.places (at + k)) drive b → (new drive b ≡ old drive b) ⊎ (new drive b ≡ slice_index_or blocks k [])
+  pub elsewhere : (drive b : ℕ) → IsOff v at (length blocks) drive b → new drive b ≡ old drive b
 
--- each block there is as it was, or as it was to be, and all others are as they are
-pub record MayBePut (from : DriveBlock) (blocks : List (List ℕ)) (old new : Image) : Type 0 where
-  pub here : (k : ℕ) → k < length blocks → (new from.drive (from.block + k) ≡ old from.drive (from.block + k)) ⊎ (new from.drive (from.block + k) ≡ slice_index_or blocks k [])
-  pub elsewhere : (drive b : ℕ) → covers from.drive from.block (length blocks) drive b ≡ false → new drive b ≡ old drive b
+-- the drive is unsteady, and of the others those that were
+pub record HasUnsettled (drive : ℕ) (old new : Memory) : Type 0 where
+  pub beside : new ≡ record old { unsteady = new.unsteady }
+  pub here : is_in new.unsteady drive ≡ true
+  pub others : (other : ℕ) → (other ≡ drive → ⊥) → is_in new.unsteady other ≡ is_in old.unsteady other
 
 -- what is in memory behind a boot that was answered
 abbrev pub booted_with : Option Opened → Drives → Bool → ℕ → Memory
-booted_with opened up clean begun = record { opened = opened; up = up; clean = clean; begun = begun; entries = [] }
+booted_with opened up clean begun = record { opened = opened; up = up; unsteady = no_drives; clean = clean; begun = begun; entries = [] }
 
 -- what a boot's end opens
 abbrev pub opened_by : BootEnd → Option Opened

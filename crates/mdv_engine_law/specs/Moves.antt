@@ -60,7 +60,7 @@ pub record IsUnmovedOn (calls : Outcomes) (host : Host) (o : Opened) (lines : Li
   pub beside : IsSameBeside (places_area lines count blocks) kept.content next.content
 
 -- The database is gone: no call failed, its first place alone was left before, none is open, and the master of each place that it had reads as zeros; each block outside its active places and those masters is as it was.
--- Memory stays as clean as it was: so behind a write that failed no other one may be made till the next boot.
+-- Memory stays as clean as it was.
 pub record IsDeletedOn (calls : Outcomes) (host : Host) (o : Opened) (kept next : Kept) : Type 0 where
   pub calm : AreCalm calls
   pub memory : next.memory ≡ record kept.memory { opened = None }

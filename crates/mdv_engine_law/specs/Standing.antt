@@ -1,9 +1,10 @@
 -- How the drives stand with their history at each moment of a line.
-use Rattle.std.specs.Prelude.{◌≡◌, ◌⊎◌, ◌<◌, ℕ, Bool, ◌-◌, true, false, List, [], ◌∷◌, ◌++◌, flat_map, length, slice_index_or, take, Option, None, Some, IfSome, Contains}
+use Rattle.std.specs.Prelude.{◌≡◌, ◌⊎◌, ◌+◌, ◌<◌, ℕ, Bool, ◌&&◌, not, true, List, [], ◌∷◌, ◌++◌, flat_map, length, slice_index_or, take, Option, None, Some, IfSome, Contains}
 use Rattle.std.specs.Bool.{MatchBool}
-use Rattle.mdv_engine_law.specs.Below.{Command, Database, Write, DriveBlock, DriveNo, Drives, has_drive, IsOldOrNew, IsSettled, KeptOutside, covers, nowhere, range, Wrote, Tale, told, MayLeave, last, Line, Changed, VolId, Map, IsMapOf, area_of_map, IsOpenIn, IsOpenedAt, site_area, History, Deed, Created, Event, history_after, Adds, AreWoken, CanTell, Issue, OfChange, OfCreation, OfEnd, OfPlaces, OfPlan, AddPlaces, listed_by, Change, Deleted, DropPlaces, Opened, Place, PlaceAt, SliceLine, SliceName, joined}
+use Rattle.mdv_engine_law.specs.Below.{Command, Database, Write, DriveNo, Drives, has_drive, IsOldOrNew, KeptOutside, nowhere, Wrote, Tale, told, MayLeave, last, Line, Changed, Map, IsOpenIn, IsOpenedAt, site_area, History, Deed, Created, Event, history_after, Adds, AreWoken, CanTell, Issue, OfChange, OfCreation, OfEnd, OfPlaces, OfPlan, AddPlaces, listed_by, Change, Deleted, DropPlaces, Opened, Place, PlaceAt, SliceLine, SliceName, joined, AreOnDisk, HasDriveBlock, IsKept, IsOff}
 use Rattle.mdv_databases.specs.Booting.{MeetsStale}
 use Rattle.mdv_databases.specs.Lasting.{AreFreed}
+use Rattle.mdv_layout_law.specs.Laid.{plain_area}
 use Rattle.mdv_places.specs.Asked.{seats_added}
 use Rattle.mdv_places.specs.Asked as moves
 use Rattle.mdv_places.specs.Moments.{IsBlankAt, places_dropped}
@@ -22,14 +23,14 @@ use Rattle.mdv_engine_law.specs.declared.answer.Outcome.TheVariants as outcome
 use Rattle.mdv_engine_law.specs.declared.answer.Reply.{Reply}
 use Rattle.mdv_engine_law.specs.declared.host.Host.{Host}
 use Rattle.mdv_engine_law.specs.Answers.{IsMereRefusal, IsSaid}
-use Rattle.mdv_engine_law.specs.Awake.{Happening, BootBegins, is_in}
+use Rattle.mdv_engine_law.specs.Awake.{Happening, BootBegins}
 use Rattle.mdv_shelf.specs.Failing.{Outcomes}
-use Rattle.mdv_engine_law.specs.Hosts.{StaysHome, dropped_area, identity_of, key_of, lines_asked, listed_area, opened_area, places_area, plain_area}
+use Rattle.mdv_engine_law.specs.Hosts.{StaysHome, dropped_area, identity_of, key_of, lines_asked, listed_area, opened_area, places_area}
 use Rattle.mdv_store.specs.Create.{seats_asked}
 use Rattle.mdv_store.specs.Seats.{AreTheirs}
 use Rattle.mdv_engine_law.specs.Commands.{ComesTo}
 use Rattle.mdv_engine_law.specs.Efforts.{LineCalls, replied_to}
-use Rattle.mdv_engine_law.specs.Line.{Ask, AreBlocksAt, Kept, Nothing, ToBoot, ToDo, ToDrop, ToMake, ToMakeListed, ToSee, Memory, IsSame, asked_by_line, deeds, contents, kept_at}
+use Rattle.mdv_engine_law.specs.Line.{Ask, HasBlocks, Kept, Nothing, ToBoot, ToDo, ToDrop, ToMake, ToMakeListed, ToSee, Memory, IsSame, asked_by_line, deeds, contents, is_in, kept_at}
 use Rattle.mdv_engine_law.specs.Replies.{Acks, AcksAnswer, AcksBy, IsReply, IsFront, IsTold, issuable, issuable_of, issued_by, text_of}
 
 -- the drives stand with the history
@@ -95,39 +96,30 @@ pub record Executed (calls : Outcomes) (replies : Type 0) (made : Made) (host : 
   pub effort : LineCalls calls (replied_to answer made) host (kept_at old t) line answer (kept_at new u)
   pub replied : Replied replies answer reply t u
 
--- whether the last boot brought the drive up
-abbrev pub is_up : Memory → ℕ → Bool
-is_up memory drive = is_in memory.up drive
+-- whether the last boot brought the drive up, and no write of blocks failed there since
+abbrev pub is_steady : Memory → ℕ → Bool
+is_steady memory drive = is_in memory.up drive && not (is_in memory.unsteady drive)
 
--- a database is open, and no volume of it has the block
-abbrev pub IsOfNoVolume : Host → Memory → ℕ → ℕ → Type 0
-IsOfNoVolume host memory drive block = (o : Opened) × (memory.opened ≡ Some o) × ((volume : VolId) (v : Map) → IsMapOf host.drives o.table volume v → area_of_map v drive block ≡ false)
-
--- A block of a slice on which volumes may lie that has one value: each, where memory is clean; and else, since a write of a volume's block may have failed, one that no volume of the open database has.
-pub record IsSteadyBlock (host : Host) (memory : Memory) (drive block : ℕ) : Type 0 where
-  pub plain : plain_area host.drives drive block ≡ true
-  pub free : memory.clean ≡ false → IsOfNoVolume host memory drive block
-
--- What is known of the drives between two lines: where a database is open, whatever a crash leaves has its replica at each active place, with the newest table; and of a steady block on a drive that the last boot
--- brought up a crash leaves what a read gives.
+-- What is known of the drives between two lines: where a database is open, whatever a crash leaves has its replica at each active place, with the newest table; and of a block of a slice on which volumes may lie
+-- a crash leaves what a read gives, where its drive is steady.
 pub record Knows (host : Host) (memory : Memory) (t : Tale) : Type 0 where
   pub opened : IfSome memory.opened (λ o. (o.key ≡ key_of host) × IsOpenedAt host.drives o t)
-  pub steady : (drive block : ℕ) → is_up memory drive ≡ true → IsSteadyBlock host memory drive block → (x : List ℕ) → MayLeave t drive block x → x ≡ last t drive block
+  pub steady : (drive block : ℕ) → is_steady memory drive ≡ true → plain_area host.drives drive block ≡ true → (x : List ℕ) → MayLeave t drive block x → x ≡ last t drive block
 
 -- The databases of a history are the host's own, and of those that this run began, so many so far, none has a number that is still to come.
 pub record AreOwn (host : Host) (begun : ℕ) (h : History) : Type 0 where
   pub own : (d : Database) → Contains h.databases d → d.key ≡ key_of host
   pub before : (d : Database) → Contains h.databases d → d.identity.fresh ≡ host.fresh → d.identity.number < begun
 
--- what is known of a history there: the open database is its key's current one, with the newest table of its log; where none is open, and memory is clean, another one may be created; the last boot brought up what is in memory, and has found one value of each
--- block of each volume on drives that it brought up, or the volume was made since
+-- what is known of a history there: the open database is its key's current one, with the newest table of its log; where none is open, and memory is clean, another one may be created; the last boot brought up the drives that are steady, and others on which a write failed since; it
+-- has found one value of each block of each volume on steady drives, or the volume was made since
 pub record IsKnown (host : Host) (memory : Memory) (h : History) (t : Tale) : Type 0 where
   pub stands : StandsAt host h t
   pub its : AreOwn host memory.begun h
   pub is_open : IfSome memory.opened (λ o. IsOpenIn host.drives o h.databases t)
   pub free : memory.opened ≡ None → memory.clean ≡ true → AreFreed host.drives h.databases (key_of host) t
-  pub up : h.up (key_of host) ≡ memory.up
-  pub woken : IfSome memory.opened (λ o. AreWoken host.drives o.table (is_up memory) h (key_of host))
+  pub up : (drive : ℕ) → is_in (h.up (key_of host)) drive ≡ is_steady memory drive
+  pub woken : IfSome memory.opened (λ o. AreWoken host.drives o.table (is_steady memory) h (key_of host))
   pub knows : Knows host memory t
 
 -- a moment of a boot: nothing is told, nothing outside the blocks that replicas may have is touched, and each history goes on with nothing asked, if the boot meets no stale vote, by events among which one boot begins that brings all of the
@@ -144,10 +136,10 @@ pub record BootedTo (host : Host) (memory : Memory) (t u : Tale) : Type 0 where
   pub knows : Knows host memory u
   pub goes : (h : History) → StandsAt host h t → AreOwn host memory.begun h → MeetsStaleAt host h t ⊎ Goes host [] [] (λ es after. IsKnown host memory after u × BootBegins (key_of host) memory.up es) u h
 
--- blocks are written there: each is as it was, or as it was to be, also behind a crash, and all others are kept
-pub record ArePutBy (place : DriveBlock) (blocks : List (List ℕ)) (t m : Tale) : Type 0 where
-  pub inside : (block : ℕ) → covers place.drive place.block (length blocks) place.drive block ≡ true → IsOldOrNew t m place.drive block (slice_index_or blocks (block - place.block) [])
-  pub outside : KeptOutside (range place.drive place.block (length blocks)) t m
+-- blocks of a volume are written: wherever one lies, it is as it was, or as it was to be, also behind a crash, and all others are kept
+pub record ArePutBy (v : Map) (at : ℕ) (blocks : List (List ℕ)) (t m : Tale) : Type 0 where
+  pub inside : (k drive block : ℕ) → k < length blocks → HasDriveBlock (v.places (at + k)) drive block → IsOldOrNew t m drive block (slice_index_or blocks k [])
+  pub outside : (drive block : ℕ) → IsOff v at (length blocks) drive block → IsKept t m drive block
 
 -- The blocks that a line which asks this may write, and all others are kept: a boot those that replicas may have; replicas those of the places asked, and where a database is open of its active places; a line by which places go those of the
 -- active places, and the masters of those that go; a change those of the active places; a write its own, each of which is old or new; and any other line none.
@@ -158,7 +150,7 @@ WritesOnly host (ToMake key lines count blocks) memory t m = KeptOutside (site_a
 WritesOnly host (ToMakeListed key number) memory t m = KeptOutside (site_area host.site) t m × KeptOutside (joined (listed_area host (listed_by memory.entries number)) (opened_area memory.opened)) t m
 WritesOnly host (ToDrop key slices force) memory t m = KeptOutside (site_area host.site) t m × KeptOutside (joined (opened_area memory.opened) (dropped_area host.drives memory.opened slices)) t m
 WritesOnly host (ToDo (Changed key change)) memory t m = KeptOutside (opened_area memory.opened) t m
-WritesOnly host (ToDo (Wrote key volume at blocks)) memory t m = KeptOutside nowhere t m ⊎ ((place : DriveBlock) × AreBlocksAt host memory volume at (length blocks) place × ArePutBy place blocks t m)
+WritesOnly host (ToDo (Wrote key volume at blocks)) memory t m = KeptOutside nowhere t m ⊎ ((v : Map) × HasBlocks host memory volume at (length blocks) v × ArePutBy v at blocks t m)
 WritesOnly host (ToDo other) memory t m = KeptOutside nowhere t m
 WritesOnly host (ToSee key volume at count) memory t m = KeptOutside nowhere t m
 
@@ -185,7 +177,7 @@ LeavesBlank calls host memory slices u =
 
 -- What a command leaves that was told `ok`, where its calls came out so: of a write its block on the disk, with all that the drive was given before; where places come a replica at each of them; and where they go nothing there.
 abbrev pub LeavesDone : Outcomes → Host → Memory → Command → Tale → Type 0
-LeavesDone calls host memory (Write volume at block) u = (place : DriveBlock) × AreBlocksAt host memory volume at 1 place × IsSettled place.drive place.block (block ∷ []) u
+LeavesDone calls host memory (Write volume at block) u = (v : Map) × HasBlocks host memory volume at 1 v × AreOnDisk v at (block ∷ []) u
 LeavesDone calls host memory (AddPlaces slices force count blocks) u = LeavesFormed host memory memory.opened (lines_asked host slices) count blocks u
 LeavesDone calls host memory (DropPlaces slices force) u = LeavesBlank calls host memory slices u
 LeavesDone calls host memory other u = Unit {0}

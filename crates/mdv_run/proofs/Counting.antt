@@ -1,5 +1,5 @@
 -- How the calls of a run's turns add up.
-use Rattle.std.proofs.Common.{◌≡◌, ◌⊎◌, ◌≤◌, ◌+◌, ◌*◌, inl, inr, ℕ, zero, suc, Bool, true, false, not, filter, if◌then◌else◌, ◌++◌, [], ◌∷◌, length, List, Option, None, Some, IfSome, refl, sym, ◌∙◌, ap, subst, length-append, arith}
+use Rattle.std.proofs.Common.{◌≡◌, ◌⊎◌, ◌≤◌, ◌+◌, ◌*◌, inl, inr, ℕ, zero, suc, min, Bool, true, false, not, filter, if◌then◌else◌, ◌++◌, [], ◌∷◌, length, List, Option, None, Some, IfSome, refl, sym, ◌∙◌, ap, subst, length-append, arith}
 use Rattle.std.specs.List.{list_any}
 use Rattle.std.proofs.lemmas.List.{length-map}
 use Rattle.std.proofs.lemmas.List.Sums.{count_by-le-length, length-filter}
@@ -25,7 +25,8 @@ use Rattle.mdv_acts.specs.Asked.{blanked_asked}
 use Rattle.mdv_acts.proofs.Acting.{calls_more}
 use Rattle.mdv_acts.proofs.Counting.{blanks_calls, forms_calls}
 use Rattle.mdv_acts.proofs.Ordering.{order_length}
-use Rattle.mdv_engine_law.specs.Efforts.{deletion_calls, places_on}
+use Rattle.mdv_dev.specs.Pieces.{count_to, is_new, is_start}
+use Rattle.mdv_engine_law.specs.Efforts.{deletion_calls, drives_in, map_open, pieces_in, places_on}
 use Rattle.mdv_engine_law.specs.Places.{are_all}
 use Rattle.mdv_places.specs.Asked.{Adds, Asks, Drops, KeepsFirst, acts_moved, claims, list_after, seats_added}
 use Rattle.mdv_places.specs.Counts.{dropped_count, first_count, last_count, move_calls}
@@ -204,6 +205,15 @@ listed_most host opened held r force few =
     let added = added_calls host opened held r.slices force r.count r.blocks in
     omega (arith, few, rows, blanked, added)
 
+-- no more numbers pass a test than there are
+count_most : (test : ℕ → Bool) (n : ℕ) → count_to test n ≤ n
+unfolding count_to
+count_most test zero = omega arith
+count_most test (suc n) = by (test n) (count_most test n) where
+  by : (passes : Bool) → count_to test n ≤ n → count_to test n + (if passes then 1 else 0) ≤ suc n
+  by true rest = omega (arith, rest)
+  by false rest = omega (arith, rest)
+
 -- a command, where the open database is one of the host's
 pub exec_calls : (host : Host) (memory : Memory) → IsWell host memory → (command : Command) (old new : Option ℕ) → RoseByAtMost (1 + calls_of host memory.opened (meant memory.entries command)) old new → RoseByAtMost 2 old new ⊎ IsFew (meant memory.entries command)
     → RoseByAtMost (1 + command_calls host command) old new
@@ -229,8 +239,10 @@ exec_calls host memory well command old new took few = by command took few where
   by (AddListed number force) took few = listed number force (listed_by memory.entries number) took few
   by (DropPlaces slices force) took few = wide (calls_of host memory.opened (DropPlaces slices force)) (14 * 50 + 2) (less memory.opened well.database slices force) took
   by (asked.MakeStripe volume slice) took few = wide (calls_of host memory.opened (asked.MakeStripe volume slice)) (6 * 50) (stripe memory.opened well.database volume slice) took
-  by (Read volume at count) took few = took
-  by (Write volume at block) took few = took
+  by (Read volume at count) took few = (let k = min count 1024 in wide (pieces_in host memory.opened volume at k) k (count_most (is_start (map_open host.drives memory.opened volume) at) k) took)
+  by (Write volume at block) took few =
+      let v = map_open host.drives memory.opened volume in
+      wide (pieces_in host memory.opened volume at 1 + drives_in host memory.opened volume at 1) 2 (omega (arith, count_most (is_start v at) 1, count_most (is_new v at) 1)) took
   by (asked.Print names) took few = took
 
 -- a boot

@@ -1,5 +1,5 @@
 -- How many calls on the bench a run makes at most, by its script.
-use Rattle.std.specs.Prelude.{◌≡◌, ◌⊎◌, ◌≤◌, ◌+◌, ◌*◌, ℕ, List, length, Option, Some, Result}
+use Rattle.std.specs.Prelude.{◌≡◌, ◌⊎◌, ◌≤◌, ◌+◌, ◌*◌, ℕ, min, List, length, Option, Some, Result}
 use Rattle.mdv_shelf.specs.Calls.{RoseByAtMost}
 use Rattle.mdv_engine_law.specs.Efforts.{places_on}
 use Rattle.mdv_engine_law.specs.Hosts.{lines_asked}
@@ -18,13 +18,14 @@ abbrev pub boot_calls : Host → ℕ
 boot_calls host = 2 * length host.site.drives + most_reads host.site + most_calls
 
 -- What a command takes. A change of places twelve for each of fifty and two for each that is wiped, where places are added or some are dropped; with each that is added another eighteen, and two
--- for each that is blanked before, an entry fifty places at most; and where all are dropped two more. A change of volumes takes six for each of fifty places; a read one, a write two, and a print none.
+-- for each that is blanked before, an entry fifty places at most; and where all are dropped two more. A change of volumes takes six for each of fifty places; a read one for each block at most, and
+-- 1,024 at most, a write two, and a print none.
 abbrev pub command_calls : Host → Command → ℕ
 command_calls host (AddPlaces slices force count blocks) = 14 * 50 + (18 * places_on (lines_asked host slices) count + 2 * blanked_asked (lines_asked host slices) count)
 command_calls host (AddListed number force) = 34 * 50
 command_calls host (DropPlaces slices force) = 14 * 50 + 2
 command_calls host (command.MakeStripe volume slice) = 6 * 50
-command_calls host (Read volume at count) = 1
+command_calls host (Read volume at count) = min count 1024
 command_calls host (Write volume at block) = 2
 command_calls host (command.Print names) = 0
 

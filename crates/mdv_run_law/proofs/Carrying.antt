@@ -1,6 +1,6 @@
 -- Where nothing failed and memory wasn't wanting, a line comes to one answer.
-use Rattle.std.proofs.Common.{◌≡◌, inl, inr, ℕ, zero, suc, ◌+◌, ◌^◌, ◌≤◌, ◌<◌, Bool, true, false, cond, ◌&&◌, ◌||◌, not, if◌then◌else◌, List, [], ◌∷◌, ◌++◌, length, map, flat_map, MatchOption, Option, Some, Contains, refl, sym, ◌∙◌, ap, subst, arith, None}
-use Rattle.std.specs.List.{list_any, range_with_len}
+use Rattle.std.proofs.Common.{◌≡◌, inl, inr, ℕ, ◌+◌, ◌^◌, ◌≤◌, ◌<◌, Bool, true, false, cond, ◌&&◌, ◌||◌, not, if◌then◌else◌, List, [], ◌∷◌, ◌++◌, length, slice_index_or, map, flat_map, MatchOption, Option, Some, Contains, refl, sym, ◌∙◌, ap, subst, arith, None}
+use Rattle.std.specs.List.{list_any}
 use Rattle.std.specs.Prelude.{is_some}
 use Rattle.mdv_base.specs.Order.{first_refusal, where_so}
 use Rattle.mdv_base.specs.declared.drive.DriveNo.{DriveNo}
@@ -9,13 +9,16 @@ use Rattle.mdv_name.specs.SliceIndex.{slice_at}
 use Rattle.mdv_engine_law.specs.Below.{Absent, Down, Inactive, NeedForce, NoSuchSlice, Place, SliceAt, WrongKind}
 use Rattle.mdv_engine_law.specs.Places.{are_all, is_empty, list_of}
 use Rattle.mdv_base.specs.DriveSet.{Drives, has_drive}
-use Rattle.mdv_map.specs.Maps.{DriveBlock}
+use Rattle.mdv_dev.specs.Pieces.{LiesAt}
+use Rattle.mdv_dev.proofs.Copies.{has_place, one_reading}
+use Rattle.mdv_map.specs.Maps.{HasDriveBlock}
 use Rattle.mdv_words.proofs.Tabs.{entries_are_in_form}
 use Rattle.mdv_run_law.proofs.Meaning.{formed_as, meant_in_form}
-use Rattle.mdv_run_law.specs.Below.{AreBlocksAt, ArePut, Answer, BadLine, CameTo, Command, ComesTo, AddListed, AddPlaces, DropPlaces, Entry, Host, Image, IsCommitted, IsCreated, IsSame, IsSameBeside, IsTab, IsTurnedDown, Kept, Line, Memory, Opened, Print, Read, Refusal, SliceLine, Spells, Table, TooMany, VolId, Write, blocks_of, meant, entries_reply, identity_of, key_of, listing_of, printed_reply, record_text, site_area, site_of, values_reply}
+use Rattle.mdv_run_law.specs.Below.{ArePut, AreSeen, Answer, BadLine, CameTo, Command, ComesTo, AddListed, AddPlaces, DropPlaces, Entry, HasBlocks, Host, Image, IsCommitted, IsCreated, IsSame, IsSameBeside, IsTab, IsTurnedDown, Kept, Line, Map, Memory, Opened, Print, Read, Refusal, SliceLine, Spells, Table, TooMany, VolId, Write, covers, meant, entries_reply, identity_of, key_of, listing_of, printed_reply, record_text, site_area, site_of, values_reply}
 use Rattle.std.specs.Bool.{MatchBool}
+use Rattle.std.proofs.lemmas.Bool.Decides.{nat_tests}
 use Rattle.std.proofs.lemmas.Bool.{cases_Bool, false_from_ne_true, false≢true}
-use Rattle.std.proofs.lemmas.List.{length-append}
+use Rattle.std.proofs.lemmas.List.{ext_get_or, length-append}
 use Rattle.std.proofs.lemmas.List.Elements.{Contains-append_cases, filter_map-append}
 use Rattle.mdv_places.specs.Asked.{Adds, Asks, Drops, KeepsFirst, list_after, list_less, names_of, places_on, seats_added}
 use Rattle.mdv_places.specs.Changing.{both_of}
@@ -63,25 +66,32 @@ use Rattle.mdv_store.specs.declared.seats.Seat.{Seat}
 use Rattle.mdv_survey.specs.declared.replica.Replica.{Replica}
 use Rattle.mdv_table.specs.Change.{table_after}
 use Rattle.mdv_table.specs.declared.change.Change.TheVariants.{MakeStripe}
+use Rattle.mdv_volumes.specs.Tables.{AreLaid}
+use Rattle.mdv_volumes.proofs.Tables.{tables_lie}
 use Rattle.mdv_run_law.specs.Run.{AreOnce, ChangesPlaces, IsAnswered, IsOfTable, IsSaid, IsSameMemory}
 use Rattle.mdv_tab.proofs.OneTab.{one_tab, never_bad, never_either, never_many}
 use Rattle.mdv_run_law.proofs.Keeping.{IsHeld, IsSatisfied, One, Same, Settled, boot_same, its_site, ok, plan_of, put_same, same_through, same_weaker, stays_same, there_each, there_settled}
 use Rattle.mdv_run_law.proofs.Moving.{IsAway, IsClear, IsThere, alike_beside, any_has, any_of, area_at, areas_in_site, here_of, one_text}
 use Rattle.mdv_run_law.proofs.Shifting.{IsOver, dropped_under, lost_over, moved_clean, moved_is, moved_open, never_over, one_over, some_half}
 use Rattle.mdv_run_law.proofs.Passing.{NoneFailed, left_active, left_is, never_short, seats_with, slotted, slotted_is}
-use Rattle.mdv_run_law.proofs.Placing.{one_at, at_beside, opened_twice, put_at}
+use Rattle.mdv_run_law.proofs.Placing.{at_beside, one_copy_each, one_map, opened_twice}
 use Rattle.mdv_run_law.proofs.Written.{alike_behind, have, made, made_beside, written}
 use Rattle.mdv_store.specs.Shares.{short_in, short_of}
 use Rattle.mdv_store.specs.declared.seats.Need.TheVariants.{Half}
 use Rattle.mdv_store.proofs.Shares.{half_none}
 
--- blocks that are the same one by one
-same_blocks : (c d : ℕ → List ℕ) (first count : ℕ) → ((k : ℕ) → k < count → c (first + k) ≡ d (first + k)) → map c (range_with_len first count) ≡ map d (range_with_len first count)
-same_blocks c d first zero same = refl
-same_blocks c d first (suc count) same =
-    let here : c first ≡ d first = ap c (omega arith) ∙ same 0 (omega arith) ∙ ap d (omega arith) in
-    let rest = same_blocks c d (first + 1) count (λ k less. ap c (omega arith) ∙ same (suc k) (omega arith) ∙ ap d (omega arith)) in
-    cc (here, rest)
+-- what is read of blocks that lie at one place each, and hold the same in both
+same_blocks : (v : Map) (at count : ℕ) (c d : Image) → ((k : ℕ) → k < count → (drive : ℕ) × (block : ℕ) × LiesAt v (at + k) drive block) → ((k drive block : ℕ) → k < count → HasDriveBlock (v.places (at + k)) drive block → c drive block ≡ d drive block)
+    → (blocks others : List (List ℕ)) → length blocks ≡ count → length others ≡ count → AreSeen v at blocks c → AreSeen v at others d → blocks ≡ others
+same_blocks v at count c d one_each same blocks others size size_too seen seen_too = ext_get_or [] blocks others (size ∙ sym size_too) (λ k below.
+    let within : k < count = omega (arith, size, below) in
+    let lies = one_each k within in
+    one_reading v (at + k) lies.0 lies.1 lies.2 c (slice_index_or blocks k []) (seen.each k below) ∙ same k lies.0 lies.1 within (has_place v (at + k) lies.0 lies.1 lies.2)
+    ∙ sym (one_reading v (at + k) lies.0 lies.1 lies.2 d (slice_index_or others k []) (seen_too.each k (omega (arith, size_too, within)))))
+
+-- one block from some on is that one
+put_at : (on first drive b : ℕ) → covers on first 1 drive b ≡ true → (drive ≡ on) × (b ≡ first + 0)
+put_at on first drive b is = (grind (arith, nat_tests), grind (arith, nat_tests))
 
 -- a list that comes isn't empty
 places_some : (g : Geometry) (lists : Lists) → IsListsOf g lists → 1 ≤ length (last_of lists)
@@ -99,13 +109,13 @@ line_of : (slices : List SliceLine) → 1 ≤ length slices → (line : SliceLin
 line_of [] some = absurd (omega (arith, some))
 line_of (line ∷ lines) some = (line, (0, omega arith, refl))
 
--- What is kept of two is the same, but for the list of the drives that are up, by which nothing is judged but the drives of places that go.
-module _ (host : Host) (memory : Memory) (up : Drives) where
+-- What is kept of two is the same, but for the lists of the drives that are up, and of those that are unsteady, by which nothing is judged but the drives of places that go.
+module _ (host : Host) (memory : Memory) (up unsteady : Drives) where
   abbrev one_case : Case
   one_case = record { host = host; memory = memory }
 
   abbrev other_case : Case
-  other_case = record { host = host; memory = record memory { up = up } }
+  other_case = record { host = host; memory = record memory { up = up; unsteady = unsteady } }
 
   module _ (ups : (drive : DriveNo) → has_drive memory.up drive ≡ has_drive up drive) where
     one_up : (at : Option SliceAt) → is_up_at up at ≡ is_up_at memory.up at
@@ -139,8 +149,8 @@ module _ (host : Host) (memory : Memory) (up : Drives) where
 -- the same in memory, each command is refused for the same cause
 pub same_refusal_of : (host : Host) (k j : Memory) → IsSameMemory k j → (cmd : Command) → refusal_of (record { host = host; memory = j }) cmd ≡ refusal_of (record { host = host; memory = k }) cmd
 same_refusal_of host k j same cmd =
-    let is : j ≡ record k { up = j.up } = λ i. record { opened = sym same.opened i; up = j.up; clean = sym same.clean i; begun = sym same.begun i; entries = sym same.entries i } in
-    ap (λ (x : Memory). refusal_of (record { host = host; memory = x }) cmd) is ∙ one_refusal_of host k j.up same.up cmd
+    let is : j ≡ record k { up = j.up; unsteady = j.unsteady } = λ i. record { opened = sym same.opened i; up = j.up; unsteady = j.unsteady; clean = sym same.clean i; begun = sym same.begun i; entries = sym same.entries i } in
+    ap (λ (x : Memory). refusal_of (record { host = host; memory = x }) cmd) is ∙ one_refusal_of host k j.up j.unsteady same.up cmd
 
 module _ (calls also : Outcomes) (calm : NoneFailed calls) (calm_too : NoneFailed also) (host : Host) (has : IsOfTable host) (once : AreOnce host.drives.slices) where
   abbrev There : Kept → Type 0
@@ -153,10 +163,10 @@ module _ (calls also : Outcomes) (calm : NoneFailed calls) (calm_too : NoneFaile
   settled_with : (kept next : Kept) (entries : List Entry) → next.memory ≡ record kept.memory { entries = entries } → IsSame kept.content next.content → There kept → There next
   settled_with kept next entries is same settled = there_settled host has once kept next settled (ap (λ (m : Memory). m.opened) is) (λ drive block within. same drive block)
 
-  -- what is kept of the two is the same, but for the list of the drives that are up
-  module _ (memory : Memory) (up : Drives) (c d : Image) (n m : Kept) (a b : Answer) where
+  -- what is kept of the two is the same, but for the lists of the drives that are up and of those that are unsteady
+  module _ (memory : Memory) (up unsteady : Drives) (c d : Image) (n m : Kept) (a b : Answer) where
     abbrev memory_too : Memory
-    memory_too = record memory { up = up }
+    memory_too = record memory { up = up; unsteady = unsteady }
 
     abbrev k : Kept
     k = record { memory = memory; content = c }
@@ -164,8 +174,8 @@ module _ (calls also : Outcomes) (calm : NoneFailed calls) (calm_too : NoneFaile
     abbrev j : Kept
     j = record { memory = memory_too; content = d }
 
-    as_there : (volume : VolId) (at count : ℕ) (from : DriveBlock) → AreBlocksAt host memory_too volume at count from → AreBlocksAt host memory volume at count from
-    as_there volume at count from is = record { first = is.first; blocks = is.blocks; lies = is.lies; within = is.within; block_is = is.block_is }
+    as_there : (volume : VolId) (at count : ℕ) (v : Map) → HasBlocks host memory_too volume at count v → HasBlocks host memory volume at count v
+    as_there volume at count v is = record { o = is.o; opened = is.opened; lies = is.lies; within = is.within }
 
     module _ (may : Type 0) (same : Both may k j) (sated : IsSatisfied a) (sated_too : IsSatisfied b) where
       -- both refused
@@ -214,7 +224,7 @@ module _ (calls also : Outcomes) (calm : NoneFailed calls) (calm_too : NoneFaile
             let opens_too = subst (λ (x : Opened). IsOpenOn host.drives x m.content) is_too other.content in
             record {
               memory = same_through n.memory (record memory { opened = Some one.opened; begun = memory.begun + 1 }) (record memory_too { opened = Some other.opened; begun = memory.begun + 1 }) m.memory one.memory other.memory
-                  (record { opened = ap (λ (x : Opened). Some x) (is ∙ sym is_too); up = same.memory.up; clean = refl; begun = refl; entries = refl });
+                  (record { opened = ap (λ (x : Opened). Some x) (is ∙ sym is_too); up = same.memory.up; unsteady = same.memory.unsteady; clean = refl; begun = refl; entries = refl });
               beside = λ drive block out.
                   made_beside host.drives host.site (ok host has once) new new_site head (key_of host) (identity_of host memory.begun) lines count blocks refl c n.content one.beside opens drive block out
                   ∙ same.beside drive block out
@@ -270,7 +280,7 @@ module _ (calls also : Outcomes) (calm : NoneFailed calls) (calm_too : NoneFaile
             let opens_too = subst (λ (x : Opened). IsOpenOn host.drives x m.content) is_too other.content in
             record {
               memory = same_through n.memory (record memory { opened = Some one.opened }) (record memory_too { opened = Some other.opened }) m.memory one.memory other.memory
-                  (record { opened = ap (λ (x : Opened). Some x) (is ∙ sym is_too); up = same.memory.up; clean = refl; begun = refl; entries = refl });
+                  (record { opened = ap (λ (x : Opened). Some x) (is ∙ sym is_too); up = same.memory.up; unsteady = same.memory.unsteady; clean = refl; begun = refl; entries = refl });
               beside = λ drive block out. out_of c held n.content one.beside drive block out ∙ same.beside drive block out ∙ sym (out_of d held_too m.content other.beside drive block out);
               alike = λ wanted. alike_behind host.drives host.site (ok host has once) next_open next_site (IsAway (Spells host.drives) (one_text host.drives) host.site (ok host has once) (replicas_of next_open.seats)) c d n.content m.content (same.alike wanted)
                   (written host.drives host.site (ok host has once) next_open next_site next_head o.seats refl c n.content (there_each host has once o c held) one.beside opens)
@@ -280,11 +290,9 @@ module _ (calls also : Outcomes) (calm : NoneFailed calls) (calm_too : NoneFaile
               other = next_settled also calm_too m other.opened other.committed is_too opens_too (ap (λ (x : Memory). x.opened) other.memory);
             }
 
-      there_once : (volume : VolId) (at count : ℕ) (o : Opened) (opened : memory.opened ≡ Some o) (block other : DriveBlock) → AreBlocksAt host memory volume at count block → AreBlocksAt host memory volume at count other
-          → (block ≡ other) × ((i : ℕ) → i < count → site_area host.site other.drive (other.block + i) ≡ false)
-      there_once volume at count o opened block other one two =
-          let plan = plan_of host has once o c (same.one o opened) in
-          (one_at host has.sound has.site memory volume o opened plan at count block other one two, λ i less. at_beside host has.sound has.site memory volume o opened plan at count other i two less)
+      -- the volumes of the table that is open lie apart
+      laid_open : (o : Opened) → memory.opened ≡ Some o → AreLaid host.drives o.table
+      laid_open o opened = tables_lie.laid host.drives o.table has.sound (plan_of host has once o c (same.one o opened))
 
       -- The places of an open database changed: what is outside the site is as it was, or blank.
       module _ (o : Opened) (opened : memory.opened ≡ Some o) (asked : Asks) where
@@ -347,7 +355,7 @@ module _ (calls also : Outcomes) (calm : NoneFailed calls) (calm_too : NoneFaile
             let is_too = moved_is host.drives o asked also calm_too other.1.opened other.0 other.1.moved in
             record {
               memory = same_through n.memory (record memory { opened = Some one.1.opened }) (record memory_too { opened = Some other.1.opened }) m.memory one.1.memory other.1.memory
-                  (record { opened = ap (λ (x : Opened). Some x) (is ∙ sym is_too); up = same.memory.up; clean = refl; begun = refl; entries = refl });
+                  (record { opened = ap (λ (x : Opened). Some x) (is ∙ sym is_too); up = same.memory.up; unsteady = same.memory.unsteady; clean = refl; begun = refl; entries = refl });
               beside = both_outside n.content m.content one.1.formed other.1.formed (one.1.wiped.all (moved_clean host.drives o asked calls calm one.1.opened one.0 one.1.moved)) (other.1.wiped.all (moved_clean host.drives o asked also calm_too other.1.opened other.0 other.1.moved)) one.1.beside other.1.beside;
               alike = λ none. absurd none;
               formed = formed_as n.memory memory (ap (λ (x : Memory). x.entries) one.1.memory) same.formed;
@@ -364,7 +372,7 @@ module _ (calls also : Outcomes) (calm : NoneFailed calls) (calm_too : NoneFaile
 
       deleted : (o : Opened) → memory.opened ≡ Some o → IsDeletedOn calls host o k n → IsDeletedOn also host o j m → Both ⊥ n m
       deleted o opened one other = record {
-        memory = same_through n.memory _ _ m.memory one.memory other.memory (record { opened = refl; up = same.memory.up; clean = refl; begun = refl; entries = refl });
+        memory = same_through n.memory _ _ m.memory one.memory other.memory (record { opened = refl; up = same.memory.up; unsteady = same.memory.unsteady; clean = refl; begun = refl; entries = refl });
         beside = both_outside o opened KeepsFirst n.content m.content (none_added o n.content) (none_added o m.content) (λ x has. one.wiped x (dropped_under host.drives o KeepsFirst x has)) (λ x has. other.wiped x (dropped_under host.drives o KeepsFirst x has)) one.beside other.beside;
         alike = λ none. absurd none;
         formed = formed_as n.memory memory (ap (λ (x : Memory). x.entries) one.memory) same.formed;
@@ -414,13 +422,19 @@ module _ (calls also : Outcomes) (calm : NoneFailed calls) (calm_too : NoneFaile
               λ said. weaker (committed o (table_after host.drives (MakeStripe volume slice) o.table) (same.one o opened) (same.other o opened) one
                   (subst (λ (x : Opened). IsCommitted also host x (table_after host.drives (MakeStripe volume slice) x.table) j m) is two)),
             )
-        effects (Read volume at count) still form free (quiet, from, there, text, stays) (quiet_too, other, there_too, text_too, stays_too) =
-            let both = there_once volume at count there.lies.0 there.lies.1 from other there (as_there volume at count other there_too) in
-            let blocks = ap (λ (x : DriveBlock). blocks_of c x count) both.0 ∙ same_blocks (c other.drive) (d other.drive) other.block count (λ i less. same.beside other.drive (other.block + i) (both.1 i less)) in
-            (text ∙ ap (λ (bs : List (List ℕ)). telling (values_reply at bs)) blocks ∙ sym text_too, λ said. weaker (stays_same host has once may k j n m same stays stays_too))
-        effects (Write volume at block) still form free (quiet, place, there, told, kept, put) (quiet_too, other, there_too, told_too, kept_too, put_too) =
-            let both = there_once volume at 1 there.lies.0 there.lies.1 place other there (as_there volume at 1 other there_too) in
-            (told ∙ sym told_too, λ said. weaker (put_same host has once other block (both.1 0 (omega arith)) may k j n m same kept kept_too (subst (λ (p : DriveBlock). ArePut p (block ∷ []) c n.content) both.0 put) put_too))
+        effects (Read volume at count) still form free (quiet, v, there, blocks, size, seen, text, stays) (quiet_too, w, there_too, others, size_too, seen_too, text_too, stays_too) =
+            let laid = laid_open there.o there.opened in
+            let maps = one_map host has.site memory volume there.o there.opened laid at count w v (as_there volume at count w there_too) there in
+            let read = same_blocks v at count c d (one_copy_each host has.site memory volume there.o there.opened laid at count v there)
+            (λ k drive block below lies. same.beside drive block (at_beside host has.site memory volume there.o there.opened laid at count v there k drive block below lies)) blocks others size size_too seen (subst (λ (x : Map). AreSeen x at others d) maps seen_too) in
+            (text ∙ ap (λ (bs : List (List ℕ)). telling (values_reply at bs)) read ∙ sym text_too, λ said. weaker (stays_same host has once may k j n m same stays stays_too))
+        effects (Write volume at block) still form free (quiet, v, there, told, kept, put) (quiet_too, w, there_too, told_too, kept_too, put_too) =
+            let laid = laid_open there.o there.opened in
+            let maps = one_map host has.site memory volume there.o there.opened laid at 1 w v (as_there volume at 1 w there_too) there in (
+              told ∙ sym told_too,
+              λ said. weaker (put_same host has once v at (block ∷ []) (one_copy_each host has.site memory volume there.o there.opened laid at 1 v there) (at_beside host has.site memory volume there.o there.opened laid at 1 v there) may k j n m same kept kept_too put
+                  (subst (λ (x : Map). ArePut x at (block ∷ []) d m.content) maps put_too)),
+            )
         effects (Print names) still form free (quiet, o, opened, text, stays) (quiet_too, other, opened_too, text_too, stays_too) =
             let same_open = opened_twice memory.opened other o opened_too opened in
             (text ∙ ap (λ (x : Opened). telling (printed_reply (listing_of x.table.plan names))) same_open ∙ sym text_too, λ said. weaker (stays_same host has once may k j n m same stays stays_too))
@@ -438,8 +452,8 @@ module _ (calls also : Outcomes) (calm : NoneFailed calls) (calm_too : NoneFaile
       never_faulted failed quiet (AddListed number force) x y fault = fault
       never_faulted failed quiet (DropPlaces slices force) x y fault = undeleted_never failed quiet fault.0 x y fault.3
       never_faulted failed quiet (command.MakeStripe volume slice) x y fault = fault
-      never_faulted failed quiet (Read volume at count) x y fault = quiet fault.0.drive fault.1.here
-      never_faulted failed quiet (Write volume at block) x y fault = quiet fault.0.drive fault.1.here
+      never_faulted failed quiet (Read volume at count) x y fault = quiet fault.0.drive fault.0.failed.here
+      never_faulted failed quiet (Write volume at block) x y fault = quiet fault.0.drive fault.0.failed.here
       never_faulted failed quiet (Print names) x y fault = fault
 
       -- no places are lost
@@ -544,13 +558,13 @@ module _ (calls also : Outcomes) (calm : NoneFailed calls) (calm_too : NoneFaile
         lower is = (is.0, λ said. weaker later to (is.1 said))
 
         came_same : (cmd : Command) → (ChangesPlaces host memory cmd → later → ⊥) → IsInForm cmd → CameTo calls host k cmd a n → CameTo also host j cmd b m → One host has once later n m a b
-        came_same cmd still form (came.refused quiet r is left) (came.refused quiet_too q is_too left_too) = lower (refused r q (same_refusal r q (refusal_of (case_of host k) cmd) is (sym (one_refusal_of host memory up same.memory.up cmd) ∙ is_too)) left left_too)
-        came_same cmd still form (came.refused quiet r is left) (came.done free effect) = absurd (never cmd r is (sym (one_refusal_of host memory up same.memory.up cmd) ∙ free))
-        came_same cmd still form (came.refused quiet r is left) (came.over end free so gives) = absurd (never cmd r is (sym (one_refusal_of host memory up same.memory.up cmd) ∙ free))
-        came_same cmd still form (came.done free effect) (came.refused quiet_too r is left) = absurd (never cmd r (sym (one_refusal_of host memory up same.memory.up cmd) ∙ is) free)
+        came_same cmd still form (came.refused quiet r is left) (came.refused quiet_too q is_too left_too) = lower (refused r q (same_refusal r q (refusal_of (case_of host k) cmd) is (sym (one_refusal_of host memory up unsteady same.memory.up cmd) ∙ is_too)) left left_too)
+        came_same cmd still form (came.refused quiet r is left) (came.done free effect) = absurd (never cmd r is (sym (one_refusal_of host memory up unsteady same.memory.up cmd) ∙ free))
+        came_same cmd still form (came.refused quiet r is left) (came.over end free so gives) = absurd (never cmd r is (sym (one_refusal_of host memory up unsteady same.memory.up cmd) ∙ free))
+        came_same cmd still form (came.done free effect) (came.refused quiet_too r is left) = absurd (never cmd r (sym (one_refusal_of host memory up unsteady same.memory.up cmd) ∙ is) free)
         came_same cmd still form (came.done free effect) (came.done free_too effect_too) = effects later to cmd still form free effect effect_too
         came_same cmd still form (came.done free effect) (came.over end free_too so gives) = absurd (done_over calls calm k n cmd a end effect (over_by also calm_too j m cmd end gives))
-        came_same cmd still form (came.over end free so gives) (came.refused quiet r is left) = absurd (never cmd r (sym (one_refusal_of host memory up same.memory.up cmd) ∙ is) free)
+        came_same cmd still form (came.over end free so gives) (came.refused quiet r is left) = absurd (never cmd r (sym (one_refusal_of host memory up unsteady same.memory.up cmd) ∙ is) free)
         came_same cmd still form (came.over end free so gives) (came.done free_too effect) = absurd (done_over also calm_too j m cmd b end effect (over_by calls calm k n cmd end gives))
         came_same cmd still form (came.over end free so gives) (came.over other free_too so_too gives_too) =
             (so ∙ ap (λ (e : Ended). Over e) (over_once memory.opened cmd end other (over_by calls calm k n cmd end gives) (over_by also calm_too j m cmd other gives_too)) ∙ sym so_too, λ said. absurd (let unsaid : ⊥ = subst IsSaid so said in unsaid))
@@ -580,7 +594,7 @@ module _ (calls also : Outcomes) (calm : NoneFailed calls) (calm_too : NoneFaile
             is ∙ ap (λ (es : List Entry). telling (entries_reply (length es))) same_entries ∙ sym is_too,
             λ said. record {
               memory = same_through n.memory (record memory { entries = entries }) (record memory_too { entries = others }) m.memory memory_is memory_also
-                  (record { opened = refl; up = same.memory.up; clean = refl; begun = refl; entries = same_entries });
+                  (record { opened = refl; up = same.memory.up; unsteady = same.memory.unsteady; clean = refl; begun = refl; entries = same_entries });
               beside = λ drive block out. kept drive block ∙ same.beside drive block out ∙ sym (kept_too drive block);
               alike = λ wanted. alike_beside (Spells host.drives) (one_text host.drives) host.site (ok host has once) c d n.content m.content (λ drive block within. kept drive block) (λ drive block within. kept_too drive block) (same.alike wanted);
               formed = formed_as n.memory (record memory { entries = entries }) (ap (λ (x : Memory). x.entries) memory_is) (entries_are_in_form lines entries tab);
@@ -607,11 +621,11 @@ module _ (calls also : Outcomes) (calm : NoneFailed calls) (calm_too : NoneFaile
       → Both may k j → IsSatisfied a → IsSatisfied b → ComesTo calls host k spelled a n → ComesTo also host j spelled b m → One host has once later n m a b
   one_carried may later to text spelled line k j n m a b boots still same sated sated_too first second =
       let fields = same.memory in
-      let is : j.memory ≡ record k.memory { up = j.memory.up } = λ i. record { opened = sym fields.opened i; up = j.memory.up; clean = sym fields.clean i; begun = sym fields.begun i; entries = sym fields.entries i } in
+      let is : j.memory ≡ record k.memory { up = j.memory.up; unsteady = j.memory.unsteady } = λ i. record { opened = sym fields.opened i; up = j.memory.up; unsteady = j.memory.unsteady; clean = sym fields.clean i; begun = sym fields.begun i; entries = sym fields.entries i } in
       let moved = subst (λ (x : Memory). ComesTo also host (record { memory = x; content = j.content }) spelled b m) is second in
       let settled = subst (λ (x : Memory). There (record { memory = x; content = j.content })) is same.other in
-      let memories : IsSameMemory k.memory (record k.memory { up = j.memory.up }) = record { opened = refl; up = fields.up; clean = refl; begun = refl; entries = refl } in
-      comes k.memory j.memory.up k.content j.content n m a b may (record { memory = memories; beside = same.beside; alike = same.alike; formed = same.formed; one = same.one; other = settled }) sated sated_too later to text spelled line boots still first moved
+      let memories : IsSameMemory k.memory (record k.memory { up = j.memory.up; unsteady = j.memory.unsteady }) = record { opened = refl; up = fields.up; unsteady = fields.unsteady; clean = refl; begun = refl; entries = refl } in
+      comes k.memory j.memory.up j.memory.unsteady k.content j.content n m a b may (record { memory = memories; beside = same.beside; alike = same.alike; formed = same.formed; one = same.one; other = settled }) sated sated_too later to text spelled line boots still first moved
 
   -- and so does a line
   pub one_answer : (may later : Type 0) → (later → may) → (text : List ℕ) (k j n m : Kept) (a b : Answer) → (words.IsLine text words.Boot → may) → ((cmd : Command) → words.IsLine text (words.Exec cmd) → ChangesPlaces host k.memory (meant k.memory.entries cmd) → later → ⊥)

@@ -54,7 +54,7 @@ module _ (calls : Outcomes) (host : Host) (kept next : Kept) (answer : Answer) w
   effect_plain (AddListed number force) is = absurd is
   effect_plain (DropPlaces slices force) is = ok_plain is.0
   effect_plain (MakeStripe volume slice) is = ok_plain is.0
-  effect_plain (Read volume at count) is = subst IsPlainAnswer (sym is.3) (inl (record { at = at; blocks = _; is = refl }))
+  effect_plain (Read volume at count) is = subst IsPlainAnswer (sym is.6) (inl (record { at = at; blocks = _; is = refl }))
   effect_plain (Write volume at block) is = ok_plain is.3
   effect_plain (Print names) is = (let are = listings_are_lines is.1.table.plan names in subst IsPlainAnswer (sym is.3) (inr (inr (record { lines = are.lines; quiet = are.quiet; is = ap printed_reply are.joined }))))
 

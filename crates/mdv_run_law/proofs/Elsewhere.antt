@@ -1,21 +1,20 @@
 -- A run of one host leaves the drives as they stand with the history of another: all blocks that it may touch lie on its own drives, and a drive is one host's own.
-use Rattle.std.proofs.Common.{◌≡◌, inl, inr, ◌+◌, ◌-◌, ℕ, Bool, true, false, ◌&&◌, ◌||◌, List, Contains, sym, ◌∙◌, subst, arith}
+use Rattle.std.proofs.Common.{◌≡◌, inl, inr, ◌+◌, ◌-◌, ℕ, Bool, true, false, ◌&&◌, ◌||◌, List, Contains, subst, arith}
 use Rattle.std.proofs.lemmas.Bool.Decides.{nat_tests}
 use Rattle.std.proofs.lemmas.List.Folds.{Any-from_list_any}
 use Rattle.mdv_base.specs.declared.drive.DriveNo.{DriveNo}
-use Rattle.mdv_run_law.specs.Below.{Base, Component, Database, Geometry, HasSlice, History, Host, IsNamed, Key, Map, Slice, SliceAt, SliceLine, SliceName, StandsAt, StaysHome, Stripe, Table, Tale, VolId, VolumeKind, covers, host_area, own_drives, own_view, site_area, site_of}
+use Rattle.mdv_run_law.specs.Below.{Geometry, HasSlice, History, Host, Key, Map, SliceAt, SliceLine, SliceName, StandsAt, StaysHome, Table, Tale, VolId, host_area, own_drives, own_view, site_area, site_of}
 use Rattle.mdv_home.proofs.Owning.{one_owner}
 use Rattle.mdv_home.proofs.Viewing.{view_is_own}
 use Rattle.mdv_map.specs.Maps.{area_of_map}
-use Rattle.mdv_map.proofs.Covering.{runs_lie}
 use Rattle.mdv_shelf.specs.Area.{Area, AreApart, range}
 use Rattle.mdv_shelf.proofs.Blocks.{both_ways}
 use Rattle.mdv_shown.specs.Sites.{is_line_of}
 use Rattle.mdv_volumes.specs.HistoryLaws.{IsElsewhere}
-use Rattle.mdv_volumes.specs.Tables.{IsBaseMap, IsKindMap, IsMapOf}
+use Rattle.mdv_volumes.specs.Tables.{AreLaid, IsMapOf}
 use Rattle.mdv_volumes.proofs.Lists.{in_filter}
 use Rattle.mdv_volumes.proofs.Restarts.{restarts_go}
-use Rattle.mdv_engine_law.specs.Hosts.{plain_area, takes_volumes}
+use Rattle.mdv_layout_law.specs.Laid.{plain_area, takes_volumes}
 use Rattle.mdv_run_law.specs.Lives.{host_of}
 
 -- each block of the area lies on one of these drives
@@ -69,9 +68,9 @@ module _ (table : Geometry) (name : List ℕ) (fresh : ℕ) where
   -- and those on which volumes may lie
   plain_on : LiesOn own (plain_area view)
   plain_on drive block is =
-      let found = Any-from_list_any (λ (l : SliceLine). takes_volumes view l && covers l.at.drive.0 l.at.start l.at.blocks drive block) view.slices is in
+      let found = Any-from_list_any (λ (l : SliceLine). takes_volumes view l && range l.at.drive.0 l.at.start l.at.blocks drive block) view.slices is in
       let line : SliceLine = found.1 in
-      range_on own line.at.drive line.at.start line.at.blocks (line_on line (found.0, found.2, found.3)) drive block (both_are (takes_volumes view line) (covers line.at.drive.0 line.at.start line.at.blocks drive block) found.4)
+      range_on own line.at.drive line.at.start line.at.blocks (line_on line (found.0, found.2, found.3)) drive block (both_are (takes_volumes view line) (range line.at.drive.0 line.at.start line.at.blocks drive block) found.4)
 
   -- the blocks that a run of it may touch
   host_on : LiesOn own (host_area host)
@@ -81,31 +80,22 @@ module _ (table : Geometry) (name : List ℕ) (fresh : ℕ) where
   ]
 
   -- and the volumes of its tables
-  base_on : (c : Component) (base : Base) (v : Map) → IsBaseMap view c base v → LiesOn own (area_of_map v)
-  base_on c (Slice slice) v lies =
-      let at = lies.0 in
-      let first = at.start + c.start in
-      subst (λ (w : Map). LiesOn own (area_of_map w)) (sym lies.2)
-      (λ drive block is. range_on own at.drive first c.blocks (slice_on slice at lies.1) drive block (sym (runs_lie.area at.drive.0 first c.blocks drive block) ∙ is))
-
-  kind_on : (kind : VolumeKind) (v : Map) → IsKindMap view kind v → LiesOn own (area_of_map v)
-  kind_on (Stripe s) v lies = base_on s.component s.component.on v lies
-
-  volume_on : (databases : List Database) (key : Key) (volume : VolId) (v : Map) → IsNamed view databases key volume v → LiesOn own (area_of_map v)
-  volume_on databases key volume v named = kind_on named.map.of.kind v named.map.kind
+  volume_on : (t : Table) → AreLaid view t → (volume : VolId) (v : Map) → IsMapOf view t volume v → LiesOn own (area_of_map v)
+  volume_on t laid volume v lies drive block here = plain_on drive block (laid.plain volume v lies drive block here)
 
 -- what one host's run may touch is neither where replicas of another may lie nor one of its volumes
 module _ (table : Geometry) (name other : List ℕ) (fresh again : ℕ) (differ : other ≡ name → ⊥) where
-  elsewhere : (databases : List Database) → IsElsewhere (own_view table name) databases (host_area (host_of table other again))
-  elsewhere databases = record {
+  elsewhere : (h : History) (t : Tale) → StandsAt (host_of table name fresh) h t → IsElsewhere (own_view table name) h.databases (host_area (host_of table other again))
+  elsewhere h t stands = record {
     slices = λ key. apart_on table other name (host_area (host_of table other again)) (site_area (site_of (own_view table name) key)) differ (host_on table other again) (site_on table name fresh key);
-    volumes = λ key volume v named. apart_on table other name (host_area (host_of table other again)) (area_of_map v) differ (host_on table other again) (volume_on table name fresh databases key volume v named);
+    volumes = λ key volume v named. apart_on table other name (host_area (host_of table other again)) (area_of_map v) differ (host_on table other again)
+        (volume_on table name fresh named.version.table (stands.laid key named.version named.found) volume v named.map);
   }
 
   -- so the drives stand as they stood
   pub stands_elsewhere : (h : History) (t m : Tale) → StaysHome (host_of table other again) t m → StandsAt (host_of table name fresh) h t → StandsAt (host_of table name fresh) h m
-  stands_elsewhere h t m stays stands = restarts_go.elsewhere (own_view table name) h (host_area (host_of table other again)) t m (elsewhere h.databases) stays stands
+  stands_elsewhere h t m stays stands = restarts_go.elsewhere (own_view table name) h (host_area (host_of table other again)) t m (elsewhere h t stands) stays stands
 
   -- a block of a volume of a table of the one is none that a run of the other may touch
-  pub table_elsewhere : (t : Table) (volume : VolId) (v : Map) → IsMapOf (own_view table name) t volume v → AreApart (host_area (host_of table other again)) (area_of_map v)
-  table_elsewhere t volume v map = apart_on table other name (host_area (host_of table other again)) (area_of_map v) differ (host_on table other again) (kind_on table name fresh map.of.kind v map.kind)
+  pub table_elsewhere : (t : Table) → AreLaid (own_view table name) t → (volume : VolId) (v : Map) → IsMapOf (own_view table name) t volume v → AreApart (host_area (host_of table other again)) (area_of_map v)
+  table_elsewhere t laid volume v lies = apart_on table other name (host_area (host_of table other again)) (area_of_map v) differ (host_on table other again) (volume_on table name fresh t laid volume v lies)

@@ -41,7 +41,7 @@ module _ (calls : Outcomes) (host : Host) (kept next : Kept) (answer : Answer) w
   effect_entries (AddListed number force) is = absurd is
   effect_entries (DropPlaces slices force) is = dropped_entries (λ gone. ap (λ (m : Memory). m.entries) gone.memory) (λ moved. ap (λ (m : Memory). m.entries) moved.1.memory) (are_all is.1 slices) is.3
   effect_entries (MakeStripe volume slice) is = ap (λ (m : Memory). m.entries) is.3.memory
-  effect_entries (Read volume at count) is = entries_same is.4.memory
+  effect_entries (Read volume at count) is = entries_same is.7.memory
   effect_entries (Write volume at block) is = entries_same is.4
   effect_entries (Print names) is = entries_same is.4.memory
 
@@ -50,8 +50,8 @@ module _ (calls : Outcomes) (host : Host) (kept next : Kept) (answer : Answer) w
   fault_entries (AddListed number force) is = absurd is
   fault_entries (DropPlaces slices force) is = elim is.3 [ inl moved ↦ ap (λ (m : Memory). m.entries) moved.memory | inr unblanked ↦ ap (λ (m : Memory). m.entries) unblanked.memory ]
   fault_entries (MakeStripe volume slice) is = absurd is
-  fault_entries (Read volume at count) is = entries_same is.3.memory
-  fault_entries (Write volume at block) is = ap (λ (m : Memory). m.entries) is.3
+  fault_entries (Read volume at count) is = entries_same is.1.memory
+  fault_entries (Write volume at block) is = ap (λ (m : Memory). m.entries) is.1.beside
   fault_entries (Print names) is = absurd is
 
   wanting_entries : (command : Command) → Wanting host kept command next → next.memory.entries ≡ kept.memory.entries

@@ -1,30 +1,25 @@
--- Where a volume lies: at one place, beside the replicas.
-use Rattle.std.proofs.Common.{◌≡◌, inl, inr, ℕ, ◌+◌, ◌≤◌, ◌<◌, true, false, subst, arith}
-use Rattle.std.proofs.lemmas.Bool.Decides.{nat_tests}
-use Rattle.mdv_run_law.specs.Below.{Geometry, Host, IsPlanOf, IsSound, Site, Table, VolId, key_of, run_map, site_area, site_of}
-use Rattle.mdv_shelf.specs.Area.{range}
+-- Where a volume lies: beside the replicas.
+use Rattle.std.proofs.Common.{◌≡◌, inl, inr, ℕ, ◌<◌, true, false, subst, arith}
+use Rattle.std.proofs.lemmas.Bool.{false_from_ne_true}
+use Rattle.mdv_map.specs.Maps.{HasDriveBlock, area_of_map}
+use Rattle.mdv_map.proofs.Covering.{off_outside}
+use Rattle.mdv_run_law.specs.Below.{Host, Map, Site, Table, VolId, key_of, site_area, site_of}
 use Rattle.mdv_shelf.proofs.Blocks.{both_ways}
-use Rattle.mdv_volumes.specs.Tables.{IsMapOf}
-use Rattle.mdv_volumes.proofs.Tables.{tables_lie}
-use Rattle.mdv_engine_law.proofs.Beside.{IsPlain, IsRun, run_beside, run_is}
-
--- a volume has one map
-pub one_place : (g : Geometry) → IsSound g → (table : Table) → IsPlanOf g table.plan → (volume : VolId) (drive first count other from blocks : ℕ) → IsMapOf g table volume (run_map drive first count) → IsMapOf g table volume (run_map other from blocks)
-    → IsRun drive first count other from blocks
-one_place g sound table is_plan volume drive first count other from blocks a b = run_is drive first count other from blocks ((tables_lie.laid g table sound is_plan).one volume (run_map drive first count) (run_map other from blocks) a b)
+use Rattle.mdv_volumes.specs.Tables.{AreLaid, IsMapOf}
 
 -- the host's replicas may lie where a boot of its key looks for them
 abbrev pub SeesOwn : Host → Type 0
 SeesOwn host = host.site ≡ site_of host.drives (key_of host)
 
-in_run : (drive first count block : ℕ) → first ≤ block → block < first + count → range drive first count drive block ≡ true
-in_run drive first count block from to = grind (arith, nat_tests)
+module _ (host : Host) (sees : SeesOwn host) (table : Table) (laid : AreLaid host.drives table) (volume : VolId) (v : Map) (lies : IsMapOf host.drives table volume v) where
+  -- a volume's blocks are none that a replica may have
+  pub lies_beside : (drive block : ℕ) → area_of_map v drive block ≡ true → site_area host.site drive block ≡ false
+  lies_beside drive block here = false_from_ne_true (site_area host.site drive block)
+      (λ there. laid.clear volume v lies (key_of host) drive block here (subst (λ (s : Site). site_area s drive block ≡ true) sees there))
 
--- a volume's blocks are none that a replica may have
-pub lies_beside : (host : Host) → IsSound host.drives → SeesOwn host → (drive first count : ℕ) → IsPlain host drive first count → (block : ℕ) → first ≤ block → block < first + count → site_area host.site drive block ≡ false
-lies_beside host sound sees drive first count lies block from to = elim (both_ways (site_area host.site drive block)) [
-  | inl in_area ↦
-      let there : site_area (site_of host.drives (key_of host)) drive block ≡ true = subst (λ (s : Site). site_area s drive block ≡ true) sees in_area in
-      absurd (run_beside host sound drive first count lies first count (omega arith) (omega arith) (key_of host) drive block (in_run drive first count block from to) there)
-  | inr out ↦ out
-]
+  -- wherever one of them lies
+  pub block_beside : (b drive block : ℕ) → b < v.blocks → HasDriveBlock (v.places b) drive block → site_area host.site drive block ≡ false
+  block_beside b drive block below has = elim (both_ways (area_of_map v drive block)) [
+    | inl here ↦ lies_beside drive block here
+    | inr out ↦ absurd (off_outside v drive block b 1 (omega (arith, below)) out 0 (omega arith) (subst (λ (i : ℕ). HasDriveBlock (v.places i) drive block) (omega arith) has))
+  ]

@@ -25,7 +25,7 @@ use Rattle.mdv_store_law.proofs.Logs.{empty_is_log, is_log_after, is_log_after_a
 use Rattle.mdv_store_law.proofs.Machine.{after_more}
 use Rattle.mdv_volumes.specs.Databases.{current_of, is_current, log_in, with_event, with_over}
 use Rattle.mdv_volumes.specs.Happening.{IsIssue}
-use Rattle.mdv_volumes.specs.History.{Acknowledges, Boots, Crashes, Creation, Deletes, OfDatabase, OfVolume, Reads, Shows, Stops, databases_after}
+use Rattle.mdv_volumes.specs.History.{Acknowledges, Boots, Crashes, Creation, Deletes, OfDatabase, OfVolume, Reads, Shows, Stops, Unsettles, databases_after}
 use Rattle.mdv_volumes.specs.HistoryLaws.{log_events_at, log_events_of}
 use Rattle.mdv_volumes.proofs.Keys.{databases_live}
 use Rattle.mdv_volumes.proofs.Lists.{contains_behind, contains_first, course_front, course_rest, first_or_behind}
@@ -75,6 +75,7 @@ module _ (g : Geometry) (key : Key) where
   EventFits Gone (Shows place other volume at blocks) = Unit {0}
   EventFits Gone (Deletes place other) = Unit {0}
   EventFits Gone (Boots other up) = Unit {0}
+  EventFits Gone (Unsettles other drive) = Unit {0}
   EventFits Gone Stops = Unit {0}
   EventFits Gone Crashes = Unit {0}
 
@@ -87,6 +88,7 @@ module _ (g : Geometry) (key : Key) where
   log_fits Gone (Shows place other volume at blocks) fits = tt
   log_fits Gone (Deletes place other) fits = tt
   log_fits Gone (Boots other up) fits = tt
+  log_fits Gone (Unsettles other drive) fits = tt
   log_fits Gone Stops fits = tt
   log_fits Gone Crashes fits = tt
 
@@ -115,6 +117,7 @@ module _ (g : Geometry) (key : Key) where
       none_after (Shows place other volume at blocks) may fits = c.none
       none_after (Deletes place other) may fits = c.none
       none_after (Boots other up) may fits = c.none
+      none_after (Unsettles other drive) may fits = c.none
       none_after Stops may fits = c.none
       none_after Crashes may fits = c.none
 
@@ -185,6 +188,7 @@ module _ (host : Host) where
     events_fit (Shows place key volume at blocks ∷ es) are = (tt, events_fit es are.1)
     events_fit (Deletes place key ∷ es) are = (tt, events_fit es are.1)
     events_fit (Boots key up ∷ es) are = (tt, events_fit es are.1)
+    events_fit (Unsettles key drive ∷ es) are = (tt, events_fit es are.1)
     events_fit (Stops ∷ es) are = absurd are.0
     events_fit (Crashes ∷ es) are = absurd are.0
 

@@ -1,5 +1,5 @@
 -- What two courses keep in common, as far as a boot and a line can tell.
-use Rattle.std.proofs.Common.{◌≡◌, ◌⊎◌, ◌++◌, inl, inr, ℕ, ◌+◌, ◌<◌, Bool, true, false, cond, not, slice_get, List, [], ◌∷◌, Option, None, Some, Contains, length, refl, sym, ◌∙◌, ap, subst, arith}
+use Rattle.std.proofs.Common.{◌≡◌, ◌⊎◌, ◌++◌, inl, inr, ℕ, ◌+◌, ◌<◌, Bool, true, false, cond, not, slice_get, slice_index_or, List, [], ◌∷◌, Option, None, Some, Contains, length, refl, sym, ◌∙◌, ap, subst, arith}
 use Rattle.std.proofs.lemmas.Bool.{cases_Bool, false≢true}
 use Rattle.std.specs.List.{find, list_any}
 use Rattle.std.proofs.lemmas.List.Elements.{Contains-append_cases, Contains-append_left, Contains-append_right, filter_map-append}
@@ -9,14 +9,15 @@ use Rattle.mdv_base.specs.DriveSet.{has_drive}
 use Rattle.mdv_base.specs.declared.mark.Identity.{Identity}
 use Rattle.mdv_base.specs.declared.name.Key.{Key}
 use Rattle.mdv_name.specs.declared.geometry.Geometry.{Geometry}
-use Rattle.mdv_map.specs.Maps.{DriveBlock}
+use Rattle.mdv_dev.specs.Pieces.{LiesAt}
+use Rattle.mdv_dev.proofs.Copies.{one_place, reads_there}
+use Rattle.mdv_map.specs.Maps.{HasDriveBlock}
 use Rattle.mdv_record.proofs.Parsed.{is_read}
 use Rattle.mdv_record.specs.Text.{record_text}
 use Rattle.mdv_replica.specs.declared.replica.Head.{Head}
 use Rattle.mdv_shown.specs.Found.{IsFound}
 use Rattle.mdv_run_law.proofs.Meaning.{formed_as, none_formed}
-use Rattle.mdv_run_law.specs.Below.{Answer, AreInForm, ArePut, DriveNo, Drives, Host, Image, IsPlanOf, IsRebooted, IsSameBeside, Kept, Memory, Opened, OutOfMemory, Site, SliceLine, Spells, Stays, covers, key_of, site_area, site_of}
-use Rattle.mdv_shelf.proofs.Blocks.{both_ways}
+use Rattle.mdv_run_law.specs.Below.{Among, Answer, AreInForm, ArePut, DriveNo, Drives, Host, Image, IsPlanOf, IsRebooted, IsSameBeside, Kept, Map, Memory, Opened, OutOfMemory, Site, SliceLine, Spells, Stays, key_of, readings, site_area, site_of}
 use Rattle.mdv_shelf.specs.Failing.{Outcomes}
 use Rattle.mdv_shown.proofs.Sites.{law_sites}
 use Rattle.mdv_shown.specs.Site.{IsSite}
@@ -56,7 +57,7 @@ use Rattle.mdv_run_law.specs.Run.{AreOnce, IsOfTable, IsSaid, IsSameMemory}
 use Rattle.mdv_run_law.proofs.Ending.{one_end}
 use Rattle.mdv_run_law.proofs.Moving.{IsAlike, IsAway, IsChanged, IsThere, alike_beside, alike_written, areas, changed_written, found_of, here_beside, here_of, newest_beside, one_text}
 use Rattle.mdv_run_law.proofs.Passing.{NoneFailed, left_active, left_is, rewritten, rewritten_is, seats_with}
-use Rattle.mdv_run_law.proofs.Placing.{put_at}
+use Rattle.mdv_run_law.proofs.Placing.{off_or_there}
 use Rattle.mdv_run_law.proofs.Surveyed.{IsAllOf, one_survey}
 use Rattle.mdv_run_law.proofs.Written.{its_each}
 use Rattle.mdv_store.proofs.Shares.{some_more}
@@ -71,7 +72,7 @@ pub same_through : (n k j m : Memory) → n ≡ k → m ≡ j → IsSameMemory k
 same_through n k j m one other same = subst (λ (x : Memory). IsSameMemory x m) (sym one) (subst (λ (x : Memory). IsSameMemory k x) (sym other) same)
 
 pub same_back : (k j : Memory) → IsSameMemory k j → IsSameMemory j k
-same_back k j is = record { opened = sym is.opened; up = λ drive. sym (is.up drive); clean = sym is.clean; begun = sym is.begun; entries = sym is.entries }
+same_back k j is = record { opened = sym is.opened; up = λ drive. sym (is.up drive); unsteady = λ drive. sym (is.unsteady drive); clean = sym is.clean; begun = sym is.begun; entries = sym is.entries }
 
 -- a boot that was refused memory is answered so
 memory_answer : (e : BootEnd) → is_memory e ≡ true → answered_by e ≡ Over ended.Memory
@@ -121,6 +122,7 @@ module _ (host : Host) (calls also : Outcomes) (calm : NoneFailed calls) (calm_t
   booted_same opened up over clean other begun begun_too number is is_too = record {
     opened = refl;
     up = same_up up over clean other is is_too;
+    unsteady = λ drive. refl;
     clean = all_clean calls calm up clean is ∙ sym (all_clean also calm_too over other is_too);
     begun = number;
     entries = refl;
@@ -480,28 +482,30 @@ module _ (host : Host) (has : IsOfTable host) (once : AreOnce host.drives.slices
   boot_same may then wanted calls also calm calm_too k j n m a b same sated sated_too first second =
       one_boot calls also calm calm_too k j n m a b (same.alike wanted) same.memory.begun same.beside sated sated_too then first second
 
-  -- a write puts the same blocks
-  module _ (place : DriveBlock) (block : List ℕ) (beside_site : site_area host.site place.drive (place.block + 0) ≡ false) where
-    put_kept : (old new : Image) → ArePut place (block ∷ []) old new → (drive b : ℕ) → site_area host.site drive b ≡ true → new drive b ≡ old drive b
-    put_kept old new put drive b within = elim (both_ways (covers place.drive place.block 1 drive b)) [
-      | inl here ↦
-          let at = put_at place.drive place.block drive b here in
-          let in_area : site_area host.site place.drive (place.block + 0) ≡ true = sym (λ i. site_area host.site (at.0 i) (at.1 i)) ∙ within in
-          absurd (false≢true (sym beside_site ∙ in_area))
-      | inr out ↦ put.elsewhere drive b out
+  -- A write puts the same blocks: each lies at one place, and none where a replica may.
+  module _ (v : Map) (at : ℕ) (blocks : List (List ℕ)) (one_each : (k : ℕ) → k < length blocks → (drive : ℕ) × (block : ℕ) × LiesAt v (at + k) drive block)
+      (out_of_site : (k drive block : ℕ) → k < length blocks → HasDriveBlock (v.places (at + k)) drive block → site_area host.site drive block ≡ false) where
+    put_there : (old new : Image) → ArePut v at blocks old new → (k drive block : ℕ) → k < length blocks → HasDriveBlock (v.places (at + k)) drive block → new drive block ≡ slice_index_or blocks k []
+    put_there old new put k drive block below has =
+        let lies = one_each k below in
+        let here = one_place v (at + k) lies.0 lies.1 lies.2 drive block has in
+        put.here k (new drive block) below (subst (λ (x : List ℕ). Among (readings v new (at + k)) x) (λ i. new (sym here.0 i) (sym here.1 i)) (reads_there v (at + k) lies.0 lies.1 lies.2 new))
+
+    put_kept : (old new : Image) → ArePut v at blocks old new → (drive block : ℕ) → site_area host.site drive block ≡ true → new drive block ≡ old drive block
+    put_kept old new put drive block within = elim (off_or_there v at (length blocks) drive block) [
+      | inl off ↦ put.elsewhere drive block off
+      | inr one ↦ absurd (false≢true (sym (out_of_site one.0 drive block one.1 one.2) ∙ within))
     ]
 
-    pub put_same : (may : Type 0) (k j n m : Kept) → Same may k j → n.memory ≡ k.memory → m.memory ≡ j.memory → ArePut place (block ∷ []) k.content n.content → ArePut place (block ∷ []) j.content m.content → Same may n m
+    pub put_same : (may : Type 0) (k j n m : Kept) → Same may k j → n.memory ≡ k.memory → m.memory ≡ j.memory → ArePut v at blocks k.content n.content → ArePut v at blocks j.content m.content → Same may n m
     put_same may k j n m same memory memory_too put put_too = record {
       memory = same_through n.memory k.memory j.memory m.memory memory memory_too same.memory;
-      beside = λ drive b out. elim (both_ways (covers place.drive place.block 1 drive b)) [
-        | inl here ↦ there n put (put_at place.drive place.block drive b here) ∙ sym (there m put_too (put_at place.drive place.block drive b here))
-        | inr away ↦ put.elsewhere drive b away ∙ same.beside drive b out ∙ sym (put_too.elsewhere drive b away)
+      beside = λ drive block out. elim (off_or_there v at (length blocks) drive block) [
+        | inr one ↦ put_there k.content n.content put one.0 drive block one.1 one.2 ∙ sym (put_there j.content m.content put_too one.0 drive block one.1 one.2)
+        | inl off ↦ put.elsewhere drive block off ∙ same.beside drive block out ∙ sym (put_too.elsewhere drive block off)
       ];
       alike = λ wanted. alike_beside (Spells host.drives) (one_text host.drives) host.site ok k.content j.content n.content m.content (put_kept k.content n.content put) (put_kept j.content m.content put_too) (same.alike wanted);
       formed = formed_as n.memory k.memory (ap (λ (x : Memory). x.entries) memory) same.formed;
       one = there_settled k n same.one (ap (λ (x : Memory). x.opened) memory) (put_kept k.content n.content put);
       other = there_settled j m same.other (ap (λ (x : Memory). x.opened) memory_too) (put_kept j.content m.content put_too);
-    } where
-      there : (next : Kept) {old : Image} {drive b : ℕ} → ArePut place (block ∷ []) old next.content → (drive ≡ place.drive) × (b ≡ place.block + 0) → next.content drive b ≡ block
-      there next {old} {drive} {b} is at = ap (λ (d : ℕ). next.content d b) at.0 ∙ ap (next.content place.drive) at.1 ∙ is.here 0 (omega arith)
+    }

@@ -10,7 +10,7 @@ use Rattle.mdv_store_law.specs.Log.{Issue, OfChange, OfCreation, OfEnd, OfPlaces
 use Rattle.mdv_store_law.proofs.Issues.{issue_weaker}
 use Rattle.mdv_store_law.specs.Machine.{AreAll}
 use Rattle.mdv_volumes.specs.Happening.{IsIssue, begins}
-use Rattle.mdv_volumes.specs.History.{Boots, Creation, OfDatabase, OfVolume, Reads, Shows}
+use Rattle.mdv_volumes.specs.History.{Boots, Creation, OfDatabase, OfVolume, Reads, Shows, Unsettles}
 use Rattle.mdv_volumes.proofs.Lists.{all_both, contains_first, contains_behind, first_or_behind}
 use Rattle.mdv_volumes.proofs.Owners.{AreEach, creation_keeps, events_keep}
 use Rattle.mdv_words.specs.Line as words
@@ -29,6 +29,7 @@ Makes P (Acknowledges place key volume at blocks) = Unit {0}
 Makes P (Shows place key volume at blocks) = Unit {0}
 Makes P (Deletes place key) = Unit {0}
 Makes P (Boots key up) = Unit {0}
+Makes P (Unsettles key drive) = Unit {0}
 Makes P Stops = Unit {0}
 Makes P Crashes = Unit {0}
 
@@ -43,6 +44,7 @@ owned_after P h (Acknowledges place key volume at blocks ∷ es) each makes = ow
 owned_after P h (Shows place key volume at blocks ∷ es) each makes = owned_after P (history_after h (Shows place key volume at blocks)) es each makes.1
 owned_after P h (Deletes place key ∷ es) each makes = owned_after P (history_after h (Deletes place key)) es each makes.1
 owned_after P h (Boots key up ∷ es) each makes = owned_after P (history_after h (Boots key up)) es each makes.1
+owned_after P h (Unsettles key drive ∷ es) each makes = owned_after P (history_after h (Unsettles key drive)) es each makes.1
 owned_after P h (Stops ∷ es) each makes = owned_after P (history_after h Stops) es each makes.1
 owned_after P h (Crashes ∷ es) each makes = owned_after P (history_after h Crashes) es each makes.1
 
@@ -55,6 +57,7 @@ makes_weaker P Q weaker (Acknowledges place key volume at blocks) is = tt
 makes_weaker P Q weaker (Shows place key volume at blocks) is = tt
 makes_weaker P Q weaker (Deletes place key) is = tt
 makes_weaker P Q weaker (Boots key up) is = tt
+makes_weaker P Q weaker (Unsettles key drive) is = tt
 makes_weaker P Q weaker Stops is = tt
 makes_weaker P Q weaker Crashes is = tt
 
@@ -80,6 +83,7 @@ module _ (Which : Issue → Type 0) (key : Key) where
   issue_makes (Shows place other volume at blocks) is its = tt
   issue_makes (Deletes place other) is its = tt
   issue_makes (Boots other up) is its = tt
+  issue_makes (Unsettles other drive) is its = tt
   issue_makes Stops is its = tt
   issue_makes Crashes is its = tt
 
@@ -180,6 +184,7 @@ module _ (host : Host) where
   word_issued asks (Shows place key volume at blocks ∷ es) are = (tt, word_issued asks es are.1)
   word_issued asks (Deletes place key ∷ es) are = (tt, word_issued asks es are.1)
   word_issued asks (Boots key up ∷ es) are = (tt, word_issued asks es are.1)
+  word_issued asks (Unsettles key drive ∷ es) are = (tt, word_issued asks es are.1)
   word_issued asks (Stops ∷ es) are = absurd are.0
   word_issued asks (Crashes ∷ es) are = absurd are.0
 

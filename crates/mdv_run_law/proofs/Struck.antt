@@ -12,7 +12,7 @@ use Rattle.mdv_store_law.proofs.Logs.{empty_is_log, is_log_after_all, told_ackno
 use Rattle.mdv_store_law.proofs.Machine.{all_more}
 use Rattle.mdv_store_law.proofs.Orders.{changes_more, told_since}
 use Rattle.mdv_volumes.specs.Happening.{IsLater, begins, begun_at, begun_of, tells}
-use Rattle.mdv_volumes.specs.History.{Acknowledges, Boots, Crashes, Creation, Deletes, OfDatabase, OfVolume, Reads, Shows, Stops}
+use Rattle.mdv_volumes.specs.History.{Acknowledges, Boots, Crashes, Creation, Deletes, OfDatabase, OfVolume, Reads, Shows, Stops, Unsettles}
 use Rattle.mdv_volumes.specs.HistoryLaws.{AreLater, KeepDatabase, database_deeds, log_events_at, log_events_of}
 use Rattle.mdv_volumes.proofs.Ending.{keep_front, none_begins}
 use Rattle.mdv_volumes.proofs.Keys.{databases_live}
@@ -53,6 +53,7 @@ module _ (key : Key) where
   one_later (Shows place other volume at blocks) none = tt
   one_later (Deletes place other) none = tt
   one_later (Boots other up) none = tt
+  one_later (Unsettles other drive) none = tt
   one_later Stops none = tt
   one_later Crashes none = tt
 
@@ -93,6 +94,7 @@ module _ (key : Key) where
   creates g h (Shows place other volume at blocks) may = inr (none_in (Created key))
   creates g h (Deletes place other) may = inr (none_in (Created key))
   creates g h (Boots other up) may = inr (none_in (Created key))
+  creates g h (Unsettles other drive) may = inr (none_in (Created key))
   creates g h Stops may = inr (none_in (Created key))
   creates g h Crashes may = inr (none_in (Created key))
 

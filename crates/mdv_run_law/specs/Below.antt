@@ -17,10 +17,10 @@ pub use Rattle.mdv_base.specs.DriveSet.{Drives}
 pub use Rattle.mdv_engine_law.specs.Awake.{Happening, BootBegins, IsAwakeAt}
 pub use Rattle.mdv_engine_law.specs.Hosts.{StaysHome, host_area, identity_of, key_of}
 pub use Rattle.mdv_engine_law.specs.Commands.{CameTo, ComesTo}
-pub use Rattle.mdv_engine_law.specs.Line.{AreBlocksAt, ArePut, HasVolumeOn}
+pub use Rattle.mdv_engine_law.specs.Line.{ArePut, AreSeen, HasBlocks}
 pub use Rattle.mdv_engine_law.specs.Line.{HasNoTableOn, IsCommitted, IsCreated}
 pub use Rattle.mdv_engine_law.specs.Line.{IsRebooted, IsSame, IsSameBeside, IsTurnedDown, Kept}
-pub use Rattle.mdv_engine_law.specs.Line.{Ask, Memory, Nothing, Stays, ToBoot, ToDo, ToMake, ToMakeListed, ToSee, asked_by, asked_by_line, blocks_of, contents}
+pub use Rattle.mdv_engine_law.specs.Line.{Ask, Memory, Nothing, Stays, ToBoot, ToDo, ToMake, ToMakeListed, ToSee, asked_by, asked_by_line, contents}
 pub use Rattle.mdv_engine_law.specs.Line.{kept_at, record_room, unbooted}
 pub use Rattle.mdv_engine_law.specs.Replies.{Acks, AcksBy, AcksFront, AcksIn, IsFront, IsPlain, IsRefusal, IsPlainAnswer, IsReplied, IsReply, IsTold, is_front_of, issuable, issuable_front, issuable_in, issuable_of}
 pub use Rattle.mdv_engine_law.specs.Replies.{ok_line, refusal_line}
@@ -32,7 +32,7 @@ pub use Rattle.mdv_engine_law.specs.declared.host.Host.{Host}
 pub use Rattle.mdv_home.specs.Drives.{own_drives}
 pub use Rattle.mdv_home.specs.View.{own_view}
 pub use Rattle.mdv_listing.specs.Listing.{listing_of}
-pub use Rattle.mdv_map.specs.Maps.{Map, readings, run_map}
+pub use Rattle.mdv_map.specs.Maps.{Map, readings}
 pub use Rattle.mdv_name.specs.Geometry.{IsGeometry}
 pub use Rattle.mdv_name.specs.SliceIndex.{HasNoSlice, HasSlice}
 pub use Rattle.mdv_name.specs.declared.geometry.Geometry.{Geometry}

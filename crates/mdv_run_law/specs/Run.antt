@@ -449,6 +449,7 @@ pub record IsSated (told : List ℕ) (status : RunStatus) : Type 0 where
 pub record IsSameMemory (a b : Memory) : Type 0 where
   pub opened : a.opened ≡ b.opened
   pub up : (drive : DriveNo) → has_drive a.up drive ≡ has_drive b.up drive
+  pub unsteady : (drive : DriveNo) → has_drive a.unsteady drive ≡ has_drive b.unsteady drive
   pub clean : a.clean ≡ b.clean
   pub begun : a.begun ≡ b.begun
   pub entries : a.entries ≡ b.entries

@@ -228,27 +228,29 @@ const BAD: &[Row] = &[
     ("write d0 0 xy", "refused E1 BadLine"),
 ];
 
-// Behind a write that failed no other database is made until a boot has read what is there.
+// Behind a write that failed another database is made as ever.
 const FAILED_WRITES: &[Row] = &[
     ("metadb -a -f -l 16 c0t0d0s7", "ok"),
     ("metainit d0 1 1 c0t0d0s0", "ok"),
     ("write d0 5 ab", "refused E23 IoFault"),
     ("metadb -d -f c0t0d0s7", "ok"),
-    ("metadb -a -f -l 16 c0t0d0s7", DOWN),
-    ("metadb -a -l 16 c0t0d0s7", DOWN),
-    ("boot", "ok"),
+    ("metadb -a -l 16 c0t0d0s7", "refused E3 NeedForce"),
     ("metadb -a -f -l 16 c0t0d0s7", "ok"),
-    ("metastat -p", "ok"),
+    ("metainit d0 1 1 c0t0d0s0", "ok"),
+    ("write d0 5 cd", "ok"),
+    ("boot", "ok"),
+    ("read d0 5 1", "5 cd\nok"),
+    ("metastat -p", "d0 1 1 c0t0d0s0\nok"),
 ];
 
-// Nor behind one whose block is written anew.
+// So it is behind one whose block is written anew.
 const WRITTEN_ANEW: &[Row] = &[
     ("metadb -a -f -l 16 c0t0d0s7", "ok"),
     ("metainit d0 1 1 c0t0d0s0", "ok"),
     ("write d0 5 ab", "refused E23 IoFault"),
     ("write d0 5 cd", "ok"),
     ("metadb -d -f c0t0d0s7", "ok"),
-    ("metadb -a -f -l 16 c0t0d0s7", DOWN),
+    ("metadb -a -f -l 16 c0t0d0s7", "ok"),
 ];
 
 // A boot between the write and the deletion has read what is there. A read that failed leaves all as it is.

@@ -336,13 +336,9 @@ impl Roster {
         }
     }
 
-    // Behind a write that failed no other database is made until the next boot.
     fn write(&mut self, volume: u8, value: Value) -> &'static str {
         match self.block_refusal(volume) {
-            Some(refusal) => {
-                self.clean = self.clean && refusal != FAULT;
-                refusal
-            }
+            Some(refusal) => refusal,
             None => {
                 if let Some(block) = self.blocks.get_mut(usize::from(volume)) {
                     *block = value;

@@ -33,11 +33,12 @@ use Rattle.mdv_run_law.proofs.Deeds.{part_contains}
 use Rattle.mdv_volumes.specs.HistoryLaws.{KeepDatabase}
 use Rattle.mdv_volumes.proofs.Found.{AreLasting}
 use Rattle.mdv_volumes.proofs.Lists.{contains_first}
+use Rattle.mdv_volumes.proofs.Maps.{has_new}
 use Rattle.mdv_theorem.specs.Exchanges.{Asks, Exchange, IsGranted, IsTold, MayHaveBegun, ShowsThere}
 use Rattle.mdv_theorem.specs.Words.{HasDatabase, IsMadeBy, IsMadeOn, IsThere, MayTakeDatabase, NeedsDatabase, spread}
 use Rattle.mdv_theorem.proofs.Agreeing.{own_sound}
 use Rattle.mdv_theorem.proofs.Along.{line_lies, open_lies}
-use Rattle.mdv_theorem.proofs.Changes.{HasStripe, has_new, stripe, stripe_stays}
+use Rattle.mdv_theorem.proofs.Changes.{HasStripe, stripe, stripe_stays}
 use Rattle.mdv_theorem.proofs.Creating.{made_there}
 use Rattle.mdv_theorem.proofs.Ends.{taken_away}
 use Rattle.mdv_theorem.proofs.Leading.{IsIdled, IsLed, lasting_over}

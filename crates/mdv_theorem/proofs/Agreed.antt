@@ -8,18 +8,15 @@ use Rattle.std.specs.Str.{bytes_eq}
 use Rattle.mdv_base.specs.declared.drive.DriveNo.{DriveNo}
 use Rattle.mdv_base.specs.declared.name.VolId.{VolId}
 use Rattle.mdv_engine_law.specs.declared.host.Host.{Host}
-use Rattle.mdv_engine_law.proofs.Beside.{run_is}
 use Rattle.mdv_engine_law.proofs.Plain.{nothing_answers}
 use Rattle.mdv_home.proofs.Siting.{sites_are_own}
 use Rattle.mdv_home.proofs.Viewing.{view_is_own}
 use Rattle.mdv_home.specs.View.{own_view}
-use Rattle.mdv_map.specs.Maps.{run_map}
 use Rattle.mdv_name.specs.declared.geometry.Geometry.{Geometry}
 use Rattle.mdv_port.specs.Script.{Script}
 use Rattle.mdv_run_law.specs.Lives as life
 use Rattle.mdv_run_law.specs.Lives.{IsLife, Ran, host_of}
 use Rattle.mdv_run_law.specs.Told.{RunToldBy}
-use Rattle.mdv_run_law.proofs.Extents.{one_place}
 use Rattle.mdv_shelf.specs.Area.{KeptOutside}
 use Rattle.mdv_shelf.specs.Story.{Story, tale_of}
 use Rattle.mdv_shelf.specs.Tale.{MayLeave, Tale, last, told}
@@ -40,7 +37,8 @@ use Rattle.mdv_theorem.specs.Words.{IsOrWasWritten, MayTakeDatabase, TakesDataba
 use Rattle.mdv_theorem.proofs.Contents.{IsToldOf, told_block}
 use Rattle.mdv_theorem.proofs.Given.{Given}
 use Rattle.mdv_theorem.proofs.Later.{Lasts, LastsNow, lasts_between, lasts_runs, lines_since, take_before, take_behind}
-use Rattle.mdv_theorem.proofs.Leaving.{Leaves, Spot, Written, leaves_more, own, spot_out}
+use Rattle.mdv_theorem.proofs.Leaving.{Leaves, Written, leaves_more, own, spot_out}
+use Rattle.mdv_theorem.proofs.Place.{Spot, at_run, one_spot}
 use Rattle.mdv_theorem.proofs.Tail.{rest_told, tail_leaves}
 use Rattle.mdv_theorem.proofs.Until.{AtRead, ThePlace, all_left, into, its, lie, place, spot}
 use Rattle.mdv_theorem.proofs.Agreeing.{taken_or}
@@ -92,7 +90,7 @@ module _ (given : Given) (drives : Geometry) (name : List ℕ) (before : List Ra
 
   -- as it was told there
   pub then_told : IsToldOf host volume number old at.place.at.kept at.place.next
-  then_told = told_block host at.place.calls at.place.at.kept at.place.next read at.place.answer at.place.comes at.place.said at.place.told volume number old tells
+  then_told = told_block host (its_sound drives name before script sound of_table run) at.place.calls at.place.at.kept at.place.next at.place.sure read at.place.answer at.place.comes at.place.said at.place.told volume number old tells
 
   -- a history is known there
   abbrev pub known : IsSureAt host script (start run of_table) run.t.tale at.place.at
@@ -119,8 +117,8 @@ module _ (given : Given) (drives : Geometry) (name : List ℕ) (before : List Ra
       record { sound = base.sound; life = life.run_on before name run.fresh run.t.tale went.m.tale next script base.life of_table went.stands went.found; fair = (run.new_word, base.fair); clean = (base.clean, went.clean) }
 
   -- the lines from there on leave what was there, or what they may have written
-  module _ (Away : Type 0) (final : Table) (spot : Spot drives name final volume number) (into : (table : Table) → LastsNow drives name table its_run before went.m.tale → Away ⊎ Grows (own drives name).drives table final) (takes : TakeDatabase behind → Away) where
-    pub behind_left : Away ⊎ Leaves volume number spot.drive (spot.first + number) (read ∷ behind) (tale_of known.story) next
+  module _ (Away : Type 0) (final : Table) (spot : Spot (own drives name).drives final volume number) (into : (table : Table) → LastsNow drives name table its_run before went.m.tale → Away ⊎ Grows (own drives name).drives table final) (takes : TakeDatabase behind → Away) where
+    pub behind_left : Away ⊎ Leaves volume number spot.at.drive spot.at.block (read ∷ behind) (tale_of known.story) next
     behind_left =
         let into_here : (table : Table) → LastsNow drives name table told_run before went.m.tale → Away ⊎ Grows (own drives name).drives table final = λ table lasts. into table (subst (λ (one : Ran). LastsNow drives name table one before went.m.tale) same_run lasts) in
         let taking : TakeDatabase (exchanges_of at.place.at.script (at.place.left ++ at.by.lines.rest)) → Away = λ taken. takes (taken_behind read volume number old tells behind (subst TakeDatabase at.place.asked taken)) in
@@ -129,16 +127,16 @@ module _ (given : Given) (drives : Geometry) (name : List ℕ) (before : List Ra
         (rest_told host run.stretch run.start run.t.tale script went.tells.bytes went.m at.by went.tells.is_told run.moment.begins.0 run.moment.begins.1 run.moment.begins.2) taking) [
           | inl away ↦ inl away
           | inr left ↦
-              let drive = spot.drive in
-              let block = spot.first + number in
+              let drive = spot.at.drive in
+              let block = spot.at.block in
               let these = subst (λ (l : List Exchange). Leaves volume number drive block l (tale_of known.story) went.m.tale) at.place.asked left in
               let all = leaves_more volume number drive block (read ∷ behind) [] (tale_of known.story) went.m.tale next these (found_leaves volume number drive block went.m.tale next went.found) in
               inr (subst (λ (l : List Exchange). Leaves volume number drive block l (tale_of known.story) next) (append-nil (read ∷ behind)) all)
         ]
 
   -- it was read as it is there
-  pub there_old : (drive first : ℕ) → then_told.drive ≡ drive → then_told.first ≡ first → IsSameBlock (last (tale_of known.story) drive (first + number)) old
-  there_old drive first on from = ap significant (known.reads drive (first + number) ∙ sym (λ i. at.place.at.kept.content (on i) (from i + number))) ∙ sym then_told.same
+  pub there_old : (drive block : ℕ) → then_told.spot.at.drive ≡ drive → then_told.spot.at.block ≡ block → IsSameBlock (last (tale_of known.story) drive block) old
+  there_old drive block on from = ap significant (known.reads drive block ∙ sym (λ i. at.place.at.kept.content (on i) (from i))) ∙ sym then_told.same
 
   -- where no call had failed on its drive, a crash would leave just that
   pub settled_so : (drive : DriveNo) → Contains host.site.drives drive → HasAnswered run drive → (b : ℕ) (out : site_area host.site drive.0 b ≡ false) → IsSettledAt host (its_sound drives name before script sound of_table run) refl drive.0 b out (tale_of known.story)
@@ -168,7 +166,7 @@ module _ (given : Given) (drives : Geometry) (name : List ℕ) (before more : Li
   abbrev told_again : IsToldOf (host_of drives name later.fresh) volume number block place_again.at.kept place_again.next
   told_again = its drives name more other sound of_table later given again its_here its_rest volume number block parts tells_again by
 
-  abbrev its_spot : Spot drives name told_again.o.table volume number
+  abbrev its_spot : Spot (own drives name).drives told_again.o.table volume number
   its_spot = spot drives name more other sound of_table later given again its_here its_rest volume number block parts tells_again by
 
   abbrev pub since : List Exchange
@@ -196,11 +194,10 @@ module _ (given : Given) (drives : Geometry) (name : List ℕ) (before more : Li
 
   -- so it lies where it lay
   module _ (grows : Grows (own drives name).drives told_first.o.table told_again.o.table) where
-    moved : (told_first.drive ≡ told_again.drive) × (told_first.first ≡ told_again.first)
+    moved : (told_first.spot.at.drive ≡ its_spot.at.drive) × (told_first.spot.at.block ≡ its_spot.at.block)
     moved =
-        let run_of = one_place (own drives name).drives (view_is_own.sound drives name sound) told_again.o.table its_spot.plan volume told_first.drive told_first.first told_first.count told_again.drive told_again.first told_again.count
-        (grows volume (run_map told_first.drive told_first.first told_first.count) told_first.lies) told_again.lies in
-        (run_of.on_drive, run_of.at_first)
+        one_spot (own drives name).drives (view_is_own.sound drives name sound) told_again.o.table its_spot.plan volume told_first.spot.map its_spot.map number
+        (grows volume told_first.spot.map told_first.spot.lies) its_spot.lies told_first.spot.at its_spot.at
 
   abbrev known_then : IsSureAt (host_of drives name run.fresh) script (start run of_table) run.t.tale from.place.at
   known_then = known given drives name before script sound of_table run next went here rest behind read volume number old tells now so_went
@@ -209,7 +206,7 @@ module _ (given : Given) (drives : Geometry) (name : List ℕ) (before more : Li
   End = AtRead drives name more other sound of_table later given again its_here its_rest volume number block parts tells_again by
 
   abbrev AreLeft : List Exchange → Tale → Tale → Type 0
-  AreLeft es t u = Leaves volume number told_again.drive (told_again.first + number) es t u
+  AreLeft es t u = Leaves volume number its_spot.at.drive its_spot.at.block es t u
 
   -- what is left from the one read to the other
   left : TakeDatabase between ⊎ ((end : End) × AreLeft ((read ∷ behind) ++ (since ++ its_here)) (tale_of known_then.story) (tale_of end.story))
@@ -218,30 +215,29 @@ module _ (given : Given) (drives : Geometry) (name : List ℕ) (before more : Li
     | inr first ↦ elim (all_left drives name more other sound of_table later given again its_here its_rest volume number block parts tells_again by (TakeDatabase between) by_here run.made (one ∷ before) next
         (life_on given drives name before script sound of_table run next went here rest behind read volume number old tells now so_went) runs clean by_since) [
           | inl takes ↦ inl takes
-          | inr (end, behind_it) ↦ inr (end, leaves_more volume number told_again.drive (told_again.first + number) (read ∷ behind) (since ++ its_here) (tale_of known_then.story) next (tale_of end.story) first behind_it)
+          | inr (end, behind_it) ↦ inr (end, leaves_more volume number its_spot.at.drive its_spot.at.block (read ∷ behind) (since ++ its_here) (tale_of known_then.story) next (tale_of end.story) first behind_it)
         ]
   ]
 
   module _ (bears : Bears run volume (exchanges_by name more ++ its_here) (number + 1)) where
     -- no call had failed on its drive by the first read
-    settled : (x : List ℕ) → MayLeave (tale_of known_then.story) told_again.drive (told_again.first + number) x → x ≡ last (tale_of known_then.story) told_again.drive (told_again.first + number)
+    settled : (x : List ℕ) → MayLeave (tale_of known_then.story) its_spot.at.drive its_spot.at.block x → x ≡ last (tale_of known_then.story) its_spot.at.drive its_spot.at.block
     settled =
         let lies = lie drives name more other sound of_table later given again its_here its_rest volume number block parts tells_again by in
-        let its_run = run_is told_again.drive told_again.first told_again.count lies.at.drive.0 lies.at.start lies.at.blocks lies.is in
-        let on = its_run.on_drive in
-        let within = told_again.within in
-        let many = its_run.as_many in
-        let calm = bears.answered lies.slice lies.at lies.may lies.has lies.plain (omega (arith, within, many)) in
+        let there = at_run its_spot.map number its_spot.at lies.at.drive.0 lies.at.start lies.at.blocks lies.is in
+        let on = there.0 in
+        let within = there.2 in
+        let calm = bears.answered lies.slice lies.at lies.may lies.has lies.plain (omega (arith, within)) in
         let is_own = subst (λ (l : List DriveNo). Contains l lies.at.drive) (sym (sites_are_own.drives (own_view drives name) name)) ((view_is_own.seen drives name lies.slice lies.at).0 lies.has).1 in
-        let out = subst (λ (d : ℕ). site_area (own drives name).site d (told_again.first + number) ≡ false) on (spot_out drives name sound of_table told_again.o.table volume number its_spot) in
-        subst (λ (d : ℕ). (x : List ℕ) → MayLeave (tale_of known_then.story) d (told_again.first + number) x → x ≡ last (tale_of known_then.story) d (told_again.first + number)) (sym on)
-        (settled_so given drives name before script sound of_table run next went here rest behind read volume number old tells now so_went lies.at.drive is_own calm (told_again.first + number) out)
+        let out = subst (λ (d : ℕ). site_area (own drives name).site d its_spot.at.block ≡ false) on (spot_out drives name sound of_table told_again.o.table volume number its_spot) in
+        subst (λ (d : ℕ). (x : List ℕ) → MayLeave (tale_of known_then.story) d its_spot.at.block x → x ≡ last (tale_of known_then.story) d its_spot.at.block) (sym on)
+        (settled_so given drives name before script sound of_table run next went here rest behind read volume number old tells now so_went lies.at.drive is_own calm its_spot.at.block out)
 
     -- so it has what the first read told, or what a line since may have written
-    by_value : (grows : Grows (own drives name).drives told_first.o.table told_again.o.table) (x : List ℕ) → IsSameBlock block x → MayLeave (tale_of known_then.story) told_again.drive (told_again.first + number) x ⊎ Written volume number ((read ∷ behind) ++ (since ++ its_here)) x → IsOrWasWritten volume number old between block
+    by_value : (grows : Grows (own drives name).drives told_first.o.table told_again.o.table) (x : List ℕ) → IsSameBlock block x → MayLeave (tale_of known_then.story) its_spot.at.drive its_spot.at.block x ⊎ Written volume number ((read ∷ behind) ++ (since ++ its_here)) x → IsOrWasWritten volume number old between block
     by_value grows x same (inl was) =
         let same_place = moved grows in
-        inl (same ∙ ap significant (settled x was) ∙ there_old given drives name before script sound of_table run next went here rest behind read volume number old tells now so_went told_again.drive told_again.first same_place.0 same_place.1)
+        inl (same ∙ ap significant (settled x was) ∙ there_old given drives name before script sound of_table run next went here rest behind read volume number old tells now so_went its_spot.at.drive its_spot.at.block same_place.0 same_place.1)
     by_value grows x same (inr (writes, new, has, may, is)) = elim (Contains-append_cases (read ∷ []) (behind ++ (since ++ its_here)) writes has) [
       | inl first ↦ absurd (never_written read volume volume number number old new tells (subst (λ (e : Exchange). MayBeWritten volume number new e) (sym (the_only read writes first)) may))
       | inr after ↦ inr (inl (writes, new, subst (λ (l : List Exchange). Contains l writes) (sym (append_assoc behind since its_here)) after, may, same ∙ ap significant is))
@@ -255,8 +251,8 @@ module _ (given : Given) (drives : Geometry) (name : List ℕ) (before more : Li
         | inr grows ↦ elim left [
           | inl takes ↦ taken_or volume number old between block takes
           | inr (end, leaves) ↦
-              let x = last (tale_of end.story) told_again.drive (told_again.first + number) in
-              by_value grows x (told_again.same ∙ ap significant (sym (end.reads told_again.drive (told_again.first + number)))) (leaves x (last_may_be_left (tale_of end.story) told_again.drive (told_again.first + number)))
+              let x = last (tale_of end.story) its_spot.at.drive its_spot.at.block in
+              by_value grows x (told_again.same ∙ ap significant (sym (end.reads its_spot.at.drive its_spot.at.block))) (leaves x (last_may_be_left (tale_of end.story) its_spot.at.drive its_spot.at.block))
         ]
       ]
     ]

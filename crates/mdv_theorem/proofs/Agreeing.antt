@@ -1,13 +1,13 @@
 -- What two reads of a run tell of one block agrees, but for what was written in between.
-use Rattle.std.proofs.Common.{◌≡◌, inl, inr, ℕ, ◌+◌, false, List, ◌∷◌, ◌++◌, Some, refl, sym, ◌∙◌, ap}
+use Rattle.std.proofs.Common.{◌≡◌, inl, inr, ℕ, false, List, ◌∷◌, ◌++◌, Some, refl, sym, ◌∙◌, ap}
 use Rattle.mdv_base.specs.declared.name.VolId.{VolId}
 use Rattle.mdv_engine_law.specs.Line.{Kept, Memory}
 use Rattle.mdv_engine_law.specs.declared.host.Host.{Host}
 use Rattle.mdv_home.proofs.Viewing.{view_is_own}
-use Rattle.mdv_map.specs.Maps.{run_map}
+use Rattle.mdv_map.specs.Maps.{Map}
 use Rattle.mdv_name.specs.declared.geometry.Geometry.{Geometry}
 use Rattle.mdv_run_law.specs.Lives.{host_of}
-use Rattle.mdv_run_law.proofs.Extents.{one_place, SeesOwn}
+use Rattle.mdv_run_law.proofs.Extents.{SeesOwn}
 use Rattle.mdv_status.specs.Values.{significant, values_reply}
 use Rattle.mdv_table.specs.Slices.{IsSound}
 use Rattle.mdv_table.specs.declared.table.Table.{Table}
@@ -15,12 +15,12 @@ use Rattle.mdv_volumes.specs.Tables.{IsMapOf}
 use Rattle.mdv_theorem.specs.Exchanges.{Exchange, IsSameBlock}
 use Rattle.mdv_theorem.specs.Observed.{ReadsAgree}
 use Rattle.mdv_theorem.specs.Words.{IsOrWasWritten}
-use Rattle.mdv_theorem.proofs.Contents.{IsStill, IsToldOf, content_steps, lies_out, told_block}
+use Rattle.mdv_theorem.proofs.Contents.{IsStill, IsToldOf, content_steps, told_block}
 use Rattle.mdv_theorem.proofs.Ends.{TakeDatabase, taken_away}
 use Rattle.mdv_theorem.proofs.Kept.{keeps_over}
 use Rattle.mdv_theorem.proofs.Steps.{Between, Failed, Steps, reached, stepped, steps_cut}
 use Rattle.mdv_theorem.proofs.Tables.{Keeps, keeps_open, map_carried, open_keeps}
-use Rattle.mdv_theorem.proofs.Sure.{sure_plan}
+use Rattle.mdv_theorem.proofs.Place.{BlockAt, one_spot, spot_beside}
 use Rattle.mdv_shown.specs.Site.{site_area}
 
 -- what a host sees of sound drives
@@ -32,38 +32,44 @@ pub taken_or : (volume : VolId) (number : ℕ) (old : List ℕ) (lines : List Ex
 taken_or volume number old lines block takes = inr (inr (takes.0, takes.1, taken_away volume takes.0 takes.2))
 
 module _ (host : Host) (sound : IsSound host.drives) (sees : SeesOwn host) (volume : VolId) (number : ℕ) where
-  abbrev Lies_at : ℕ → ℕ → ℕ → Table → Type 0
-  Lies_at drive first count t = IsMapOf host.drives t volume (run_map drive first count)
+  abbrev Lies_in : Map → Table → Type 0
+  Lies_in v t = IsMapOf host.drives t volume v
 
   -- a block that was told is where it was known to lie
-  pub told_there : (drive first count : ℕ) (at : Between host) (next : Kept) (block : List ℕ) → Keeps host (Lies_at drive first count) at → IsToldOf host volume number block at.kept next → IsSameBlock block (at.kept.content drive (first + number))
-  told_there drive first count at next block keeps told =
-      let lies = open_keeps host (Lies_at drive first count) at told.o keeps told.opened in
-      let run = one_place host.drives sound told.o.table (sure_plan host at.kept told.o at.sure told.opened) volume drive first count told.drive told.first told.count lies told.lies in
-      told.same ∙ (λ i. significant (at.kept.content (sym run.on_drive i) (sym run.at_first i + number)))
+  pub told_there : (v : Map) (place : BlockAt v number) (at : Between host) (next : Kept) (block : List ℕ) → Keeps host (Lies_in v) at → IsToldOf host volume number block at.kept next → IsSameBlock block (at.kept.content place.drive place.block)
+  told_there v place at next block keeps told =
+      let lies = open_keeps host (Lies_in v) at told.o keeps told.opened in
+      let same = one_spot host.drives sound told.o.table told.spot.plan volume told.spot.map v number told.spot.lies lies told.spot.at place in
+      told.same ∙ (λ i. significant (at.kept.content (same.0 i) (same.1 i)))
 
   module _ (Failed : ℕ → Type 0) (es : List Exchange) (kept : Kept) (mid last : Between host) (next : Kept) (old block : List ℕ) (told : IsToldOf host volume number old kept mid.kept) (steps : Steps host Failed mid es last) (again : IsToldOf host volume number block last.kept next) where
+    abbrev map : Map
+    map = told.spot.map
+
+    abbrev place : BlockAt map number
+    place = told.spot.at
+
     abbrev Lies : Table → Type 0
-    Lies = Lies_at told.drive told.first told.count
+    Lies = Lies_in map
 
     still_open : mid.kept.memory.opened ≡ Some told.o
     still_open = ap (λ (m : Memory). m.opened) told.stays.memory ∙ told.opened
 
     keeps : Keeps host Lies mid
-    keeps = keeps_open host Lies mid told.o still_open told.lies
+    keeps = keeps_open host Lies mid told.o still_open told.spot.lies
 
     -- none of a replica's
-    out : site_area host.site told.drive (told.first + number) ≡ false
-    out = lies_out host sound sees volume told.drive told.first told.count number told.within told.o.table (sure_plan host mid.kept told.o mid.sure still_open) told.lies
+    out : site_area host.site place.drive place.block ≡ false
+    out = spot_beside host sound sees told.o.table volume number told.spot
 
-    by : Keeps host Lies last → IsStill host sound sees volume told.drive told.first told.count number told.within out es mid.kept last.kept → IsOrWasWritten volume number old es block
-    by now (inl same) = inl (told_there told.drive told.first told.count last next block now again ∙ ap significant (same ∙ told.stays.content told.drive (told.first + number)) ∙ sym told.same)
-    by now (inr (one, new, has, may, reads)) = inr (inl (one, new, has, may, told_there told.drive told.first told.count last next block now again ∙ ap significant reads))
+    by : Keeps host Lies last → IsStill host sound sees volume map number place out es mid.kept last.kept → IsOrWasWritten volume number old es block
+    by now (inl same) = inl (told_there map place last next block now again ∙ ap significant (same ∙ told.stays.content place.drive place.block) ∙ sym told.same)
+    by now (inr (one, new, has, may, reads)) = inr (inl (one, new, has, may, told_there map place last next block now again ∙ ap significant reads))
 
     agree_on : IsOrWasWritten volume number old es block
-    agree_on = elim (keeps_over host Lies (map_carried host.drives volume (run_map told.drive told.first told.count)) Failed mid last es keeps steps) [
+    agree_on = elim (keeps_over host Lies (map_carried host.drives volume map) Failed mid last es keeps steps) [
       | inl takes ↦ taken_or volume number old es block takes
-      | inr now ↦ elim (content_steps host sound sees volume told.drive told.first told.count number told.within out Failed mid last es keeps steps) [
+      | inr now ↦ elim (content_steps host sound sees volume map number place out Failed mid last es keeps steps) [
         | inl takes ↦ taken_or volume number old es block takes
         | inr still ↦ by now still
       ]
@@ -78,5 +84,5 @@ reads_agree = λ drives name before script of_table run read again first between
     let cut = steps_cut host (Failed run) first (read ∷ between) (record { kept = there.first; sure = there.first_sure }) last there.steps in
     let line = stepped host (Failed run) cut.0 last read between cut.2 in
     agree_on host own refl volume number (Failed run) between line.kept (record { kept = line.mid; sure = line.next }) last there.next old block
-    (told_block host line.calls line.kept line.mid read line.answer line.comes line.said line.told volume number old tells) line.after
-    (told_block host there.calls there.kept there.next again there.answer there.comes there.said there.told volume number block tells_again)
+    (told_block host own line.calls line.kept line.mid line.sure read line.answer line.comes line.said line.told volume number old tells) line.after
+    (told_block host own there.calls there.kept there.next there.sure again there.answer there.comes there.said there.told volume number block tells_again)

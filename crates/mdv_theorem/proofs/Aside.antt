@@ -104,7 +104,7 @@ done_untold calls host kept next (AddPlaces slices force count blocks) answer r 
 done_untold calls host kept next (AddListed number force) answer r effect told = effect
 done_untold calls host kept next (DropPlaces slices force) answer r effect told = ok_is_none r (sym (ap text_of effect.0) ∙ told)
 done_untold calls host kept next (MakeStripe volume slice) answer r effect told = ok_is_none r (sym (ap text_of effect.0) ∙ told)
-done_untold calls host kept next (Read volume at count) answer r effect told = values_are_none at _ r (sym (ap text_of effect.3) ∙ told)
+done_untold calls host kept next (Read volume at count) answer r effect told = values_are_none at _ r (sym (ap text_of effect.6) ∙ told)
 done_untold calls host kept next (Write volume at block) answer r effect told = ok_is_none r (sym (ap text_of effect.3) ∙ told)
 done_untold calls host kept next (Print names) answer r (calm, o, opened, text, same) told = listing_is_none o.table.plan names r (sym (ap text_of text) ∙ told)
 

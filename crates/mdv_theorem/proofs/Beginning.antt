@@ -1,15 +1,11 @@
 -- What a read tells of a block is what the new drives held there, on the slice where the volume lies, or was written since.
-use Rattle.std.proofs.Common.{◌≡◌, ◌⊎◌, ⊎_elim, inl, inr, ℕ, ◌+◌, List, [], ◌∷◌, ◌++◌, refl, sym, ◌∙◌, ap, subst, arith, Contains}
+use Rattle.std.proofs.Common.{◌≡◌, ◌⊎◌, ⊎_elim, inl, inr, ℕ, ◌+◌, ◌<◌, List, [], ◌∷◌, ◌++◌, refl, sym, ◌∙◌, ap, subst, Contains}
 use Rattle.mdv_base.specs.declared.name.VolId.{VolId}
-use Rattle.mdv_engine_law.proofs.Beside.{run_is}
 use Rattle.mdv_engine_law.proofs.Plain.{nothing_answers}
-use Rattle.mdv_home.proofs.Viewing.{view_is_own}
-use Rattle.mdv_map.specs.Maps.{Map, run_map}
 use Rattle.mdv_name.specs.declared.geometry.Geometry.{Geometry}
 use Rattle.mdv_port.specs.Script.{Script}
 use Rattle.mdv_run_law.specs.Lives.{Ran, host_of, new_drives}
 use Rattle.mdv_run_law.specs.Told.{RunToldBy}
-use Rattle.mdv_run_law.proofs.Extents.{one_place}
 use Rattle.mdv_shelf.specs.Everywhere.{Image}
 use Rattle.mdv_shelf.specs.Story.{tale_of}
 use Rattle.mdv_shelf.specs.Tale.{Begun, MayLeave, Start, Tale, last, values}
@@ -18,21 +14,20 @@ use Rattle.mdv_status.specs.Values.{significant, values_reply}
 use Rattle.mdv_status.specs.Telling.{replies_in}
 use Rattle.mdv_store_law.specs.Laws.{restarted}
 use Rattle.mdv_table.specs.Slices.{IsSound}
-use Rattle.mdv_table.specs.Table.{IsPlanOf}
-use Rattle.mdv_volumes.specs.Tables.{IsMapOf}
 use Rattle.mdv_theorem.specs.Exchanges.{Exchange, TellsBlock, exchanges, exchanges_by}
 use Rattle.mdv_theorem.specs.Observed.{BlocksBegin}
 use Rattle.mdv_theorem.specs.Running.{Running, exchanges_now}
 use Rattle.mdv_theorem.specs.Words.{HeldAtFirst, IsOrWasWritten}
 use Rattle.mdv_theorem.proofs.Contents.{IsToldOf}
 use Rattle.mdv_theorem.proofs.Given.{Given}
-use Rattle.mdv_theorem.proofs.Leaving.{Leaves, Written, own}
+use Rattle.mdv_theorem.proofs.Leaving.{Leaves, Written}
 use Rattle.mdv_theorem.proofs.Lying.{LiesOn}
 use Rattle.mdv_theorem.proofs.Over.{since_are}
 use Rattle.mdv_theorem.proofs.Agreeing.{taken_or}
 use Rattle.mdv_theorem.proofs.Ends.{TakeDatabase}
 use Rattle.mdv_theorem.proofs.Later.{lines_since, take_before, take_behind}
-use Rattle.mdv_theorem.proofs.Until.{AtRead, ThePlace, all_left, its, lie, place, plan}
+use Rattle.mdv_theorem.proofs.Until.{AtRead, ThePlace, all_left, its, lie, place}
+use Rattle.mdv_theorem.proofs.Place.{BlockAt, at_run}
 use Rattle.mdv_theorem.proofs.Steps.{unreplied}
 
 -- new drives hold what they held
@@ -53,14 +48,14 @@ module _ (drives : Geometry) (name : List ℕ) (before : List Ran) (script : Scr
   abbrev all : List Exchange
   all = exchanges_by name before ++ here
 
-  abbrev its_place : ThePlace drives name before script sound of_table run given read here later volume number block parts tells by
-  its_place = place drives name before script sound of_table run given read here later volume number block parts tells by
+  abbrev read_place : ThePlace drives name before script sound of_table run given read here later volume number block parts tells by
+  read_place = place drives name before script sound of_table run given read here later volume number block parts tells by
 
-  abbrev it : IsToldOf (host_of drives name run.fresh) volume number block its_place.at.kept its_place.next
+  abbrev it : IsToldOf (host_of drives name run.fresh) volume number block read_place.at.kept read_place.next
   it = its drives name before script sound of_table run given read here later volume number block parts tells by
 
   abbrev AreLeft : List Exchange → Tale → Tale → Type 0
-  AreLeft es t u = Leaves volume number it.drive (it.first + number) es t u
+  AreLeft es t u = Leaves volume number it.spot.at.drive it.spot.at.block es t u
 
   abbrev End : Type 0
   End = AtRead drives name before script sound of_table run given read here later volume number block parts tells by
@@ -76,41 +71,35 @@ module _ (drives : Geometry) (name : List ℕ) (before : List Ran) (script : Scr
         | inr (end, these) ↦ inr (end, subst (λ (l : List Exchange). AreLeft (l ++ here) new (tale_of end.story)) (sym are) these)
       ]
 
-  abbrev its_plan : IsPlanOf (own drives name).drives it.o.table.plan
-  its_plan = plan drives name before script sound of_table run given read here later volume number block parts tells by
-
   -- where it lies
-  abbrev its_lie : LiesOn drives name before script sound of_table run volume all (run_map it.drive it.first it.count)
+  abbrev its_lie : LiesOn drives name before script sound of_table run volume all it.spot.map
   its_lie = lie drives name before script sound of_table run given read here later volume number block parts tells by
 
-  same_blocks : it.count ≡ its_lie.at.blocks
-  same_blocks = (run_is it.drive it.first it.count its_lie.at.drive.0 its_lie.at.start its_lie.at.blocks its_lie.is).as_many
+  abbrev its_place : BlockAt it.spot.map number
+  its_place = it.spot.at
 
-  held : run.made it.drive (it.first + number) ≡ run.made its_lie.at.drive.0 (its_lie.at.start + number)
-  held =
-      let same = one_place (own drives name).drives (view_is_own.sound drives name sound) it.o.table its_plan volume it.drive it.first it.count its_lie.at.drive.0 its_lie.at.start its_lie.at.blocks it.lies
-      (subst (λ (v : Map). IsMapOf (own drives name).drives it.o.table volume v) its_lie.is it.lies) in
-      λ i. run.made (same.on_drive i) (same.at_first i + number)
+  on_slice : (its_place.drive ≡ its_lie.at.drive.0) × (its_place.block ≡ its_lie.at.start + number) × (number < its_lie.at.blocks)
+  on_slice = at_run it.spot.map number its_place its_lie.at.drive.0 its_lie.at.start its_lie.at.blocks its_lie.is
+
+  held : run.made its_place.drive its_place.block ≡ run.made its_lie.at.drive.0 (its_lie.at.start + number)
+  held = λ i. run.made (on_slice.0 i) (on_slice.1 i)
 
   value : IsOrWasWritten volume number (run.made its_lie.at.drive.0 (its_lie.at.start + number)) all block
   value = elim left [
     | inl takes ↦ taken_or volume number (run.made its_lie.at.drive.0 (its_lie.at.start + number)) all block takes
     | inr (end, leaves) ↦
-        let x = its_place.at.kept.content it.drive (it.first + number) in
+        let x = read_place.at.kept.content its_place.drive its_place.block in
         let now = tale_of end.story in
-        let reads : last now it.drive (it.first + number) ≡ x = end.reads it.drive (it.first + number) in
-        let may : MayLeave now it.drive (it.first + number) x = subst (MayLeave now it.drive (it.first + number)) reads ((last_image now).each it.drive (it.first + number)) in
+        let reads : last now its_place.drive its_place.block ≡ x = end.reads its_place.drive its_place.block in
+        let may : MayLeave now its_place.drive its_place.block x = subst (MayLeave now its_place.drive its_place.block) reads ((last_image now).each its_place.drive its_place.block) in
         ⊎_elim
-        (λ old. inl (it.same ∙ ap significant (begun_left _ it.drive (it.first + number) x old ∙ held)))
+        (λ old. inl (it.same ∙ ap significant (begun_left _ its_place.drive its_place.block x old ∙ held)))
         (λ (w : Written volume number all x). inr (inl (w.0, w.1, w.2, w.3, it.same ∙ ap significant w.4)))
         (leaves x may)
   ]
 
   begins_with : HeldAtFirst drives name run.made all volume number (run.made its_lie.at.drive.0 (its_lie.at.start + number))
-  begins_with =
-      let within = it.within in
-      let many = same_blocks in
-      record { slice = its_lie.slice; may = its_lie.may; at = its_lie.at; has = its_lie.has; plain = its_lie.plain; within = omega (arith, within, many); held = refl }
+  begins_with = record { slice = its_lie.slice; may = its_lie.may; at = its_lie.at; has = its_lie.has; plain = its_lie.plain; within = on_slice.2; held = refl }
 
   block_begins : Begins drives name run.made volume number block all
   block_begins = (_, begins_with, value)

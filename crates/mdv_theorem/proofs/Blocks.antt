@@ -23,7 +23,7 @@ use Rattle.mdv_volumes.specs.Databases.{is_volume, log_of}
 use Rattle.mdv_volumes.specs.Events.{Answers, Begins, Flushes, Issues, VolumeEvent, Woke, issued_to}
 use Rattle.mdv_volumes.specs.Events as lives
 use Rattle.mdv_volumes.specs.Happening.{HasRange, IsNamed, begins, begun_of, issued_by}
-use Rattle.mdv_volumes.specs.History.{Acknowledges, Boots, Changed, Crashes, Created, Creation, Deed, Deleted, Deletes, Event, OfDatabase, OfVolume, Reads, Saw, Shows, Stops, Wrote, events_at, events_of, history_after_all}
+use Rattle.mdv_volumes.specs.History.{Acknowledges, Boots, Changed, Crashes, Created, Creation, Deed, Deleted, Deletes, Event, OfDatabase, OfVolume, Reads, Saw, Shows, Stops, Unsettles, Wrote, events_at, events_of, history_after_all}
 use Rattle.mdv_volumes.specs.HistoryLaws.{KeepDatabase, new_history}
 use Rattle.mdv_volumes.specs.LogLaws.{MayBe}
 use Rattle.mdv_volumes.specs.Tables.{IsMapOf}
@@ -87,6 +87,7 @@ module _ (key : Key) (volume : VolId) (number : ℕ) (x : List ℕ) where
   step_issue (Shows place other beside at blocks) is = absurd is
   step_issue (Deletes place other) is = absurd is
   step_issue (Boots other up) is = absurd is
+  step_issue (Unsettles other drive) is = absurd is
   step_issue Stops is = absurd is
   step_issue Crashes is = absurd is
 

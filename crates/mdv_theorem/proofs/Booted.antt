@@ -68,7 +68,7 @@ module _ (calls : Outcomes) (host : Host) (kept next : Kept) (answer : Answer) w
   effect_never (AddListed number force) is of = is
   effect_never (DropPlaces slices force) is of = (let never : ⊥ = subst IsOfBoot is.0 of in never)
   effect_never (command.MakeStripe volume slice) is of = (let never : ⊥ = subst IsOfBoot is.0 of in never)
-  effect_never (Read volume at count) is of = (let never : ⊥ = subst IsOfBoot is.3 of in never)
+  effect_never (Read volume at count) is of = (let never : ⊥ = subst IsOfBoot is.6 of in never)
   effect_never (Write volume at block) is of = (let never : ⊥ = subst IsOfBoot is.3 of in never)
   effect_never (Print names) is of = (let never : ⊥ = subst IsOfBoot is.3 of in never)
 

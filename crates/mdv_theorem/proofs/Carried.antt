@@ -131,7 +131,7 @@ module _ (host : Host) (is_host : IsOfTable host) (calls : Outcomes) (P : Opened
   effect_holds (DropPlaces slices force) holds free form is = less_holds slices is.1 (are_all is.1 slices) holds is.2 is.3
   effect_holds (command.MakeStripe volume slice) holds free form is =
       holds_open P next is.3.opened (ap (λ (m : Memory). m.opened) is.3.memory) (as_formed _ is.3.memory refl holds) (stay.changed is.1 is.3.opened _ refl (holds.held is.1 is.2) is.3.committed)
-  effect_holds (Read volume at count) holds free form is = stays_holds holds is.4
+  effect_holds (Read volume at count) holds free form is = stays_holds holds is.7
   effect_holds (Write volume at block) holds free form is = same_holds holds is.4
   effect_holds (Print names) holds free form is = stays_holds holds is.4
 
@@ -149,8 +149,8 @@ module _ (host : Host) (is_host : IsOfTable host) (calls : Outcomes) (P : Opened
   fault_holds (AddListed number force) holds is = absurd is
   fault_holds (DropPlaces slices force) holds is = fault_less is.0 holds is.1 is.3
   fault_holds (command.MakeStripe volume slice) holds is = absurd is
-  fault_holds (Read volume at count) holds is = stays_holds holds is.3
-  fault_holds (Write volume at block) holds is = opened_holds (record kept.memory { clean = false }) is.3 refl refl holds
+  fault_holds (Read volume at count) holds is = stays_holds holds is.1
+  fault_holds (Write volume at block) holds is = opened_holds (record kept.memory { unsteady = next.memory.unsteady }) is.1.beside refl refl holds
   fault_holds (Print names) holds is = absurd is
 
   came_holds : (cmd : Command) → HoldsAt kept → IsInForm cmd → IsSaid answer → CameTo calls host kept cmd answer next → HoldsAt next

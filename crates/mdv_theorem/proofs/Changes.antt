@@ -1,6 +1,7 @@
 -- The volumes of a table that changes made: each change made one, and each of them was made by one, on its slice.
-use Rattle.std.proofs.Common.{◌≡◌, ◌⊎◌, inl, inr, ⊎_elim, ℕ, ◌+◌, Bool, true, false, nat_lt, if◌then◌else◌, List, [], ◌∷◌, Contains, refl, sym, ◌∙◌, ap, subst, arith, Some}
+use Rattle.std.proofs.Common.{◌≡◌, ◌⊎◌, inl, inr, ⊎_elim, ℕ, ◌+◌, Bool, true, false, nat_lt, if◌then◌else◌, List, [], ◌∷◌, Contains, refl, sym, ◌∙◌, ap, subst, arith, Option, Some}
 use Rattle.std.proofs.lemmas.List.Elements.{All-contains, All-contains_itself}
+use Rattle.std.proofs.lemmas.Option.{same_Some}
 use Rattle.mdv_base.specs.declared.drive.SliceName.{SliceName}
 use Rattle.mdv_base.specs.declared.name.VolId.{VolId}
 use Rattle.mdv_map.specs.Maps.{Map, run_map}
@@ -21,18 +22,13 @@ use Rattle.mdv_table.specs.declared.plan.Plan.{Plan}
 use Rattle.mdv_table.specs.declared.table.Table.{Table}
 use Rattle.mdv_table.specs.declared.volume.Volume.{Volume}
 use Rattle.mdv_table.proofs.Ascending.{All-with}
-use Rattle.mdv_volumes.specs.Tables.{IsKindMap}
+use Rattle.mdv_volumes.specs.Below.{at_map}
+use Rattle.mdv_volumes.specs.Tables.{kind_map}
 use Rattle.mdv_volumes.proofs.Lists.{contains_behind, contains_first, first_or_behind}
+use Rattle.mdv_volumes.proofs.Maps.{has_new}
 use Rattle.mdv_theorem.proofs.Lines.{never_in}
 
--- a list with one volume more has it, and those that it had
-pub has_new : (new : Volume) (vs : List Volume) → Contains (with_volume new vs) new
-has_new new [] = contains_first new []
-has_new new (w ∷ ws) = by (has_new new ws) (nat_lt new.number.0 w.number.0) where
-  by : Contains (with_volume new ws) new → (lt : Bool) → Contains (if lt then new ∷ w ∷ ws else w ∷ with_volume new ws) new
-  by rest true = contains_first new (w ∷ ws)
-  by rest false = contains_behind w new (with_volume new ws) rest
-
+-- a list with one volume more has those that it had
 still_has : (new : Volume) (vs : List Volume) (of : Volume) → Contains vs of → Contains (with_volume new vs) of
 still_has new [] of has = absurd (never_in of has)
 still_has new (w ∷ ws) of has = by (λ behind. still_has new ws of behind) (nat_lt new.number.0 w.number.0) where
@@ -143,9 +139,10 @@ module _ (g : Geometry) where
       subst (λ (a : SliceAt). a.db ≡ false) same its.whole.plain
 
   -- where it lies
-  pub stripe_map : (volume : VolId) (slice : SliceName) (v : Map) → IsSound g → IsKindMap g (stripe volume slice).kind v → (at : SliceAt) × HasSlice g.slices slice at × (v ≡ run_map at.drive.0 at.start at.blocks)
-  stripe_map volume slice v sound map =
-      let at = map.0 in
-      let blocks : blocks_at (slice_at g.slices slice) ≡ at.blocks = ap blocks_at ((slice_at-some g slice at sound).1 map.1) in
-      let start : at.start + 0 ≡ at.start = omega arith in
-      (at, map.1, map.2 ∙ ap (λ (n : ℕ). run_map at.drive.0 n (blocks_at (slice_at g.slices slice))) start ∙ ap (λ (n : ℕ). run_map at.drive.0 at.start n) blocks)
+  pub stripe_map : (volume : VolId) (slice : SliceName) (v : Map) → IsSound g → IsKindOf g (stripe volume slice).kind → kind_map g (stripe volume slice).kind ≡ Some v
+      → (at : SliceAt) × HasSlice g.slices slice at × (v ≡ run_map at.drive.0 at.start at.blocks)
+  stripe_map volume slice v sound kind map =
+      let its = kind.component in
+      let there : slice_at g.slices slice ≡ Some its.at = (slice_at-some g slice its.at sound).1 its.has in
+      let start : its.at.start + 0 ≡ its.at.start = omega arith in
+      (its.at, its.has, same_Some v (at_map (slice_at g.slices slice) 0 (blocks_at (slice_at g.slices slice))) (sym map) ∙ ap (λ (o : Option SliceAt). at_map o 0 (blocks_at o)) there ∙ ap (λ (n : ℕ). run_map its.at.drive.0 n its.at.blocks) start)

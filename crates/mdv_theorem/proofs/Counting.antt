@@ -1,4 +1,4 @@
--- The places that a creation's first table lists: as many on each of its slices. So where more than half of the slices pass a test, or half, so do more than half of the places, or half.
+-- The places that a creation's first table lists: as many on each of its slices. So where more than half of the slices pass a test, so do more than half of the places.
 use Rattle.std.proofs.Common.{◌≡◌, ℕ, zero, suc, ◌+◌, ◌*◌, ◌≤◌, ◌<◌, Bool, true, false, cond, List, [], ◌∷◌, ◌++◌, length, map, Option, Some, None, Contains, refl, sym, ◌∙◌, ap, subst, arith, inl, inr}
 use Rattle.std.specs.Prelude.{count_by, is_some}
 use Rattle.std.proofs.lemmas.List.{length-map, map-append}
@@ -88,12 +88,6 @@ half_times n c count less some =
     let same = mul_assoc 2 c count in
     omega (arith, all, same, some)
 
-no_more_times : (n c count : ℕ) → n ≤ 2 * c → n * count ≤ 2 * (c * count)
-no_more_times n c count less =
-    let all = mul-le n count (2 * c) count less (omega arith) in
-    let same = mul_assoc 2 c count in
-    omega (arith, all, same)
-
 -- places that were made on these slices, which are some of these lines: as many on each
 pub record AreMadeOn (lines : List SliceLine) (slices : List SliceName) (places : List Place) : Type 0 where
   pub there : (slice : SliceName) → Contains slices slice → (at : SliceAt) × HasSlice lines slice at
@@ -151,12 +145,6 @@ module _ (host : Host) (sound : IsSound host.drives) (sees : SeesOwn host) where
         let seat = seat_has key identity count blocks lines line (line_has slices slice at.0 has at.1) some in
         (at.0, formed (replica_on key identity line count blocks 0) (replica_of (seats_asked key identity lines count blocks) (seat_on key identity line count blocks 0) (replica_on key identity line count blocks 0) seat refl))
 
-    -- it makes one at least
-    pub asked_some : 1 ≤ length slices → 1 ≤ length (seats_asked key identity lines count blocks)
-    asked_some more =
-        let as_many = asked_length host slices is_there in
-        subst (λ (n : ℕ). 1 ≤ n) (sym (asked_seats key identity count blocks lines)) (mul-le 1 1 (length lines) count (omega (arith, as_many, more)) some)
-
     pub made_on : AreMadeOn host.site.lines slices (places_in (seats_asked key identity lines count blocks))
     made_on = record {
       there = in_site;
@@ -189,10 +177,4 @@ module _ (host : Host) (sound : IsSound host.drives) (sees : SeesOwn host) where
     pub most_up : length slices < 2 * count_by chosen slices → length places < 2 * count_by (λ (place : Place). on place.slice) places
     most_up most =
         let times = half_times (length slices) (count_by on slices) made.count (omega (arith, most, counted)) made.some in
-        omega (arith, times, made.long, made.each on)
-
-    -- and half of them where half do
-    pub half_up : length slices ≤ 2 * count_by chosen slices → length places ≤ 2 * count_by (λ (place : Place). on place.slice) places
-    half_up half =
-        let times = no_more_times (length slices) (count_by on slices) made.count (omega (arith, half, counted)) in
         omega (arith, times, made.long, made.each on)

@@ -1,5 +1,5 @@
 -- A line that was told to have made a database, where none was open: the table that is open then lists places on its slices, as many on each.
-use Rattle.std.proofs.Common.{◌≡◌, ℕ, ◌≤◌, Bool, true, List, [], ◌∷◌, ◌++◌, length, refl, MatchOption, None, Option, Some, Contains, sym, ap, subst, arith, map, ◌∙◌}
+use Rattle.std.proofs.Common.{◌≡◌, ℕ, Bool, true, List, [], ◌∷◌, ◌++◌, refl, MatchOption, None, Option, Some, Contains, sym, ap, subst, ◌∙◌}
 use Rattle.std.specs.Prelude.{is_some}
 use Rattle.mdv_base.specs.declared.drive.SliceName.{SliceName}
 use Rattle.mdv_base.specs.declared.place.Place.{Place}
@@ -11,7 +11,6 @@ use Rattle.mdv_engine_law.specs.Moves.{HasMovedOn}
 use Rattle.mdv_engine_law.specs.Replies.{ok_line, text_of}
 use Rattle.mdv_engine_law.specs.declared.answer.Answer.{Answer}
 use Rattle.mdv_engine_law.specs.declared.host.Host.{Host}
-use Rattle.mdv_name.specs.declared.geometry.Geometry.{Geometry}
 use Rattle.mdv_name.specs.declared.slice_lines.SliceLine.{SliceLine}
 use Rattle.mdv_name.specs.SliceIndex.{slice_at}
 use Rattle.mdv_name.specs.declared.slice_lines.SliceAt.{SliceAt}
@@ -27,32 +26,12 @@ use Rattle.mdv_table.specs.declared.plan.Lists.TheVariants.{One}
 use Rattle.mdv_words.proofs.Form.{commands_are_in_form}
 use Rattle.mdv_words.specs.declared.command.Command.TheVariants.{AddPlaces}
 use Rattle.mdv_theorem.specs.Exchanges.{Asks, Exchange, IsTold}
-use Rattle.mdv_base.specs.declared.name.Key.{Key}
-use Rattle.mdv_replica.specs.declared.replica.Slot.{Slot}
-use Rattle.mdv_shelf.specs.Everywhere.{Image}
-use Rattle.mdv_shown.specs.Found.{IsOwn}
-use Rattle.mdv_shown.specs.Shown.{IsNewestOf}
-use Rattle.mdv_shown.specs.Sites.{site_of}
 use Rattle.mdv_shown.specs.declared.site.Site.{Site}
-use Rattle.mdv_store.specs.Create.{table_of}
-use Rattle.mdv_store.specs.Records.{Spells}
-use Rattle.mdv_store.specs.Seats.{replicas_of}
-use Rattle.mdv_survey.specs.Replica.{at_of}
-use Rattle.mdv_survey.specs.declared.replica.Replica.{Replica}
 use Rattle.mdv_volumes.proofs.Lists.{contains_behind, contains_first}
-use Rattle.mdv_theorem.proofs.Counting.{AreMadeOn, asked_some, made_on, places_in}
+use Rattle.mdv_theorem.proofs.Counting.{AreMadeOn, made_on, places_in}
 use Rattle.mdv_theorem.proofs.Slices.{slices_of, spread_of}
 use Rattle.mdv_theorem.specs.Words.{spread}
 use Rattle.mdv_theorem.proofs.Tables.{granted_done}
-use Rattle.mdv_store.specs.Shares.{short_of}
-use Rattle.mdv_store.specs.declared.seats.Need.TheVariants.{Half}
-use Rattle.mdv_store.proofs.Shares.{first_enough}
-use Rattle.std.proofs.lemmas.List.{length-map}
-use Rattle.mdv_store.specs.declared.seats.Seat.{Seat}
-
-first_of : {X : Type 0} (xs : List X) → 1 ≤ length xs → (x : X) × Contains xs x
-first_of [] some = absurd (omega (arith, some))
-first_of (x ∷ xs) some = (x, contains_first x xs)
 
 -- the lines of slices that are there have their names
 names_here : (host : Host) (slices : List SliceName) → ((slice : SliceName) → Contains slices slice → is_some (slice_at host.drives.slices slice) ≡ true) → names_of (lines_asked host slices) ≡ slices
@@ -61,13 +40,6 @@ names_here host (slice ∷ slices) there = by (slice_at host.drives.slices slice
   by : (o : Option SliceAt) → is_some o ≡ true → names_of (lines_asked host slices) ≡ slices → names_of (line_at slice o ++ lines_asked host slices) ≡ slice ∷ slices
   by None none rest = absurd (cc (none))
   by (Some at) some rest = ap (λ (l : List SliceName). slice ∷ l) rest
-
--- a replica shows what is open
-pub record IsShownBy (g : Geometry) (key : Key) (o : Opened) (content : Image) : Type 0 where
-  pub replica : Replica
-  pub own : IsOwn (Spells g) (site_of g key) o.identity replica.line replica.number content replica.first replica.head
-  pub slot : Slot
-  pub newest : IsNewestOf (Spells g) (at_of replica) (content replica.line.at.drive.0) replica.head slot o.mark o.table
 
 -- what is open was made on these slices
 pub record IsMadeThere (lines : List SliceLine) (slices : List SliceName) (count : ℕ) (kept : Kept) : Type 0 where
@@ -102,25 +74,4 @@ module _ (host : Host) (sound : IsSound host.drives) (sees : SeesOwn host) (call
         opened = ap (λ (m : Memory). m.opened) is.memory;
         lists = ap (λ (o : Opened). o.table.plan.lists) is.made.is;
         bare = ap (λ (o : Opened). o.table.plan.volumes) is.made.is;
-      }
-
-  -- and a replica shows it
-  pub shown_there : IsShownBy host.drives (key_of host) made_there.o next.content
-  unfolding made_there created
-  shown_there =
-      let done = granted_done host calls kept next one answer comes said told_it (AddPlaces slices force count blocks) asks told in
-      let is = created in
-      let form = commands_are_in_form one.text (AddPlaces slices force count blocks) asks.1 in
-      let identity = identity_of host kept.memory.begun in
-      let seats = seats_asked (key_of host) identity (lines_asked host slices) count blocks in
-      let some = asked_some host sound sees (key_of host) identity kept.memory slices force count blocks form.1.0 done.0 (λ r has. subst (λ (s : Site). Contains s.lines r.line) (sym sees) (is.formed r has).1.found.one_of) form.0 in
-      let half = ap (λ (o : Opened). short_of Half is.opened.seats o.table.plan.lists) (sym is.made.is) ∙ is.made.half in
-      let listed : 1 ≤ length (map (λ (s : Seat). s.place) seats) = omega (arith, some, length-map seats (λ (s : Seat). s.place)) in
-      let r = first_of (replicas_of is.opened.seats) (first_enough Half is.opened.seats (table_of seats).plan.lists listed half) in
-      let shown = is.content.shown r.0 r.1 in
-      record {
-        replica = r.0;
-        own = subst (λ (k : Key). IsOwn (Spells host.drives) (site_of host.drives k) is.opened.identity r.0.line r.0.number next.content r.0.first r.0.head) (ap (λ (o : Opened). o.key) is.made.is) (is.content.each r.0 r.1);
-        slot = shown.0;
-        newest = shown.1;
       }

@@ -57,7 +57,7 @@ module _ (host : Host) (is_host : IsOfTable host) (calls : Outcomes) (kept next 
   effect_end (AddListed number force) is = absurd is
   effect_end (DropPlaces slices force) is = ok_end is.0
   effect_end (command.MakeStripe volume slice) is = ok_end is.0
-  effect_end (Read volume at count) is = subst IsEnd (sym is.3) tt
+  effect_end (Read volume at count) is = subst IsEnd (sym is.6) tt
   effect_end (Write volume at block) is = ok_end is.3
   effect_end (Print names) is = subst IsEnd (sym is.3) tt
 

@@ -1,14 +1,11 @@
 -- A database, and a volume that was shown to be there, stay: they are open behind any further lines of the host, where enough drives answered.
 use Rattle.std.proofs.Common.{◌≡◌, inl, inr, ℕ, List, [], ◌∷◌, ◌++◌, Some, Contains, refl, sym, ap, subst, append_assoc}
-use Rattle.std.specs.List.{find}
 use Rattle.std.proofs.lemmas.List.Elements.{Contains-append_left, Contains-append_right}
 use Rattle.mdv_base.specs.Refusal.{number_of}
 use Rattle.mdv_base.specs.declared.drive.SliceName.{SliceName}
 use Rattle.mdv_engine_law.specs.Answers.{accepted}
-use Rattle.mdv_engine_law.specs.Line.{Kept, contents}
-use Rattle.mdv_engine_law.specs.Refusals.{has_number}
+use Rattle.mdv_engine_law.specs.Line.{contents}
 use Rattle.mdv_engine_law.specs.Replies.{refusal_line, text_of}
-use Rattle.mdv_engine_law.proofs.Volumes.{find_is}
 use Rattle.mdv_name.specs.declared.geometry.Geometry.{Geometry}
 use Rattle.mdv_port.specs.Script.{Script}
 use Rattle.mdv_run_law.specs.Below.{Host, IsSound, VolId}
@@ -17,6 +14,7 @@ use Rattle.mdv_run_law.specs.Run.{started}
 use Rattle.mdv_store.specs.Opened.{Opened}
 use Rattle.mdv_words.specs.declared.command.Command.{Command}
 use Rattle.mdv_words.specs.declared.command.Command.TheVariants.{AddListed, AddPlaces, DropPlaces, MakeStripe, Print, Read, Write}
+use Rattle.mdv_volumes.proofs.Maps.{found_as, found_has}
 use Rattle.mdv_theorem.specs.Exchanges.{Exchange, IsOn, exchanges_by}
 use Rattle.mdv_theorem.specs.Observed.{HaveAnswered, MostAnswered, VolumesStay}
 use Rattle.mdv_theorem.specs.Running.{AllAnswered, Running}
@@ -32,7 +30,6 @@ use Rattle.mdv_theorem.proofs.Seeing.{all_first, all_never, most_open, most_sees
 use Rattle.mdv_theorem.proofs.Starting.{Starts, starts, unopened}
 use Rattle.mdv_theorem.proofs.Staying.{HasIt, IsOpenWith, first, last}
 use Rattle.mdv_theorem.proofs.Steps.{Between, EachSo, Failed, Reached, reached_from, told_once}
-use Rattle.mdv_theorem.proofs.Sure.{IsSure, sure_plan}
 use Rattle.mdv_theorem.proofs.Tables.{boot_opens, open_keeps, opened_steps}
 
 -- what is done with a volume is done with its database
@@ -159,10 +156,6 @@ module _ (drives : Geometry) (name : List ℕ) (before : List Ran) (script : Scr
       let opens = database_open answered (has_database volume lines is) in
       record { o = opens.0; opened = opens.1; so = open_keeps host (HasIt host.drives volume) to opens.0 (accords_now.there volume is) opens.1 }
 
--- the volume that a number finds in an open table
-pub number_finds : (at : Host) (volume : VolId) (kept : Kept) → IsSure at kept → (is : IsOpenWith at (HasIt at.drives volume) kept) → find (has_number volume) is.o.table.plan.volumes ≡ Some is.so.1.of
-number_finds at volume kept sure is = find_is is.o.table.plan.volumes volume is.so.1.of (sure_plan at kept is.o sure is.opened).numbers.ascending is.so.1.has
-
 pub volumes_stay : VolumesStay
 volumes_stay drives name before script of_table run one earlier volume command answered calm is_there asks about refusal told =
     let sound = run.life.fair in
@@ -170,6 +163,7 @@ volumes_stay drives name before script of_table run one earlier volume command a
     let at = reached_from run starts_so.of answered.here answered.later one (refusal_line refusal) answered.is told in
     let there = it_stays drives name before script sound of_table run starts_so answered.here one at (subst (HaveAnswered run) answered.behind calm) volume (subst (IsThere volume) answered.behind is_there) in
     let its_host = host_of drives name run.fresh in
-    let aside : IsAside refusal = told_aside at.calls its_host at.kept at.next there.o there.opened volume there.so.1.of (number_finds its_host volume at.kept at.sure there) there.so.1.has command about at.answer at.said refusal
+    let found = found_as its_host.drives there.o.table volume there.so.0 there.so.1 in
+    let aside : IsAside refusal = told_aside at.calls its_host at.kept at.next there.o there.opened volume found.of found.found (found_has there.o.table.plan volume found.of found.found) command about at.answer at.said refusal
     (told_once one (text_of at.answer) (refusal_line refusal) at.told told) (commanded at.calls its_host at.kept at.next one.text command at.answer asks at.comes) in
     (λ no_database. aside.0 (ap number_of no_database), λ no_volume. aside.1 (ap number_of no_volume))

@@ -1,6 +1,5 @@
--- What each table has that a boot may find at the start of a run, behind the earlier ones: a volume of which a line was told that it was written, or made.
-use Rattle.std.proofs.Common.{◌≡◌, inl, inr, ℕ, Bool, List, [], ◌∷◌, ◌++◌, append_assoc, Option, Some, None, if◌then◌else◌, Contains, refl, sym, ◌∙◌, ap, subst}
-use Rattle.std.specs.Bool.{MatchBool}
+-- What each table has that a boot may find at the start of a run, behind the earlier ones: a volume of which a line was told that it was made.
+use Rattle.std.proofs.Common.{◌≡◌, inl, inr, ℕ, Bool, List, [], ◌∷◌, ◌++◌, Option, Some, if◌then◌else◌, Contains, refl, sym, ◌∙◌, ap, subst}
 use Rattle.std.proofs.lemmas.List.Elements.{Contains-append_left}
 use Rattle.std.proofs.lemmas.Slice.Eq.{bytes_eq-Decides}
 use Rattle.mdv_base.specs.declared.drive.SliceName.{SliceName}
@@ -8,11 +7,9 @@ use Rattle.mdv_base.specs.declared.name.Key.{Key}
 use Rattle.mdv_base.specs.declared.name.Key.TheVariants.{Local}
 use Rattle.mdv_base.specs.declared.name.VolId.{VolId}
 use Rattle.mdv_engine_law.specs.Line.{Ask, ToDo, asked_by}
-use Rattle.mdv_engine_law.specs.Replies.{AcksBy, AcksOne, ok_line}
+use Rattle.mdv_engine_law.specs.Replies.{AcksBy, ok_line}
 use Rattle.mdv_engine_law.specs.declared.host.Host.{Host}
 use Rattle.mdv_engine_law.proofs.Going.{may_course}
-use Rattle.mdv_home.proofs.Viewing.{view_is_own}
-use Rattle.mdv_map.specs.Maps.{Map}
 use Rattle.mdv_name.specs.declared.geometry.Geometry.{Geometry}
 use Rattle.mdv_run_law.specs.Lives.{BlocksAre, IsLife, Ran}
 use Rattle.mdv_run_law.specs.Standing.{IsWanting}
@@ -31,15 +28,15 @@ use Rattle.mdv_table.specs.declared.change.Change.TheVariants.{MakeStripe}
 use Rattle.mdv_table.specs.declared.table.Table.{Table}
 use Rattle.mdv_volumes.specs.Databases.{log_of}
 use Rattle.mdv_volumes.specs.Happening.{HasRange, IsCourse, MayHappen, deed_of, tells, told_by}
-use Rattle.mdv_volumes.specs.History.{Acknowledges, Changed, Created, Deed, Event, History, Wrote, history_after, history_after_all}
+use Rattle.mdv_volumes.specs.History.{Changed, Deed, Event, History, history_after, history_after_all}
 use Rattle.mdv_volumes.specs.HistoryLaws.{KeepDatabase, log_events_of, new_history}
 use Rattle.mdv_volumes.specs.Tables.{IsMapOf}
 use Rattle.mdv_volumes.proofs.Databases.{is_log_of}
-use Rattle.mdv_volumes.proofs.Ending.{keep_rest, none_begins}
+use Rattle.mdv_volumes.proofs.Ending.{none_begins}
 use Rattle.mdv_volumes.proofs.Found.{AreLasting}
 use Rattle.mdv_volumes.proofs.Keys.{databases_live}
 use Rattle.mdv_volumes.proofs.Lasting.{still_logs}
-use Rattle.mdv_volumes.proofs.Lists.{contains_first, course_front, course_rest, first_or_behind}
+use Rattle.mdv_volumes.proofs.Lists.{contains_first, course_front, course_rest}
 use Rattle.mdv_words.specs.Line.{Exec}
 use Rattle.mdv_words.specs.declared.command.Command.{Command}
 use Rattle.mdv_words.specs.declared.command.Command.TheVariants as command
@@ -47,8 +44,7 @@ use Rattle.mdv_theorem.specs.Exchanges.{Asks, Exchange, IsTold, exchanges_by}
 use Rattle.mdv_theorem.specs.Words.{KeepsDatabase}
 use Rattle.mdv_theorem.proofs.Changes.{HasStripe, made_has}
 use Rattle.mdv_theorem.proofs.Lined.{AreLined, AreOfReply, AreReplied, IsLinedAt, host, lined_at, lined_lives, runs_lined}
-use Rattle.mdv_theorem.proofs.Lines.{never_in, the_only}
-use Rattle.mdv_theorem.proofs.Places.{at_among, may_at, told_at}
+use Rattle.mdv_theorem.proofs.Lines.{never_in}
 use Rattle.mdv_theorem.proofs.Ranges.{range_lasts}
 use Rattle.mdv_theorem.proofs.Tellings.{HasChange, HasTold, change_stays, told_lasts}
 
@@ -80,9 +76,6 @@ module _ (drives : Geometry) (name : List ℕ) (made : Image) (before : List Ran
 
   pub lined : AreLined drives name (exchanges_by name before) es
   lined = runs_lined drives name before es its.history.come
-
-  its_sound : IsSound own.drives
-  its_sound = view_is_own.sound drives name sound
 
   pub is_log : IsLog own.drives database
   is_log = is_log_of own.drives now.databases t its.history.stands.databases own_key
@@ -129,27 +122,6 @@ module _ (drives : Geometry) (name : List ℕ) (made : Image) (before : List Ran
       let acks : AcksBy (ToDo deed) ok_line are.done = is are.done (subst (λ (a : Ask). AcksBy a ok_line are.done) (asked_at one ok_line spelled here asks ok_sated are) are.acks) in
       are.tells ∙ acks ∙ ap (λ (ok : Bool). if ok then deed ∷ [] else []) ((bytes_eq-Decides ok_line ok_line).1 refl)
 
-  -- The table has the volume where it lies, or was made with the volume on a slice.
-  abbrev pub HasMap : VolId → Table → Type 0
-  HasMap volume table = (v : Map) × IsMapOf own.drives table volume v
-
-  -- a write of it that was told
-  pub write_lasts : (front behind : List Exchange) (one : Exchange) → exchanges_by name before ≡ front ++ one ∷ behind → KeepsDatabase (one ∷ behind) → (volume : VolId) (at : ℕ) (block : List ℕ) → Asks one (command.Write volume at block) → IsTold one ok_line
-      → AreLasting own.drives (HasMap volume) database
-  write_lasts front behind one parts keeps volume at block asks told =
-      let deed = Wrote own_key volume at (block ∷ []) in
-      let line = line_at front behind one parts ok_line told in
-      let tells = deed_told one (command.Write volume at block) deed line.own (λ done acks. acks) asks (replied front behind one parts ok_line told) in
-      let its_told = told_at deed line.own tt (subst (λ (l : List Deed). Contains l deed) (sym tells) (contains_first deed [])) in
-      let event = Acknowledges its_told.place own_key volume at (block ∷ []) in
-      let first = line.first ++ its_told.at.first in
-      let later = its_told.at.later ++ line.later in
-      let is = at_among event es line.first line.own line.later line.is its_told.at in
-      let may = may_at own.drives new_history event es first later is its_course in
-      let both : line.own ++ line.later ≡ its_told.at.first ++ event ∷ later = ap (λ (l : List Event). l ++ line.later) its_told.at.is ∙ append_assoc its_told.at.first (event ∷ its_told.at.later) line.later in
-      let keep = keep_rest own_key its_told.at.first (event ∷ later) (subst (KeepDatabase own_key) both (rest_keeps front behind one parts ok_line told keeps)) in
-      lasting_weaker own.drives (λ table. IsMapOf own.drives table volume may.0.1.map) (HasMap volume) (λ table lies. (may.0.1.map, lies)) database (range_found first (event ∷ later) volume at 1 is may.0.1 keep)
-
   -- A deed that a line was told `ok` for, a creation or a change, as each table has it that a boot may find.
   module _ (front behind : List Exchange) (one : Exchange) (parts : exchanges_by name before ≡ front ++ one ∷ behind) (keeps : KeepsDatabase (one ∷ behind)) (told : IsTold one ok_line) where
     abbrev line : IsLinedAt drives name one behind es
@@ -188,23 +160,3 @@ module _ (drives : Geometry) (name : List ℕ) (made : Image) (before : List Ran
         let tells_it = deed_told one (command.MakeStripe volume slice) (Changed own_key change) line.own (λ done acks. acks) asks (replied front behind one parts ok_line told) in
         let all = deed_lasts (HasChange own.drives change) (change_stays own.drives change) (Some change) (λ v made has. (v.changes, made, has)) (subst (λ (l : List Deed). Contains l (Changed own_key change)) (sym tells_it) (contains_first (Changed own_key change) [])) in
         lasting_weaker own.drives (HasChange own.drives change) (HasStripe own.drives volume slice) (λ table made. made_has own.drives made.0 table volume slice made.1 made.2) database all
-
-    -- and a database that was told to be made, or to have more places, is there
-    made_one : (change : Change) (done : List Deed) → AcksOne (Created own_key ∷ Changed own_key change ∷ []) ok_line done → told_by line.own ≡ done → AreLasting own.drives (λ table. Unit {0}) database
-    made_one change done acks tells_it =
-        let one_of = subst (λ (b : Bool). MatchBool b ((deed : Deed) × Contains (Created own_key ∷ Changed own_key change ∷ []) deed × (done ≡ deed ∷ [])) (done ≡ [])) ((bytes_eq-Decides ok_line ok_line).1 refl) acks in
-        let has : Contains (told_by line.own) one_of.0 = subst (λ (l : List Deed). Contains l one_of.0) (sym (tells_it ∙ one_of.2)) (contains_first one_of.0 []) in
-        elim (first_or_behind (Created own_key) one_of.0 (Changed own_key change ∷ []) one_of.1) [
-          | inl created ↦ deed_lasts (λ table. Unit {0}) (λ asked old next made is. tt) None (λ v made is. tt) (subst (λ (deed : Deed). Contains (told_by line.own) deed) (sym created) has)
-          | inr more ↦ deed_lasts (λ table. Unit {0}) (λ asked old next made is. tt) (Some change) (λ v made is. tt) (subst (λ (deed : Deed). Contains (told_by line.own) deed) (sym (the_only (Changed own_key change) one_of.0 more)) has)
-        ]
-
-    pub created_lasts : (slices : List SliceName) (force : Bool) (count blocks : ℕ) → Asks one (command.AddPlaces slices force count blocks) → AreLasting own.drives (λ table. Unit {0}) database
-    created_lasts slices force count blocks asks =
-        let are = replied front behind one parts ok_line told in
-        made_one _ are.done (subst (λ (a : Ask). AcksBy a ok_line are.done) (asked_at one ok_line (command.AddPlaces slices force count blocks) line.own asks ok_sated are) are.acks) are.tells
-
-    pub listed_lasts : (number : ℕ) (force : Bool) → Asks one (command.AddListed number force) → AreLasting own.drives (λ table. Unit {0}) database
-    listed_lasts number force asks =
-        let are = replied front behind one parts ok_line told in
-        made_one _ are.done (subst (λ (a : Ask). AcksBy a ok_line are.done) (asked_at one ok_line (command.AddListed number force) line.own asks ok_sated are) are.acks) are.tells

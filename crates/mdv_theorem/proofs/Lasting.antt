@@ -1,15 +1,17 @@
 -- What a read tells of a block whose write was acknowledged, in this run or an earlier one: that write's value, or one that a line behind it may have written.
-use Rattle.std.proofs.Common.{◌≡◌, inl, inr, ℕ, ◌+◌, ◌<◌, false, List, [], ◌∷◌, ◌++◌, Contains, refl, sym, ◌∙◌, ap, subst}
+use Rattle.std.proofs.Common.{◌≡◌, inl, inr, ℕ, false, List, [], ◌∷◌, ◌++◌, Contains, refl, sym, ◌∙◌, ap, subst}
 use Rattle.std.proofs.lemmas.List.Elements.{Contains-append_left, Contains-append_right}
 use Rattle.mdv_engine_law.specs.Answers.{accepted}
 use Rattle.mdv_engine_law.specs.Line.{Memory, contents}
 use Rattle.mdv_name.specs.declared.geometry.Geometry.{Geometry}
 use Rattle.mdv_port.specs.Script.{Script}
-use Rattle.mdv_run_law.specs.Below.{Among, Host, IsSound, Map, Table, VolId, readings, run_map}
+use Rattle.mdv_run_law.specs.Below.{Among, Host, IsSound, Map, Table, VolId, readings}
+use Rattle.mdv_dev.proofs.Copies.{reads_there}
 use Rattle.mdv_run_law.specs.Lives.{Ran, host_of}
 use Rattle.mdv_run_law.specs.Run.{started}
 use Rattle.mdv_status.specs.Values.{significant, values_reply}
 use Rattle.mdv_volumes.specs.Tables.{IsMapOf}
+use Rattle.mdv_volumes.proofs.Maps.{same_map}
 use Rattle.mdv_theorem.specs.Exchanges.{Exchange, IsAcknowledged, IsSameBlock, MayBeWritten, TellsBlock, exchanges_by}
 use Rattle.mdv_theorem.specs.Observed.{WritesLast}
 use Rattle.mdv_theorem.specs.Running.{Running}
@@ -17,17 +19,16 @@ use Rattle.mdv_theorem.proofs.Agreeing.{taken_or, told_there}
 use Rattle.mdv_theorem.proofs.Blocks.{write_left}
 use Rattle.mdv_theorem.specs.Words.{IsOrWasWritten}
 use Rattle.mdv_theorem.proofs.Clean.{its_start}
-use Rattle.mdv_theorem.proofs.Contents.{IsStill, IsToldOf, acked_block, content_steps, first_left, lies_out, told_block}
+use Rattle.mdv_theorem.proofs.Contents.{IsStill, IsToldOf, acked_block, content_steps, first_left, told_block}
 use Rattle.mdv_theorem.proofs.Kept.{keeps_over}
 use Rattle.mdv_theorem.proofs.Later.{take_before, take_behind}
 use Rattle.mdv_theorem.proofs.Living.{lived_life}
 use Rattle.mdv_theorem.proofs.Parting.{in_first, in_second, parts}
-use Rattle.mdv_theorem.proofs.Reading.{one_map}
+use Rattle.mdv_theorem.proofs.Place.{BlockAt, spot_beside}
 use Rattle.mdv_theorem.proofs.Staying.{KeepsAtFirst, first_keeps, its_sound, passed}
 use Rattle.mdv_theorem.proofs.Steps.{Between, Failed, Reached, Steps, reached}
 use Rattle.mdv_theorem.proofs.Tables.{Keeps, keeps_open, map_carried, open_keeps}
 use Rattle.mdv_shown.specs.Site.{site_area}
-use Rattle.mdv_theorem.proofs.Sure.{sure_plan}
 
 -- a block that has a value, or one that a line may have written, is told so
 pub was_told : (volume : VolId) (number : ℕ) (old block x : List ℕ) (lines : List Exchange) → IsSameBlock block x → IsOrWasWritten volume number old lines x → IsOrWasWritten volume number old lines block
@@ -53,34 +54,34 @@ module _ (drives : Geometry) (name : List ℕ) (before : List Ran) (script : Scr
   own = its_sound drives name before script sound of_table run
 
   abbrev pub told : IsToldOf host volume number block at.kept at.next
-  told = told_block host at.calls at.kept at.next read at.answer at.comes at.said at.told volume number block tells
+  told = told_block host own at.calls at.kept at.next at.sure read at.answer at.comes at.said at.told volume number block tells
 
   -- the volume lies there
-  abbrev Lies : ℕ → ℕ → ℕ → Table → Type 0
-  Lies drive first count table = IsMapOf host.drives table volume (run_map drive first count)
+  abbrev Lies : Map → Table → Type 0
+  Lies v table = IsMapOf host.drives table volume v
 
   abbrev last : Between host
   last = record { kept = at.kept; sure = at.sure }
 
   -- its block is none of a replica's
-  told_out : site_area host.site told.drive (told.first + number) ≡ false
-  told_out = lies_out host own refl volume told.drive told.first told.count number told.within told.o.table (sure_plan host at.kept told.o at.sure told.opened) told.lies
+  told_out : site_area host.site told.spot.at.drive told.spot.at.block ≡ false
+  told_out = spot_beside host own refl told.o.table volume number told.spot
 
   -- from a line on, behind which its block had that value
-  module _ (drive first count : ℕ) (within : number < count) (out : site_area host.site drive (first + number) ≡ false) (lines es : List Exchange) (mid : Between host) (keeps : Keeps host (Lies drive first count) mid) (steps : Steps host (Failed run) mid es last)
-      (old : List ℕ) (was : IsOrWasWritten volume number old lines (mid.kept.content drive (first + number))) where
-    module _ (now : Keeps host (Lies drive first count) last) where
-      its_value : IsSameBlock block (at.kept.content drive (first + number))
-      its_value = told_there host own refl volume number drive first count last at.next block now told
+  module _ (v : Map) (place : BlockAt v number) (out : site_area host.site place.drive place.block ≡ false) (lines es : List Exchange) (mid : Between host) (keeps : Keeps host (Lies v) mid) (steps : Steps host (Failed run) mid es last)
+      (old : List ℕ) (was : IsOrWasWritten volume number old lines (mid.kept.content place.drive place.block)) where
+    module _ (now : Keeps host (Lies v) last) where
+      its_value : IsSameBlock block (at.kept.content place.drive place.block)
+      its_value = told_there host own refl volume number v place last at.next block now told
 
-      then_value : IsStill host own refl volume drive first count number within out es mid.kept at.kept → IsOrWasWritten volume number old (lines ++ es) block
-      then_value (inl same) = was_told volume number old block (mid.kept.content drive (first + number)) (lines ++ es) (its_value ∙ ap significant same) (more_behind volume number old (mid.kept.content drive (first + number)) lines es was)
-      then_value (inr (one, new, has, may, reads)) = was_told volume number old block (at.kept.content drive (first + number)) (lines ++ es) its_value (more_before volume number old (at.kept.content drive (first + number)) lines es one new has may reads)
+      then_value : IsStill host own refl volume v number place out es mid.kept at.kept → IsOrWasWritten volume number old (lines ++ es) block
+      then_value (inl same) = was_told volume number old block (mid.kept.content place.drive place.block) (lines ++ es) (its_value ∙ ap significant same) (more_behind volume number old (mid.kept.content place.drive place.block) lines es was)
+      then_value (inr (one, new, has, may, reads)) = was_told volume number old block (at.kept.content place.drive place.block) (lines ++ es) its_value (more_before volume number old (at.kept.content place.drive place.block) lines es one new has may reads)
 
     last_value : IsOrWasWritten volume number old (lines ++ es) block
-    last_value = elim (keeps_over host (Lies drive first count) (map_carried host.drives volume (run_map drive first count)) (Failed run) mid last es keeps steps) [
+    last_value = elim (keeps_over host (Lies v) (map_carried host.drives volume v) (Failed run) mid last es keeps steps) [
       | inl takes ↦ taken_or volume number old (lines ++ es) block (take_behind lines es takes)
-      | inr now ↦ elim (content_steps host own refl volume drive first count number within out (Failed run) mid last es keeps steps) [
+      | inr now ↦ elim (content_steps host own refl volume v number place out (Failed run) mid last es keeps steps) [
         | inl takes ↦ taken_or volume number old (lines ++ es) block (take_behind lines es takes)
         | inr still ↦ then_value now still
       ]
@@ -92,37 +93,32 @@ module _ (drives : Geometry) (name : List ℕ) (before : List Ran) (script : Scr
       let way = passed drives name before script sound of_table run (its_start run of_table) here read at front between write is in
       let step = way.step in
       let mid : Between host = record { kept = step.mid; sure = step.next } in
-      let to = acked_block host step.calls step.kept step.mid write step.answer step.comes step.said step.told volume number old acknowledged in
+      let to = acked_block host own step.calls step.kept step.mid step.sure write step.answer step.comes step.said step.told volume number old acknowledged in
       let opened = ap (λ (m : Memory). m.opened) to.memory ∙ to.opened in
-      let keeps : Keeps host (Lies to.drive to.first to.count) mid = keeps_open host (Lies to.drive to.first to.count) mid to.o opened to.lies in
-      let out = lies_out host own refl volume to.drive to.first to.count number to.within to.o.table (sure_plan host step.mid to.o step.next opened) to.lies in
-      last_value to.drive to.first to.count to.within out [] between mid keeps step.after old (inl (ap significant to.reads))
+      let keeps : Keeps host (Lies to.spot.map) mid = keeps_open host (Lies to.spot.map) mid to.o opened to.spot.lies in
+      let out = spot_beside host own refl to.o.table volume number to.spot in
+      last_value to.spot.map to.spot.at out [] between mid keeps step.after old (inl (ap significant to.reads))
 
   -- where the volume lay as the run began: its boot wrote no block of a volume
   module _ (v : Map) (lasts : KeepsAtFirst drives name before script sound of_table run (its_start run of_table) (λ table. IsMapOf host.drives table volume v)) where
-    abbrev Has : Map → Table → Type 0
-    Has map table = IsMapOf host.drives table volume map
-
     abbrev begun : Between host
     begun = record { kept = at.first; sure = at.first_sure }
 
-    booted_so : Keeps host (Has v) begun
-    booted_so = first_keeps drives name before script sound of_table run (its_start run of_table) here read at (Has v) (map_carried host.drives volume v) lasts
+    booted_so : Keeps host (Lies v) begun
+    booted_so = first_keeps drives name before script sound of_table run (its_start run of_table) here read at (Lies v) (map_carried host.drives volume v) lasts
 
     -- there it is read
-    same : Keeps host (Has v) last → v ≡ run_map told.drive told.first told.count
-    same now =
-        let there = open_keeps host (Has v) last told.o now told.opened in
-        one_map host.drives told.o.table own (sure_plan host at.kept told.o at.sure told.opened) volume v (run_map told.drive told.first told.count) there told.lies
+    same : Keeps host (Lies v) last → v ≡ told.spot.map
+    same now = same_map host.drives told.o.table volume v told.spot.map (open_keeps host (Lies v) last told.o now told.opened) told.spot.lies
 
     -- what earlier runs left in the block, or a line before the read may have written
-    pub since_began : (rest : List Exchange) (old : List ℕ) → (v ≡ run_map told.drive told.first told.count → IsOrWasWritten volume number old rest (contents run.t.tale told.drive (told.first + number))) → IsOrWasWritten volume number old (rest ++ here) block
-    since_began rest old was = elim (keeps_over host (Has v) (map_carried host.drives volume v) (Failed run) begun last here booted_so at.steps) [
+    pub since_began : (rest : List Exchange) (old : List ℕ) → (v ≡ told.spot.map → IsOrWasWritten volume number old rest (contents run.t.tale told.spot.at.drive told.spot.at.block)) → IsOrWasWritten volume number old (rest ++ here) block
+    since_began rest old was = elim (keeps_over host (Lies v) (map_carried host.drives volume v) (Failed run) begun last here booted_so at.steps) [
       | inl takes ↦ taken_or volume number old (rest ++ here) block (take_behind rest here takes)
       | inr now ↦
           let is = same now in
-          let kept_on = first_left host own refl volume told.drive told.first told.count number told.within told_out at.booted accepted (started (contents run.t.tale)) at.first at.boots in
-          last_value told.drive told.first told.count told.within told_out rest here begun (subst (λ (map : Map). Keeps host (Has map) begun) is booted_so) at.steps old
+          let kept_on = first_left host own refl volume told.spot.map number told.spot.at told_out at.booted accepted (started (contents run.t.tale)) at.first at.boots in
+          last_value told.spot.map told.spot.at told_out rest here begun (subst (λ (map : Map). Keeps host (Lies map) begun) is booted_so) at.steps old
           (subst (λ (y : List ℕ). IsOrWasWritten volume number old rest y) (sym kept_on) (was is))
     ]
 
@@ -131,8 +127,9 @@ module _ (drives : Geometry) (name : List ℕ) (before : List Ran) (script : Scr
   written_before first rest write old stood acknowledged = elim (write_left drives name run.made before run.t.tale sound of_table (lived_life drives run.made before run.t.tale run.life) first rest write volume number old stood acknowledged) [
     | inl takes ↦ taken_or volume number old (rest ++ here) block (take_before rest here takes)
     | inr is ↦
-        let x = contents run.t.tale told.drive (told.first + number) in
-        since_began is.map is.lasts rest old (λ same. is.values x (subst (λ (v : Map). Among (readings v (contents run.t.tale) number) x) (sym same) (inl refl)))
+        let x = contents run.t.tale told.spot.at.drive told.spot.at.block in
+        since_began is.map is.lasts rest old (λ same. is.values x (subst (λ (v : Map). Among (readings v (contents run.t.tale) number) x) (sym same)
+        (reads_there told.spot.map number told.spot.at.drive told.spot.at.block told.spot.at.lies (contents run.t.tale))))
   ]
 
 pub writes_last : WritesLast

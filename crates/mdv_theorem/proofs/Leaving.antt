@@ -1,33 +1,26 @@
 -- What a line leaves in a block of a volume, behind a crash too: what was left there before, or what the line may have written.
-use Rattle.std.proofs.Common.{◌≡◌, ◌⊎◌, ⊎_elim, inl, inr, ℕ, ◌+◌, ◌-◌, ◌<◌, false, true, List, [], ◌∷◌, ◌++◌, slice_index_or, Contains, Some, refl, sym, ◌∙◌, ap, subst, arith}
-use Rattle.std.proofs.lemmas.Bool.{cases_eq}
+use Rattle.std.proofs.Common.{◌≡◌, ◌⊎◌, ⊎_elim, inl, inr, ℕ, ◌+◌, false, List, [], ◌∷◌, ◌++◌, Contains, Some, refl, sym, ◌∙◌, subst, arith}
 use Rattle.std.proofs.lemmas.List.Elements.{Contains-append_left, Contains-append_right}
 use Rattle.mdv_base.specs.declared.name.VolId.{VolId}
 use Rattle.mdv_base.specs.declared.refusal.Refusal.{Refusal}
 use Rattle.mdv_base.specs.declared.refusal.Refusal.TheVariants.{IoFault}
-use Rattle.mdv_engine_law.specs.Line.{AreBlocksAt, Memory, asked_by}
+use Rattle.mdv_engine_law.specs.Line.{HasBlocks, Memory, asked_by}
 use Rattle.mdv_engine_law.specs.Replies.{IsPlainAnswer, ok_line, refusal_line, text_of}
 use Rattle.mdv_engine_law.specs.Standing.{ArePutBy, LineWrites, WritesOnly}
 use Rattle.mdv_engine_law.specs.declared.answer.Answer.{Answer}
 use Rattle.mdv_engine_law.specs.declared.answer.Answer.TheVariants.{Said, Over}
 use Rattle.mdv_engine_law.specs.declared.answer.Outcome.TheVariants as outcome
 use Rattle.mdv_engine_law.specs.declared.host.Host.{Host}
-use Rattle.mdv_engine_law.proofs.Beside.{lies_plain}
-use Rattle.mdv_map.specs.Maps.{DriveBlock, run_map}
+use Rattle.mdv_map.specs.Maps.{Map}
 use Rattle.mdv_name.specs.declared.geometry.Geometry.{Geometry}
 use Rattle.mdv_run_law.specs.Lives.{host_of}
 use Rattle.mdv_run_law.specs.Run.{IsMereRefusal, IsSaid, TextWrites}
-use Rattle.mdv_run_law.proofs.Extents.{lies_beside, one_place}
-use Rattle.mdv_run_law.proofs.Placing.{put_at}
+use Rattle.mdv_run_law.proofs.Placing.{off_or_there}
 use Rattle.mdv_shelf.specs.Area.{IsKept, KeptOutside, nowhere}
-use Rattle.mdv_shelf.specs.Tale.{MayLeave, Tale, covers}
-use Rattle.mdv_shelf.proofs.Blocks.{both_ways}
+use Rattle.mdv_shelf.specs.Tale.{MayLeave, Tale}
 use Rattle.mdv_table.specs.Slices.{IsSound}
-use Rattle.mdv_table.specs.Table.{IsPlanOf}
 use Rattle.mdv_table.specs.declared.table.Table.{Table}
-use Rattle.mdv_volumes.specs.Tables.{IsMapOf}
 use Rattle.mdv_volumes.proofs.Lists.{contains_first}
-use Rattle.mdv_volumes.proofs.Tables.{tables_lie}
 use Rattle.mdv_words.specs.Line as words
 use Rattle.mdv_words.specs.Line.{IsLine, Line}
 use Rattle.mdv_words.specs.declared.command.Command.{Command}
@@ -35,6 +28,7 @@ use Rattle.mdv_words.specs.declared.command.Command.TheVariants.{AddListed, AddP
 use Rattle.mdv_words.specs.declared.command.Command.TheVariants as command
 use Rattle.mdv_theorem.specs.Exchanges.{Asks, Exchange, IsTold, MayBeWritten, MayHaveBegun}
 use Rattle.mdv_theorem.proofs.Agreeing.{own_sound}
+use Rattle.mdv_theorem.proofs.Place.{Spot, at_place, one_value, same_block, spot_beside}
 use Rattle.mdv_theorem.proofs.Steps.{told_once}
 use Rattle.mdv_theorem.proofs.Tables.{Grows}
 use Rattle.mdv_theorem.proofs.Telling.{entries_are_none, is_fault, ok_is_none, one_number, quiet_is_none, values_are_none}
@@ -81,90 +75,52 @@ module _ (drives : Geometry) (name : List ℕ) where
   abbrev pub own : Host
   own = host_of drives name 0
 
-  -- where a block of a volume of a table lies
-  pub record Spot (table : Table) (volume : VolId) (number : ℕ) : Type 0 where
-    pub drive : ℕ
-    pub first : ℕ
-    pub count : ℕ
-    pub within : number < count
-    pub plan : IsPlanOf own.drives table.plan
-    pub lies : IsMapOf own.drives table volume (run_map drive first count)
-
   -- what is open has no volume but those of the table, and its places lie where a boot looks
   abbrev pub IsInto : Table → Memory → Type 0
   IsInto final memory = ((o : Opened) → memory.opened ≡ Some o → Grows own.drives o.table final) × ((drive block : ℕ) → site_area own.site drive block ≡ false → opened_area memory.opened drive block ≡ false)
 
-  module _ (sound : IsSound drives) (of_table : Contains drives.hosts name) (final : Table) (volume : VolId) (number : ℕ) (spot : Spot final volume number) where
+  module _ (sound : IsSound drives) (of_table : Contains drives.hosts name) (final : Table) (volume : VolId) (number : ℕ) (spot : Spot own.drives final volume number) where
+    abbrev drive : ℕ
+    drive = spot.at.drive
+
     abbrev block : ℕ
-    block = spot.first + number
+    block = spot.at.block
 
     abbrev AreLeft : List Exchange → Tale → Tale → Type 0
-    AreLeft es t u = Leaves volume number spot.drive block es t u
+    AreLeft es t u = Leaves volume number drive block es t u
 
     its_sound : IsSound own.drives
     its_sound = own_sound drives name 0 sound
 
     -- it is none of a replica's
-    pub spot_out : site_area own.site spot.drive block ≡ false
-    spot_out =
-        let within = spot.within in
-        lies_beside own its_sound refl spot.drive spot.first spot.count (lies_plain own its_sound final spot.plan volume spot.drive spot.first spot.count spot.lies) block (omega arith) (omega (arith, within))
+    pub spot_out : site_area own.site drive block ≡ false
+    spot_out = spot_beside own its_sound refl final volume number spot
 
     pub site_leaves : (es : List Exchange) (t u : Tale) → KeptOutside (site_area own.site) t u → AreLeft es t u
-    site_leaves es t u kept = kept_leaves volume number spot.drive block es t u (kept spot.drive block spot_out)
+    site_leaves es t u kept = kept_leaves volume number drive block es t u (kept drive block spot_out)
 
     pub none_leaves : (es : List Exchange) (t u : Tale) → KeptOutside nowhere t u → AreLeft es t u
-    none_leaves es t u kept = kept_leaves volume number spot.drive block es t u (kept spot.drive block refl)
-
-    -- a block of a volume of the table that lies there is this one
-    module _ (other : VolId) (at on start blocks : ℕ) (its : IsMapOf own.drives final other (run_map on start blocks)) (in_it : at < blocks) (on_drive : spot.drive ≡ on) (is_there : block ≡ start + at) where
-      same_number : other ≡ volume → at ≡ number
-      same_number same =
-          let run = one_place own.drives its_sound final spot.plan volume spot.drive spot.first spot.count on start blocks spot.lies (subst (λ (w : VolId). IsMapOf own.drives final w (run_map on start blocks)) same its) in
-          let from = run.at_first in omega (arith, from, is_there)
-
-      never_other : (volume ≡ other → ⊥) → ⊥
-      never_other differ =
-          let laid = tables_lie.laid own.drives final its_sound spot.plan in
-          let within = spot.within in
-          laid.apart volume other (run_map spot.drive spot.first spot.count) (run_map on start blocks) differ spot.lies its number at spot.drive block within in_it (inl (refl, refl)) (inl (on_drive, is_there))
-
-      same_volume : other ≡ volume
-      same_volume = elim (cases_eq other.0 volume.0) [
-        | inl same ↦ λ i. record { 0 = same i }
-        | inr differ ↦ absurd (never_other (λ same. differ (sym (ap (λ (w : VolId). w.0) same))))
-      ]
+    none_leaves es t u kept = kept_leaves volume number drive block es t u (kept drive block refl)
 
     -- the table that is open has no volume but those of that one
     module _ (fresh : ℕ) (memory : Memory) (into : IsInto final memory) (one : Exchange) (t u : Tale) where
       abbrev its_host : Host
       its_host = host_of drives name fresh
 
-      put_leaves : (other : VolId) (at : ℕ) (new : List ℕ) → Asks one (Write other at new) → MayHaveBegun one → (place : DriveBlock) → AreBlocksAt its_host memory other at 1 place → ArePutBy place (new ∷ []) t u → AreLeft (one ∷ []) t u
-      put_leaves other at new asks begun place there put = elim (both_ways (covers place.drive place.block 1 spot.drive block)) [
-        | inl here ↦
-            let to = put_at place.drive place.block spot.drive block here in
-            let from = to.1 in
-            let starts = there.block_is in
+      put_leaves : (other : VolId) (at : ℕ) (new : List ℕ) → Asks one (Write other at new) → MayHaveBegun one → (w : Map) → HasBlocks its_host memory other at 1 w → ArePutBy w at (new ∷ []) t u → AreLeft (one ∷ []) t u
+      put_leaves other at new asks begun w there put = elim (off_or_there w at 1 drive block) [
+        | inl off ↦ kept_leaves volume number drive block (one ∷ []) t u (put.outside drive block off)
+        | inr (k, below, has) ↦
             let bound = there.within in
-            let is_there : block ≡ there.first + at = omega (arith, from, starts) in
-            let its = into.0 there.lies.0 there.lies.1 other (run_map place.drive there.first there.blocks) there.lies.2 in
-            let same = same_volume other at place.drive there.first there.blocks its (omega (arith, bound)) to.0 is_there in
-            let number_is = same_number other at place.drive there.first there.blocks its (omega (arith, bound)) to.0 is_there same in
-            let is = put.inside block (subst (λ (d : ℕ). covers place.drive place.block 1 d block ≡ true) to.0 here) in
-            let none : block - place.block ≡ 0 = omega (arith, from) in
+            let its = into.0 there.o there.opened other w there.lies in
+            let same = same_block own.drives its_sound final spot.plan volume other spot.map w number (at + k) drive block spot.lies its spot.at.within (omega (arith, below, bound)) (at_place spot.map number spot.at) has in
+            let number_is = same.1 in
             let may : MayBeWritten volume number new one = record {
-              asks = subst (λ (n : ℕ). Asks one (Write volume n new)) number_is (subst (λ (w : VolId). Asks one (Write w at new)) same asks);
+              asks = subst (λ (n : ℕ). Asks one (Write volume n new)) (omega (arith, below, number_is)) (subst (λ (v : VolId). Asks one (Write v at new)) same.0 asks);
               begun = begun;
             } in
-            λ x left. ⊎_elim
-            (λ before. inl (subst (λ (d : ℕ). MayLeave t d block x) (sym to.0) before))
-            (λ wrote. inr (one, new, contains_one one, may, wrote ∙ ap (λ (k : ℕ). slice_index_or (new ∷ []) k []) none))
-            (is.left x (subst (λ (d : ℕ). MayLeave u d block x) to.0 left))
-        | inr out ↦ kept_leaves volume number spot.drive block (one ∷ []) t u (put.outside spot.drive block out)
-      ] where
-        contains_one : (e : Exchange) → Contains (e ∷ []) e
-        contains_one e = contains_first e []
+            λ x left. ⊎_elim (λ before. inl before) (λ wrote. inr (one, new, contains_first one [], may, wrote ∙ one_value new k below)) ((put.inside k drive block below has).left x left)
+      ]
 
       pub command_leaves : (spelled : Command) → Asks one spelled → MayHaveBegun one → WritesOnly its_host (asked_by its_host spelled) memory t u → AreLeft (one ∷ []) t u
       command_leaves (AddPlaces slices force count blocks) asks begun wrote = site_leaves (one ∷ []) t u wrote.0
@@ -173,7 +129,7 @@ module _ (drives : Geometry) (name : List ℕ) where
       command_leaves (command.MakeStripe other slice) asks begun wrote = site_leaves (one ∷ []) t u (λ d b out. wrote d b (into.1 d b out))
       command_leaves (Read other at count) asks begun wrote = none_leaves (one ∷ []) t u wrote
       command_leaves (Write other at new) asks begun (inl kept) = none_leaves (one ∷ []) t u kept
-      command_leaves (Write other at new) asks begun (inr (place, there, put)) = put_leaves other at new asks begun place there put
+      command_leaves (Write other at new) asks begun (inr (w, there, put)) = put_leaves other at new asks begun w there put
       command_leaves (Print names) asks begun wrote = none_leaves (one ∷ []) t u wrote
 
       spelled_leaves : (spelled : Line) → IsLine one.text spelled → MayHaveBegun one → LineWrites its_host spelled memory t u → AreLeft (one ∷ []) t u

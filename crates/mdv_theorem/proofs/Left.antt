@@ -43,7 +43,8 @@ use Rattle.mdv_theorem.proofs.Lines.{never_in}
 use Rattle.mdv_theorem.proofs.Come.{HasCome, HasMetNothing}
 use Rattle.mdv_theorem.proofs.Ends.{TakeDatabase, lined_ends}
 use Rattle.mdv_theorem.proofs.Later.{IsLasting, lasting_on, open_lasts, take_before, take_behind}
-use Rattle.mdv_theorem.proofs.Leaving.{Leaves, Spot, begun_or_quiet, command_leaves, site_leaves, leaves_more, none_leaves, own, text_leaves, IsInto}
+use Rattle.mdv_theorem.proofs.Place.{Spot}
+use Rattle.mdv_theorem.proofs.Leaving.{Leaves, begun_or_quiet, command_leaves, site_leaves, leaves_more, none_leaves, own, text_leaves, IsInto}
 use Rattle.mdv_theorem.proofs.Replying.{none_or_whole}
 use Rattle.mdv_theorem.proofs.Steps.{take_none}
 use Rattle.mdv_theorem.proofs.Tables.{Grows}
@@ -173,9 +174,9 @@ module _ (drives : Geometry) (name : List ℕ) (sound : IsSound drives) (of_tabl
         let first = line_goes now mid piece line_told sure (since_last host stretch (n + length piece) mid last left m lines since) in
         gone_more now mid last sure (said_of now.script (text_of line_told.answer)) (lines_here host stretch (n + length piece) mid last left lines) first (lines_go stretch (n + length piece) mid last left lines first.next since)
 
-  module _ (final : Table) (volume : VolId) (number : ℕ) (spot : Spot drives name final volume number) where
+  module _ (final : Table) (volume : VolId) (number : ℕ) (spot : Spot (own drives name).drives final volume number) where
     abbrev AreLeft : List Exchange → Tale → Tale → Type 0
-    AreLeft es t u = Leaves volume number spot.drive (spot.first + number) es t u
+    AreLeft es t u = Leaves volume number spot.at.drive spot.at.block es t u
 
     abbrev Into : Memory → Type 0
     Into = IsInto drives name final
@@ -206,7 +207,7 @@ module _ (drives : Geometry) (name : List ℕ) (sound : IsSound drives) (of_tabl
       told_leaves : (reply : List ℕ) → MayHaveBegun (record { text = text; reply = Some reply }) → AreLeft (exchanges (line text more) (reply ∷ [])) s m
       told_leaves reply begun =
           let one : Exchange = record { text = text; reply = Some reply } in
-          leaves_more volume number spot.drive (spot.first + number) (one ∷ []) (exchanges more []) s m m (command_leaves drives name sound of_table final volume number spot fresh memory into one s m spelled is begun wrote) (λ x may. inl may)
+          leaves_more volume number spot.at.drive spot.at.block (one ∷ []) (exchanges more []) s m m (command_leaves drives name sound of_table final volume number spot fresh memory into one s m spelled is begun wrote) (λ x may. inl may)
 
     module _ (at : At) (s : Story) (m : Moment) (is : at.story ≡ Some s) (rest : List ℕ) (front : IsNextFront host at rest m) (into : Into at.kept.memory) where
       -- what was told of the command
@@ -292,6 +293,6 @@ module _ (drives : Geometry) (name : List ℕ) (sound : IsSound drives) (of_tabl
               | inl away ↦ inl away
               | inr rest ↦
                   let here = line_leaves now mid piece line_told sure.story first.next.story sure.is first.next.is its in
-                  inr (rest.0, leaves_more volume number spot.drive (spot.first + number) said more (tale_of sure.story) (tale_of first.next.story) (tale_of rest.0.story) here rest.1)
+                  inr (rest.0, leaves_more volume number spot.at.drive spot.at.block said more (tale_of sure.story) (tale_of first.next.story) (tale_of rest.0.story) here rest.1)
             ]
           ]

@@ -3,6 +3,7 @@ mod Living
 mod Zeros
 mod Lines
 mod Slices
+mod Place
 mod Come
 mod Lined
 mod Lists
@@ -13,7 +14,6 @@ mod Clean
 mod Sure
 mod Adoptable
 mod Adopted
-mod Sharing
 mod Counting
 mod Places
 mod Ranges
@@ -84,7 +84,6 @@ mod Beginning
 mod Synced
 mod Reread
 mod Opened
-mod Showing
 mod Listed
 mod Printing
 mod Agreed

@@ -1,22 +1,16 @@
 -- What a line asks by its words and its reply, and what it may have begun.
-use Rattle.std.proofs.Common.{◌≡◌, ◌⊎◌, inl, inr, ℕ, ◌+◌, slice_index_or, Bool, true, false, ◌||◌, cond, if◌then◌else◌, List, [], ◌∷◌, ◌++◌, length, take, Contains, refl, sym, ◌∙◌, ap, subst, arith}
-use Rattle.std.specs.Char.{is_ascii_digit}
-use Rattle.std.specs.Fmt.{digits}
+use Rattle.std.proofs.Common.{◌≡◌, ◌⊎◌, inl, inr, ℕ, Bool, true, false, ◌||◌, cond, if◌then◌else◌, List, [], ◌∷◌, Contains, refl, sym, ◌∙◌, subst, arith}
 use Rattle.std.specs.Str.{bytes_eq}
 use Rattle.std.proofs.lemmas.Slice.Eq.{bytes_eq-Decides}
 use Rattle.mdv_base.specs.declared.drive.SliceName.{SliceName}
 use Rattle.mdv_base.specs.declared.name.Key.{Key}
 use Rattle.mdv_base.specs.declared.refusal.Refusal.{Refusal}
-use Rattle.mdv_base.specs.declared.refusal.Refusal.TheVariants.{IoFault, OutOfMemory}
+use Rattle.mdv_base.specs.declared.refusal.Refusal.TheVariants.{IoFault}
 use Rattle.mdv_engine_law.specs.Hosts.{key_of}
 use Rattle.mdv_engine_law.specs.Line.{Ask, Nothing, asked_by_line, deeds}
 use Rattle.mdv_engine_law.specs.Replies.{issuable, ok_line, refusal_line}
 use Rattle.mdv_engine_law.specs.declared.host.Host.{Host}
-use Rattle.mdv_run_law.specs.Standing.{Asks as AsksWords, IsWanting}
-use Rattle.mdv_run_law.proofs.Coming.{no_ok}
-use Rattle.mdv_status.specs.Telling.{begins_with_digit}
-use Rattle.mdv_status.specs.Values.{value_line, values_reply, values_text}
-use Rattle.mdv_status.proofs.Lines.{is_value_line}
+use Rattle.mdv_run_law.specs.Standing.{Asks as AsksWords}
 use Rattle.mdv_store_law.specs.Changes.{AddListed, AddPlaces, Change, DropPlaces, FirstPlace, OfPlan}
 use Rattle.mdv_table.specs.declared.change.Change.TheVariants.{MakeStripe}
 use Rattle.mdv_volumes.specs.History.{Changed, Created, Deed, Deleted, Saw, Wrote}
@@ -26,7 +20,7 @@ use Rattle.mdv_words.specs.declared.command.Command.{Command}
 use Rattle.mdv_words.specs.declared.command.Command.TheVariants as command
 use Rattle.mdv_theorem.specs.Exchanges.{Asks, Exchange, MayBeMade, MayBeWritten, MayHaveBegun}
 use Rattle.mdv_theorem.specs.Words.{MayTakeDatabase, MovesPlaces}
-use Rattle.mdv_theorem.proofs.Telling.{begins_append, is_fault, ok_is_none, one_number}
+use Rattle.mdv_theorem.proofs.Telling.{is_fault, ok_is_none, one_number}
 
 -- the line may have begun to move places
 pub record MayMove (one : Exchange) : Type 0 where
@@ -116,27 +110,3 @@ lets ask reply deed has = by (bytes_eq reply ok_line) (bytes_eq reply (refusal_l
   by true fault is other has = record { begun = ok_lets reply ((bytes_eq-Decides reply ok_line).0 is); asked = has }
   by false true other is has = record { begun = fault_lets reply ((bytes_eq-Decides reply (refusal_line IoFault)).0 is); asked = has }
   by false false other is has = absurd (never_in deed has)
-
--- a reply that tells values is `ok`, or begins with a digit
-value_begins : (at : ℕ) (block : List ℕ) → begins_with_digit (value_line at block) ≡ true
-value_begins at block = let is = is_value_line at block in subst (λ (l : List ℕ). begins_with_digit l ≡ true) (sym is.line) (begins_append is.text (10 ∷ []) is.digit)
-
-values_begin : (at : ℕ) (blocks : List (List ℕ)) → (values_reply at blocks ≡ ok_line) ⊎ (begins_with_digit (values_reply at blocks) ≡ true)
-values_begin at [] = inl refl
-values_begin at (block ∷ blocks) =
-    inr (begins_append (value_line at block ++ values_text (at + 1) blocks) ok_line (begins_append (value_line at block) (values_text (at + 1) blocks) (value_begins at block)))
-
-digit_wants : (reply : List ℕ) → begins_with_digit reply ≡ true → IsWanting reply → ⊥
-unfolding digits
-digit_wants [] digit wanting = absurd (cc (digit))
-digit_wants (b ∷ bs) digit wanting =
-    let same = (bytes_eq-Decides (b ∷ bs) (take (length (b ∷ bs)) (refusal_line OutOfMemory))).0 wanting in
-    let first : b ≡ 114 = ap (λ (l : List ℕ). slice_index_or l 0 0) same in
-    let never = subst (λ (c : ℕ). is_ascii_digit c ≡ true) first digit in absurd (cc never)
-
--- so it tells no want of memory
-pub values_want : (at : ℕ) (blocks : List (List ℕ)) → IsWanting (values_reply at blocks) → ⊥
-values_want at blocks wanting = elim (values_begin at blocks) [
-  | inl ok ↦ no_ok (values_reply at blocks) wanting ((bytes_eq-Decides (values_reply at blocks) ok_line).1 ok)
-  | inr digit ↦ digit_wants (values_reply at blocks) digit wanting
-]

@@ -13,7 +13,7 @@ use Rattle.mdv_store_law.specs.Part.{IsPart}
 use Rattle.mdv_table.specs.declared.plan.Lists.{Lists}
 use Rattle.mdv_table.specs.declared.plan.Lists.TheVariants.{One, Two}
 use Rattle.mdv_volumes.specs.Databases.{log_of}
-use Rattle.mdv_volumes.specs.Happening.{IsCourse, MayBeFound, issued_by}
+use Rattle.mdv_volumes.specs.Happening.{IsCourse, issued_by}
 use Rattle.mdv_volumes.specs.History.{Changed, Event, History, history_after_all}
 use Rattle.mdv_volumes.specs.HistoryLaws.{AllLists, HasLists, HasLogs, KeepDatabase, KeepPlaces, database_deeds, lists_by}
 use Rattle.mdv_volumes.proofs.Ending.{firm_lasts}
@@ -126,7 +126,3 @@ module _ (drives : Geometry) (name : List ℕ) (from : List SliceName) where
     each = λ other has. elim (first_or_behind places other [] has) [ inl here ↦ subst (λ (l : List Place). MayBecome drives name lines from (slices_of l)) here may | inr none ↦ absurd (never_in other none) ];
     some = (slices_of places, may);
   }
-
-  -- and of a table that a boot may find each list is one of these
-  pub found_lists : (lines : List Exchange) (h : History) → ListsLie lines h → (v : Version) → MayBeFound (log_of h.databases key).family v → (places : List Place) → v.table.plan.lists ≡ One places → MayBecome drives name lines from (slices_of places)
-  found_lists lines h lie v found places is = lie.each places (subst (AllLists lie.may) is (lie.has.1 v found))

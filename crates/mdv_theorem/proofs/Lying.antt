@@ -13,7 +13,8 @@ use Rattle.mdv_name.specs.SliceIndex.{HasSlice}
 use Rattle.mdv_name.specs.declared.geometry.Geometry.{Geometry}
 use Rattle.mdv_name.specs.declared.slice_lines.SliceAt.{SliceAt}
 use Rattle.mdv_port.specs.Script.{Script}
-use Rattle.mdv_run_law.specs.Below.{Host, IsSound, Map, SliceName, Table, VolId, Volume, run_map}
+use Rattle.mdv_run_law.specs.Below.{Host, IsSound, Map, SliceName, Table, VolId, Volume}
+use Rattle.mdv_map.specs.Maps.{run_map}
 use Rattle.mdv_run_law.specs.Lives.{IsHistoryOf, Ran, host_of}
 use Rattle.mdv_shelf.specs.Everywhere.{Image}
 use Rattle.mdv_engine_law.specs.Hosts.{key_of}
@@ -28,13 +29,14 @@ use Rattle.mdv_table.specs.Volumes.{HasVolume}
 use Rattle.mdv_volumes.specs.Databases.{log_of}
 use Rattle.mdv_volumes.specs.History.{Event, History, history_after, history_after_all}
 use Rattle.mdv_volumes.specs.HistoryLaws.{new_history}
-use Rattle.mdv_volumes.specs.Tables.{IsKindMap, IsMapOf}
+use Rattle.mdv_volumes.specs.Tables.{IsMapOf, kind_map}
+use Rattle.mdv_volumes.proofs.Maps.{found_as, found_has, has_new}
 use Rattle.mdv_volumes.proofs.Lists.{contains_behind, contains_first}
 use Rattle.mdv_words.specs.declared.command.Command.TheVariants as command
 use Rattle.mdv_theorem.specs.Exchanges.{Asks, Exchange, IsTold, MayBeMade, exchanges_by}
 use Rattle.mdv_theorem.specs.Running.{Running}
 use Rattle.mdv_theorem.specs.Words.{KeepsDatabase, MayLie, MayTakeAway}
-use Rattle.mdv_theorem.proofs.Changes.{HasStripe, has_new, one_slice, stripe, stripe_map, stripe_plain, stripe_stays}
+use Rattle.mdv_theorem.proofs.Changes.{HasStripe, one_slice, stripe, stripe_map, stripe_plain, stripe_stays}
 use Rattle.mdv_theorem.proofs.Clean.{its_start, start_by}
 use Rattle.mdv_theorem.proofs.Ends.{taken_away}
 use Rattle.mdv_theorem.proofs.Found.{stripe_lasts}
@@ -196,10 +198,12 @@ module _ (drives : Geometry) (name : List ℕ) (before : List Ran) (script : Scr
 
       pub lies_at : (o : Opened) → last.kept.memory.opened ≡ Some o → IsPlanOf host.drives o.table.plan → (v : Map) → IsMapOf host.drives o.table volume v → LiesOn lines v
       lies_at o opened plan v lies =
-          let laid = laid_there o opened lies.of lies.has in
-          let kind = All-contains (λ (w : Volume). IsKindOf host.drives w.kind) o.table.plan.volumes lies.of plan.kinds lies.has.0 in
-          let at = stripe_map host.drives volume laid.slice v host_sound (subst (λ (w : Volume). IsKindMap host.drives w.kind v) laid.is lies.kind) in
-          record { slice = laid.slice; may = laid.may; at = at.0; has = at.1; plain = stripe_plain host.drives volume laid.slice at.0 host_sound (subst (λ (w : Volume). IsKindOf host.drives w.kind) laid.is kind) at.1; is = at.2 }
+          let found = found_as host.drives o.table volume v lies in
+          let has = found_has o.table.plan volume found.of found.found in
+          let laid = laid_there o opened found.of has in
+          let kind = subst (λ (w : Volume). IsKindOf host.drives w.kind) laid.is (All-contains (λ (w : Volume). IsKindOf host.drives w.kind) o.table.plan.volumes found.of plan.kinds has.0) in
+          let at = stripe_map host.drives volume laid.slice v host_sound kind (subst (λ (w : Volume). kind_map host.drives w.kind ≡ Some v) laid.is found.kind) in
+          record { slice = laid.slice; may = laid.may; at = at.0; has = at.1; plain = stripe_plain host.drives volume laid.slice at.0 host_sound kind at.1; is = at.2 }
 
     -- where the run has come to a line
     module _ (here : List Exchange) (one : Exchange) (at : Reached run of here one) where

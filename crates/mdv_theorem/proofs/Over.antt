@@ -1,13 +1,10 @@
 -- What runs of any hosts leave in a block of a volume, one behind the other.
-use Rattle.std.proofs.Common.{◌≡◌, ◌⊎◌, inl, inr, ℕ, ◌+◌, ◌<◌, Bool, true, List, [], ◌++◌, if◌then◌else◌, sym, ◌∙◌, ap, subst, append_assoc, arith, refl, Contains}
-use Rattle.std.proofs.lemmas.Bool.Decides.{nat_tests}
+use Rattle.std.proofs.Common.{◌≡◌, ◌⊎◌, inl, inr, ℕ, Bool, true, List, [], ◌++◌, if◌then◌else◌, sym, ◌∙◌, ap, subst, append_assoc, refl, Contains}
 use Rattle.std.proofs.lemmas.List.{append-nil, append_cancel_left}
 use Rattle.std.proofs.lemmas.Slice.Eq.{bytes_eq-Decides}
 use Rattle.std.specs.Str.{bytes_eq}
 use Rattle.mdv_base.specs.declared.name.VolId.{VolId}
 use Rattle.mdv_engine_law.specs.Hosts.{host_area}
-use Rattle.mdv_map.specs.Maps.{area_of_map, run_map}
-use Rattle.mdv_map.proofs.Covering.{runs_lie}
 use Rattle.mdv_name.specs.declared.geometry.Geometry.{Geometry}
 use Rattle.mdv_port.specs.Script.{Script}
 use Rattle.mdv_run_law.specs.Lives.{HasMetNone, IsHistoryOf, MayBeFound, Ran, as_it_was, crashed, host_of, IsLife, IsNewWord}
@@ -16,7 +13,7 @@ use Rattle.mdv_run_law.specs.Standing.{RunMoment}
 use Rattle.mdv_run_law.specs.Told.{IsToldBy, RunToldBy}
 use Rattle.mdv_run_law.proofs.Elsewhere.{table_elsewhere}
 use Rattle.mdv_run_law.proofs.Living.{lives_stand}
-use Rattle.mdv_shelf.specs.Area.{KeptOutside, range}
+use Rattle.mdv_shelf.specs.Area.{KeptOutside}
 use Rattle.mdv_shelf.specs.Everywhere.{Image}
 use Rattle.mdv_shelf.specs.Story.{Moment}
 use Rattle.mdv_shelf.specs.Tale.{Tale, told}
@@ -28,17 +25,16 @@ use Rattle.mdv_volumes.specs.History.{history_after_all}
 use Rattle.mdv_volumes.specs.HistoryLaws.{new_history}
 use Rattle.mdv_theorem.specs.Exchanges.{Exchange, exchanges_by, exchanges_of}
 use Rattle.mdv_theorem.specs.Running.{HaveMetNone, IsMomentOf, Runs, no_run, run_on}
+use Rattle.mdv_theorem.proofs.Agreeing.{own_sound}
 use Rattle.mdv_theorem.proofs.Come.{HasMetNothing}
 use Rattle.mdv_theorem.proofs.Ends.{TakeDatabase}
 use Rattle.mdv_theorem.proofs.Given.{Given}
 use Rattle.mdv_theorem.proofs.Later.{Lasts, LastsNow, lasts_between, lasts_run, lines_since, run_lines, take_before, take_behind}
-use Rattle.mdv_theorem.proofs.Leaving.{Leaves, Spot, kept_leaves, leaves_more, own}
+use Rattle.mdv_theorem.proofs.Place.{Spot, laid, spot_area}
+use Rattle.mdv_theorem.proofs.Leaving.{Leaves, kept_leaves, leaves_more, own}
 use Rattle.mdv_theorem.proofs.Tail.{told_leave}
 use Rattle.mdv_theorem.proofs.Living.{runs_live}
 use Rattle.mdv_theorem.proofs.Tables.{Grows}
-
-in_range : (drive first count number : ℕ) → number < count → range drive first count drive (first + number) ≡ true
-in_range drive first count number within = grind (arith, nat_tests)
 
 -- what is found of a moment holds no more than it did
 pub found_leaves : (volume : VolId) (number drive block : ℕ) (m next : Tale) → MayBeFound m next → Leaves volume number drive block [] m next
@@ -46,10 +42,6 @@ found_leaves volume number drive block m next as_it_was x may = inl may
 found_leaves volume number drive block m next (crashed found left) x may = inl (left drive block x may)
 
 module _ (drives : Geometry) (name : List ℕ) (sound : IsSound drives) (of_table : Contains drives.hosts name) (given : Given) where
-  -- the lines of a run that are the host's
-  abbrev pub lines_of : Ran → List Exchange
-  lines_of ran = run_lines name ran
-
   -- what a run of the host told, where it is known by its name
   pub own_told : (other : List ℕ) (fresh : ℕ) (stretch : Stretch) (start : Counts) (script : Script) (t m : Moment) → bytes_eq other name ≡ true → (stands : RunMoment (host_of drives other fresh) script t.tale m.tale)
       → IsToldBy (host_of drives other fresh) stretch start script t m → (its : IsToldBy (host_of drives name fresh) stretch start script t m) × (its.bytes ≡ stands.bytes)
@@ -66,9 +58,9 @@ module _ (drives : Geometry) (name : List ℕ) (sound : IsSound drives) (of_tabl
       ap (λ (l : List Exchange). l ++ run_lines name one) (since_are first from before old.tale runs) ∙ append_assoc (exchanges_by name first) (lines_since drives name first from before old.tale runs) (run_lines name one)
 
   -- Unless one of the lines took the database away: what lasts there has no volume but those of that table.
-  module _ (Away : Type 0) (final : Table) (volume : VolId) (number : ℕ) (spot : Spot drives name final volume number) where
+  module _ (Away : Type 0) (final : Table) (volume : VolId) (number : ℕ) (spot : Spot (own drives name).drives final volume number) where
     abbrev AreLeft : List Exchange → Tale → Tale → Type 0
-    AreLeft es t u = Leaves volume number spot.drive (spot.first + number) es t u
+    AreLeft es t u = Leaves volume number spot.at.drive spot.at.block es t u
 
     abbrev pub AllInto : List Ran → Tale → Type 0
     AllInto ran t = (table : Table) → Lasts drives name table ran t → Away ⊎ Grows (own drives name).drives table final
@@ -78,12 +70,10 @@ module _ (drives : Geometry) (name : List ℕ) (sound : IsSound drives) (of_tabl
 
     -- what another host's run leaves
     other_leaves : (other : List ℕ) (fresh : ℕ) (script : Script) (t m : Tale) → (other ≡ name → ⊥) → RunMoment (host_of drives other fresh) script t m → AreLeft [] t m
-    other_leaves other fresh script t m differ moment = elim (both_ways (host_area (host_of drives other fresh) spot.drive (spot.first + number))) [
-      | inl does ↦ absurd (table_elsewhere drives name other 0 fresh differ final volume (run_map spot.drive spot.first spot.count) spot.lies spot.drive (spot.first + number) does in_it)
-      | inr never ↦ kept_leaves volume number spot.drive (spot.first + number) [] t m (moment.home spot.drive (spot.first + number) never)
-    ] where
-      in_it : area_of_map (run_map spot.drive spot.first spot.count) spot.drive (spot.first + number) ≡ true
-      in_it = runs_lie.area spot.drive spot.first spot.count spot.drive (spot.first + number) ∙ in_range spot.drive spot.first spot.count number spot.within
+    other_leaves other fresh script t m differ moment = elim (both_ways (host_area (host_of drives other fresh) spot.at.drive spot.at.block)) [
+      | inl does ↦ absurd (table_elsewhere drives name other 0 fresh differ final (laid (own drives name).drives (own_sound drives name 0 sound) final spot.plan) volume spot.map spot.lies spot.at.drive spot.at.block does (spot_area (own drives name).drives final volume number spot))
+      | inr never ↦ kept_leaves volume number spot.at.drive spot.at.block [] t m (moment.home spot.at.drive spot.at.block never)
+    ]
 
     -- a run of whichever host
     any_leaves : (before : List Ran) (other : List ℕ) (fresh : ℕ) (stretch : Stretch) (start : Counts) (script : Script) (t m : Moment) → IsNewWord other fresh before → (stands : RunMoment (host_of drives other fresh) script t.tale m.tale)
@@ -124,8 +114,8 @@ module _ (drives : Geometry) (name : List ℕ) (sound : IsSound drives) (of_tabl
           | inr done ↦ elim (any_leaves before other fresh stretch start script old m new_word stands tells moment none.1 at_end made history (λ taken. takes (take_behind since more taken))) [
             | inl away ↦ inl away
             | inr left ↦
-                let drive = spot.drive in
-                let block = spot.first + number in
+                let drive = spot.at.drive in
+                let block = spot.at.block in
                 let all = leaves_more volume number drive block more [] old.tale m.tale next left (found_leaves volume number drive block m.tale next found) in
                 inr (leaves_more volume number drive block since more from old.tale next done (subst (λ (l : List Exchange). AreLeft l old.tale next) (append-nil more) all))
           ]

@@ -1,31 +1,24 @@
 -- Whose the databases of a host's history are, and which words their identities have, as a run of it begins and while it goes on.
-use Rattle.std.proofs.Common.{◌≡◌, ◌⊎◌, inl, inr, ℕ, List, [], ◌∷◌, Contains, sym, ◌∙◌, subst}
+use Rattle.std.proofs.Common.{◌≡◌, ◌⊎◌, inl, inr, ℕ, List, [], ◌∷◌, sym, ◌∙◌}
 use Rattle.mdv_base.specs.declared.mark.Identity.{Identity}
 use Rattle.mdv_base.specs.declared.name.Key.{Key}
 use Rattle.mdv_base.specs.declared.name.Key.TheVariants.{Local}
 use Rattle.mdv_engine_law.specs.Hosts.{key_of}
-use Rattle.mdv_engine_law.specs.Standing.{AreOwn, StandsAt}
-use Rattle.mdv_engine_law.specs.declared.host.Host.{Host}
+use Rattle.mdv_engine_law.specs.Standing.{AreOwn}
 use Rattle.mdv_name.specs.declared.geometry.Geometry.{Geometry}
 use Rattle.mdv_port.specs.Script.{Script}
-use Rattle.mdv_run_law.specs.Lives.{HasMetNone, HasWord, IsLife, IsNewWord, Ran, host_of}
-use Rattle.mdv_run_law.specs.Standing.{ComeOf, Context, HasMetInRun, InWork}
-use Rattle.mdv_run_law.proofs.Living.{lives_stand}
-use Rattle.mdv_run_law.proofs.Owning.{HasItsWord, IsOfRuns, IsOurs, Makes, all_issue, come_issued, owned_after, runs_own}
-use Rattle.mdv_shelf.specs.Everywhere.{Image}
-use Rattle.mdv_shelf.specs.Tale.{Tale}
+use Rattle.mdv_run_law.specs.Lives.{HasWord, IsNewWord, Ran, host_of}
+use Rattle.mdv_run_law.specs.Standing.{ComeOf, Context, InWork}
+use Rattle.mdv_run_law.proofs.Owning.{HasItsWord, IsOfRuns, IsOurs, Makes, all_issue, come_issued}
 use Rattle.mdv_store_law.specs.Log.{Issue, OfCreation}
 use Rattle.mdv_store_law.specs.Machine.{AreAll}
 use Rattle.mdv_volumes.specs.Databases.{Database}
 use Rattle.mdv_volumes.specs.Happening.{IsIssue}
-use Rattle.mdv_volumes.specs.History.{Acknowledges, Boots, Crashes, Created, Creation, Deletes, Event, History, OfDatabase, OfVolume, Reads, Shows, Stops, history_after_all}
-use Rattle.mdv_volumes.specs.HistoryLaws.{new_history}
+use Rattle.mdv_volumes.specs.History.{Acknowledges, Boots, Crashes, Created, Creation, Deletes, Event, History, OfDatabase, OfVolume, Reads, Shows, Stops, Unsettles}
 use Rattle.mdv_volumes.proofs.Lists.{contains_behind, contains_first}
 use Rattle.mdv_volumes.proofs.Owners.{AreEach}
 use Rattle.mdv_theorem.specs.Exchanges.{exchanges}
-use Rattle.mdv_theorem.specs.Running.{Running}
 use Rattle.mdv_theorem.proofs.Lined.{come_lined, lined_begins}
-use Rattle.mdv_theorem.proofs.Living.{lived_life}
 
 -- the word of a run that is under way, or of one of those before
 abbrev pub IsInRun : List ℕ → ℕ → List Ran → ℕ → Type 0
@@ -45,6 +38,7 @@ module _ (Which : Issue → Type 0) (P : Key → Identity → Type 0) (makes : (
   issue_makes (Shows place key volume at blocks) is = tt
   issue_makes (Deletes place key) is = tt
   issue_makes (Boots key up) is = tt
+  issue_makes (Unsettles key drive) is = tt
   issue_makes Stops is = tt
   issue_makes Crashes is = tt
 
@@ -52,21 +46,10 @@ module _ (Which : Issue → Type 0) (P : Key → Identity → Type 0) (makes : (
   issues_make [] are = tt
   issues_make (e ∷ es) are = (issue_makes e are.0, issues_make es are.1)
 
--- events of a run leave them so
-pub words_on : (host : Host) (Word : ℕ → Type 0) (h : History) (es : List Event) → Word host.fresh → AreAll (IsIssue (HasItsWord host)) es → HaveWords Word h.databases → HaveWords Word (history_after_all h es).databases
-words_on host Word h es its issues have =
-    owned_after (λ key identity. Word identity.fresh) h es have (issues_make (HasItsWord host) (λ key identity. Word identity.fresh) (λ key identity is. subst Word (sym is) its) es issues)
-
 module _ (drives : Geometry) (name : List ℕ) where
   -- as a run begins, whose word is new, none has it
   pub own_new : (fresh : ℕ) (ran : List Ran) (h : History) → IsNewWord name fresh ran → AreEach (IsOfRuns name ran) h.databases → AreOwn (host_of drives name fresh) 0 h
   own_new fresh ran h new each = record { own = λ d has. (each d has).0; before = λ d has same. absurd (let is = (each d has).1 in new is.run is.one_of is.of_host (is.word ∙ same)) }
-
-  -- a history with which the drives stand behind these runs
-  pub life_start : (made : Image) (ran : List Ran) (t : Tale) → Contains drives.hosts name → IsLife drives made ran t → (h : History) × StandsAt (host_of drives name 0) h t × AreEach (IsOfRuns name ran) h.databases
-  life_start made ran t of_table life =
-      let is = lives_stand drives name made ran t of_table life in
-      (history_after_all new_history is.es, is.stands, runs_own drives name ran is.es is.come)
 
   -- more runs were before
   pub more_runs : (one : Ran) (before : List Ran) (word : ℕ) → HasWord name before word → HasWord name (one ∷ before) word
@@ -84,10 +67,3 @@ module _ (drives : Geometry) (name : List ℕ) where
       let host = host_of drives name fresh in
       all_issue (HasItsWord host) (key_of host) es (come_issued host front now script replies es come)
       (λ other has. (lined_begins drives name (exchanges script replies) es (come_lined drives name fresh front now script replies es come) (Created other) has).2)
-
-module _ {drives : Geometry} {name : List ℕ} {before : List Ran} {script : Script} (run : Running drives name before script) (of_table : Contains drives.hosts name) where
-  -- a history with which the drives stand as the run begins, none of whose databases has its word: none of its boots meets a stale vote of it by a moment, where none does of any
-  pub run_start : (h : History) × StandsAt (host_of drives name run.fresh) h run.t.tale × AreOwn (host_of drives name run.fresh) 0 h × ((m : Tale) → HasMetNone drives name before run.fresh script run.t.tale m → HasMetInRun (host_of drives name run.fresh) script run.t.tale m h → ⊥)
-  run_start =
-      let is = lives_stand drives name run.made before run.t.tale of_table (lived_life drives run.made before run.t.tale run.life) in
-      (history_after_all new_history is.es, is.stands, own_new drives name run.fresh before (history_after_all new_history is.es) run.new_word (runs_own drives name before is.es is.come), λ m none met. none run.made is met)

@@ -1,16 +1,13 @@
--- Where among the events of a history one of them happens: the one that tells a write or a read, and the read behind one that is told.
-use Rattle.std.proofs.Common.{◌≡◌, ◌⊎◌, inl, inr, ⊎_elim, ℕ, List, [], ◌∷◌, ◌++◌, Option, Some, None, map, Contains, refl, sym, ◌∙◌, ap, subst, append_assoc}
+-- Where among the events of a history one of them happens: the one that tells a write or a read.
+use Rattle.std.proofs.Common.{◌≡◌, inl, inr, ⊎_elim, ℕ, List, [], ◌∷◌, ◌++◌, Option, Some, None, map, Contains, refl, sym, ◌∙◌, ap, subst, append_assoc}
 use Rattle.std.proofs.lemmas.List.Elements.{Contains-append_cases}
 use Rattle.mdv_base.specs.declared.name.Key.{Key}
-use Rattle.mdv_base.specs.declared.name.VolId.{VolId}
 use Rattle.mdv_name.specs.declared.geometry.Geometry.{Geometry}
 use Rattle.mdv_store_law.specs.Changes.{Change}
 use Rattle.mdv_store_law.specs.Log as log
-use Rattle.mdv_volumes.specs.Events.{Answers, Begins, Flushes, Issues, VolumeEvent, Woke}
-use Rattle.mdv_volumes.specs.Events as lives
 use Rattle.mdv_volumes.specs.Happening.{IsCourse, MayHappen, deed_of, told_by}
-use Rattle.mdv_volumes.specs.History.{Acknowledges, Boots, Changed, Crashes, Created, Creation, Deed, Deleted, Deletes, Event, History, OfDatabase, OfVolume, Reads, Saw, Shows, Stops, Wrote, gone_by, flushed_by, history_after, history_after_all, is_within, untold_after}
-use Rattle.mdv_volumes.proofs.Lists.{course_rest, first_or_behind, in_filter, in_without}
+use Rattle.mdv_volumes.specs.History.{Acknowledges, Boots, Changed, Crashes, Created, Creation, Deed, Deleted, Deletes, Event, History, OfDatabase, OfVolume, Reads, Saw, Shows, Stops, Unsettles, Wrote, history_after, history_after_all}
+use Rattle.mdv_volumes.proofs.Lists.{course_rest, first_or_behind}
 use Rattle.mdv_theorem.proofs.Lines.{never_in}
 
 -- the event is one of these, between those
@@ -93,66 +90,6 @@ told_at deed (Deletes place key ∷ es) of has = elim (first_or_behind (Deleted 
   | inr behind ↦ told_behind deed (Deletes place key) es (told_at deed es of behind)
 ]
 told_at deed (Boots key up ∷ es) of has = told_behind deed (Boots key up) es (told_at deed es of has)
+told_at deed (Unsettles key drive ∷ es) of has = told_behind deed (Unsettles key drive) es (told_at deed es of has)
 told_at deed (Stops ∷ es) of has = told_behind deed Stops es (told_at deed es of has)
 told_at deed (Crashes ∷ es) of has = told_behind deed Crashes es (told_at deed es of has)
-
--- the event by which blocks were seen
-reading_of : Deed → Event
-reading_of (Created key) = Stops
-reading_of (Changed key change) = Stops
-reading_of (Deleted key) = Stops
-reading_of (Wrote key volume at blocks) = Stops
-reading_of (Saw key volume at blocks) = Reads key volume at blocks
-
-module _ (key : Key) (volume : VolId) (at : ℕ) (blocks : List (List ℕ)) where
-  abbrev seen : Deed
-  seen = Saw key volume at blocks
-
-  abbrev read : Event
-  read = Reads key volume at blocks
-
-  -- no event of a volume lets values be told
-  never_flushed : (answered : List Deed) (other : Key) (beside : VolId) (e : VolumeEvent) → Contains (flushed_by other beside e answered) seen → ⊥
-  never_flushed answered other beside (Issues from values) has = never_in seen has
-  never_flushed answered other beside (Answers from values) has = never_in seen has
-  never_flushed answered other beside (Flushes from count) has = let within = (in_filter (is_within other beside from count) answered seen has).1 in absurd (cc within)
-  never_flushed answered other beside (Begins from logs) has = never_in seen has
-  never_flushed answered other beside lives.Crashes has = never_in seen has
-  never_flushed answered other beside (Woke count content) has = never_in seen has
-
-  -- nor does one of a database
-  never_gone : (other : Key) (e : log.Event) → Contains (gone_by other e) seen → ⊥
-  never_gone other (log.Issued identity) has = never_in seen has
-  never_gone other (log.Writing mark asked before table) has = never_in seen has
-  never_gone other log.Written has = never_in seen has
-  never_gone other (log.Told which before) has = never_in seen has
-  never_gone other (log.Placing places) has = never_in seen has
-  never_gone other log.Clearing has = never_in seen has
-  never_gone other log.Gone has = ⊎_elim (λ same. absurd (cc (same))) (never_in seen) (first_or_behind (Deleted other) seen [] has)
-
-  seen_step : (answered untold : List Deed) (e : Event) → Contains (untold_after answered untold e) seen → Contains untold seen ⊎ (e ≡ read)
-  unfolding reading_of
-  seen_step answered untold (Creation other identity) has = inl has
-  seen_step answered untold (OfDatabase other identity e) has = elim (Contains-append_cases (gone_by other e) untold seen has) [ inl here ↦ absurd (never_gone other e here) | inr old ↦ inl old ]
-  seen_step answered untold (OfVolume other beside e) has = elim (Contains-append_cases (flushed_by other beside e answered) untold seen has) [
-    | inl here ↦ absurd (never_flushed answered other beside e here)
-    | inr old ↦ inl old
-  ]
-  seen_step answered untold (Reads other beside from values) has = elim (first_or_behind (Saw other beside from values) seen untold has) [ inl here ↦ inr (ap reading_of here) | inr old ↦ inl old ]
-  seen_step answered untold (Acknowledges place other beside from values) has = inl (in_without place untold seen has)
-  seen_step answered untold (Shows place other beside from values) has = inl (in_without place untold seen has)
-  seen_step answered untold (Deletes place other) has = inl (in_without place untold seen has)
-  seen_step answered untold (Boots other up) has = inl has
-  seen_step answered untold Stops has = absurd (never_in seen has)
-  seen_step answered untold Crashes has = inl has
-
-  -- what was seen and isn't told was read
-  pub seen_at : (h : History) (es : List Event) → Contains (history_after_all h es).untold seen → Contains h.untold seen ⊎ IsAt read es
-  seen_at h [] has = inl has
-  seen_at h (e ∷ es) has = elim (seen_at (history_after h e) es has) [
-    | inl before ↦ elim (seen_step h.answered h.untold e before) [
-      | inl old ↦ inl old
-      | inr is ↦ inr (subst (λ (f : Event). IsAt read (f ∷ es)) (sym is) (at_first read es))
-    ]
-    | inr behind ↦ inr (at_behind e read es behind)
-  ]

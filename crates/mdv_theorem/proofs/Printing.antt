@@ -30,6 +30,7 @@ use Rattle.mdv_table.specs.declared.volume.Volume.{Volume}
 use Rattle.mdv_table.proofs.Deciding.{has_volume-true}
 use Rattle.mdv_volumes.proofs.Lists.{contains_behind, contains_first, first_or_behind}
 use Rattle.mdv_words.specs.declared.command.Command.TheVariants.{Print}
+use Rattle.mdv_volumes.proofs.Maps.{found_as, found_has}
 use Rattle.mdv_theorem.specs.Exchanges.{Asks, Exchange, IsTold, exchanges_by}
 use Rattle.mdv_theorem.specs.Observed.{HaveAnswered, Lists, ListsAll, PrintsOfAll, PrintsOfNames, numbers_of}
 use Rattle.mdv_theorem.specs.Running.{Running}
@@ -117,7 +118,8 @@ module _ (drives : Geometry) (name : List ℕ) (before : List Ran) (script : Scr
   has_shown : (volume : VolId) → IsThere volume lines → (v : Volume) × HasVolume o.table.plan.volumes volume v
   has_shown volume there =
       let its = it_stays drives name before script sound of_table run starts_so here one at calm volume there in
-      subst (λ (n : Opened). (v : Volume) × HasVolume n.table.plan.volumes volume v) (opened_twice at.kept.memory.opened o its.o opened its.opened) (its.so.1.of, its.so.1.has)
+      let found = found_as host.drives its.o.table volume its.so.0 its.so.1 in
+      subst (λ (n : Opened). (v : Volume) × HasVolume n.table.plan.volumes volume v) (opened_twice at.kept.memory.opened o its.o opened its.opened) (found.of, found_has its.o.table.plan volume found.of found.found)
 
   -- and its volumes are told with slices on which they may lie
   told_of : (vs : List Volume) → ((x : Volume) → Contains vs x → Contains o.table.plan.volumes x) → AreListed host.drives (λ volume slice. MayLie volume slice lines) vs

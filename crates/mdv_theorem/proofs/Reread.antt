@@ -11,7 +11,7 @@ use Rattle.mdv_run_law.specs.Run.{At, behind_boot, drive_failures}
 use Rattle.mdv_run_law.specs.Told.{IsToldBy, RunToldBy}
 use Rattle.mdv_shelf.specs.Calls.{OnDrive}
 use Rattle.mdv_shelf.specs.Story.{Moment, Story, tale_of}
-use Rattle.mdv_shelf.specs.Tale.{last, told}
+use Rattle.mdv_shelf.specs.Tale.{told}
 use Rattle.mdv_status.specs.Telling.{replies_in}
 use Rattle.mdv_table.specs.Slices.{IsSound}
 use Rattle.mdv_theorem.specs.Exchanges.{Exchange, IsTold, exchanges, exchanges_of}
@@ -21,7 +21,7 @@ use Rattle.mdv_theorem.proofs.Placed.{Place, lines_place, told_before}
 use Rattle.mdv_theorem.proofs.Settled.{IsSettledAt}
 use Rattle.mdv_theorem.proofs.Staying.{its_sound}
 use Rattle.mdv_theorem.proofs.Steps.{Between, known_at, unreplied}
-use Rattle.mdv_theorem.proofs.Synced.{IsThere, lines_read, lines_rise, lines_settled, lines_shown, lines_story}
+use Rattle.mdv_theorem.proofs.Synced.{IsThere, lines_rise, lines_settled, lines_shown, lines_story}
 use Rattle.mdv_shown.specs.Site.{site_area}
 use Rattle.mdv_theorem.proofs.Come.{HasMetNothing}
 use Rattle.mdv_theorem.proofs.Clean.{none_met, start, start_own, start_stands}
@@ -102,9 +102,6 @@ module _ (drives : Geometry) (name : List ℕ) (before : List Ran) (script : Scr
 
       pub there : (u : Story) × (at.place.at.story ≡ Some u)
       there = lines_story host run.stretch 0 first at.place.at at.place.front at.place.lines booted.0 booted.1
-
-      pub reads_there : (drive b : ℕ) → last (tale_of there.0) drive b ≡ at.place.at.kept.content drive b
-      reads_there = lines_read host run.stretch 0 first at.place.at at.place.front at.place.lines at.by.point.reads there.0 there.1
 
       pub settled_there : (drive : DriveNo) → Contains host.site.drives drive → HasAnswered run drive → (b : ℕ) (out : site_area host.site drive.0 b ≡ false) → IsSettledAt host own refl drive.0 b out (tale_of there.0)
       settled_there drive its answered b out =

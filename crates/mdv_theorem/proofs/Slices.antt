@@ -6,9 +6,6 @@ use Rattle.mdv_base.specs.declared.drive.SliceName.{SliceName}
 use Rattle.mdv_base.specs.declared.place.Place.{Place}
 use Rattle.mdv_name.specs.SliceIndex.{same_slice}
 use Rattle.mdv_store_law.specs.Changes.{AddPlaces, DropPlaces, is_on, list_after, list_less, places_from, places_on}
-use Rattle.mdv_table.specs.Plan.{last_of}
-use Rattle.mdv_table.specs.declared.plan.Lists.{Lists}
-use Rattle.mdv_table.specs.declared.plan.Lists.TheVariants.{One, Two}
 use Rattle.mdv_words.specs.declared.command.Command.{Command}
 use Rattle.mdv_words.specs.declared.command.Command.TheVariants as command
 use Rattle.mdv_theorem.specs.Exchanges.{Asks, Exchange, MayHaveBegun}
@@ -75,20 +72,6 @@ module _ (drives : Geometry) (name : List ℕ) where
         → names_of (line_at slice o ++ lines_asked (host_of drives name 0) slices) ≡ (if is_some o then slice ∷ slices_there drives name slices else slices_there drives name slices)
     by None rest = rest
     by (Some at) rest = ap (λ (l : List SliceName). slice ∷ l) rest
-
--- the places of each list lie so
-abbrev pub LieSo : (List SliceName → Type 0) → Lists → Type 0
-LieSo P (One places) = P (slices_of places)
-LieSo P (Two old new) = P (slices_of old) × P (slices_of new)
-
--- those of the last one do
-pub last_lies : (P : List SliceName → Type 0) (lists : Lists) → LieSo P lists → P (slices_of (last_of lists))
-last_lies P (One places) is = is
-last_lies P (Two old new) is = is.1
-
-pub lies_weaker : (P Q : List SliceName → Type 0) → ((slices : List SliceName) → P slices → Q slices) → (lists : Lists) → LieSo P lists → LieSo Q lists
-lies_weaker P Q weaker (One places) is = weaker (slices_of places) is
-lies_weaker P Q weaker (Two old new) is = (weaker (slices_of old) is.0, weaker (slices_of new) is.1)
 
 module _ (drives : Geometry) (name : List ℕ) where
   -- What a line makes of a list of places that changes it, where it adds places or drops some.

@@ -29,7 +29,6 @@ use Rattle.mdv_shown.specs.declared.site.Site.{Site}
 use Rattle.mdv_shown.specs.Site.{site_area}
 use Rattle.mdv_table.specs.declared.table.Table.{Table}
 use Rattle.mdv_engine_law.proofs.Within.{outside_seats}
-use Rattle.mdv_store.specs.Seats.{seats_area}
 
 -- a history is known with what is in memory, at a tale by which the drives read as they are kept
 pub record IsSure (host : Host) (kept : Kept) : Type 0 where
@@ -88,10 +87,6 @@ module _ (host : Host) (stretch : Stretch) (start : Counts) (t : Tale) (script :
   abbrev pub booted : At
   booted = behind_boot by.booted by.by by.kept script
 
-  -- each place between two lines came before the moment
-  pub since_place : (s : Story) → booted.story ≡ Some s → IsSince (tale_of s) m.tale
-  since_place s is = since_last host stretch 0 booted by.lines.at by.lines.so_far m.tale by.lines.lines (λ u is_u. (by.lines.work u is_u).moment.since) s is
-
   -- behind the run's boot
   pub sure_boot : (s : Story) → stretch.old ≡ Some s → (h : History) → StandsAt host h t → AreOwn host 0 h → HasMetNothing host script h t m.tale → (sure : IsSureAt host script h t booted) × AreIdle host sure.come.es
   sure_boot s is h stands own none =
@@ -136,7 +131,3 @@ module _ (host : Host) where
         let is = open_is memory h t o known opened in
         let there : site_area (site_of host.drives (key_of host)) drive block ≡ false = subst (λ (s : Site). site_area s drive block ≡ false) sees out in
         outside_seats host.drives o t is.1 drive block (subst (λ (k : Key). site_area (site_of host.drives k) drive block ≡ false) (sym is.0) there)
-
-  pub outside_open : SeesOwn host → (kept : Kept) (o : Opened) → IsSure host kept → kept.memory.opened ≡ Some o → (drive block : ℕ) → site_area host.site drive block ≡ false → seats_area o.seats drive block ≡ false
-  outside_open sees kept o sure opened drive block out =
-      subst (λ (x : Option Opened). opened_area x drive block ≡ false) opened (opened_outside sees kept.memory sure.history sure.tale sure.known drive block out)

@@ -3,7 +3,6 @@ use Rattle.std.proofs.Common.{◌≡◌, inl, ℕ, ◌+◌, ◌≤◌, false, Li
 use Rattle.mdv_base.specs.Causes.{Rose}
 use Rattle.mdv_base.proofs.Causes.{rose_of_once, rose_within}
 use Rattle.mdv_engine_law.specs.Answers.{accepted}
-use Rattle.mdv_engine_law.specs.Line.{IsSame, contents}
 use Rattle.mdv_engine_law.specs.declared.answer.Answer.{Answer}
 use Rattle.mdv_engine_law.specs.declared.host.Host.{Host}
 use Rattle.mdv_port.specs.Script.{Script, at_end, line, spent, too_long}
@@ -20,14 +19,6 @@ use Rattle.mdv_theorem.proofs.Come.{HasMetNothing}
 use Rattle.mdv_shelf.specs.Moments.{IsSince}
 use Rattle.mdv_shelf.specs.Tale.{Tale}
 use Rattle.mdv_volumes.specs.History.{History}
-
--- the drives' blocks read there as they are kept
-abbrev pub IsRead : At → Type 0
-IsRead at = (u : Story) → at.story ≡ Some u → IsSame at.kept.content (contents (tale_of u))
-
-pub lines_read : (host : Host) (stretch : Stretch) (bytes : ℕ) (now at : At) (front : List ℕ) → LinesTold host stretch bytes now front at → IsRead now → IsRead at
-lines_read host stretch bytes now at front (no_line n there) reads = reads
-lines_read host stretch bytes now at front (one_more n there mid end piece left some told shown lines) reads = lines_read host stretch (bytes + length piece) mid at left lines told.passage.reads
 
 -- the moments show the place, by a point behind which no more than so much was told
 abbrev pub IsShownBy : Stretch → ℕ → At → Type 0

@@ -1,8 +1,7 @@
 -- What lines of a run leave of the database: what no change takes from the tables that a boot may find stays so of each, and it is open as long as no boot is blind.
-use Rattle.std.proofs.Common.{◌≡◌, ◌⊎◌, inl, inr, ℕ, ◌+◌, Bool, true, false, List, [], ◌∷◌, ◌++◌, MatchOption, Option, Some, None, refl, sym, ◌∙◌, ap, subst}
+use Rattle.std.proofs.Common.{◌≡◌, ◌⊎◌, inl, inr, ℕ, Bool, true, false, List, [], ◌∷◌, ◌++◌, MatchOption, Option, Some, None, refl, sym, ◌∙◌, ap, subst}
 use Rattle.std.specs.Bool.{MatchBool}
 use Rattle.std.specs.Option.{option_or}
-use Rattle.std.proofs.lemmas.Bool.{false≢true}
 use Rattle.std.proofs.lemmas.List.{append-nil}
 use Rattle.mdv_base.specs.Order.{first_refusal, where_so}
 use Rattle.mdv_base.proofs.Order.{full_is_last}
@@ -16,7 +15,7 @@ use Rattle.mdv_engine_law.specs.Answers.{accepted, refusing}
 use Rattle.mdv_engine_law.specs.Commands as came
 use Rattle.mdv_engine_law.specs.Commands.{CameTo, ComesTo, Effect, Fault, IsAllowed, KeepsTab, Wanting, case_of}
 use Rattle.mdv_engine_law.specs.Hosts.{key_of, lines_asked}
-use Rattle.mdv_engine_law.specs.Line.{AreBlocksAt, HasNoTableOn, HasVolumeOn, IsCommitted, IsCreated, IsReadOf, IsRebooted, IsSame, IsUnbegun, IsUncreated, Kept, Memory, Stays, WritesBy, answered_by, booted_with, opened_by, record_room}
+use Rattle.mdv_engine_law.specs.Line.{HasBlocks, HasNoTableOn, IsCommitted, IsCreated, IsReadOf, IsRebooted, IsSame, IsUnbegun, IsUncreated, Kept, Memory, Stays, WritesBy, answered_by, booted_with, opened_by, record_room}
 use Rattle.mdv_engine_law.specs.Line as engine
 use Rattle.mdv_engine_law.specs.Moves.{HasMovedOn, IsDeletedOn, IsUndeletedOn, IsUnmovedOn}
 use Rattle.mdv_engine_law.specs.Places.{are_all}
@@ -25,15 +24,13 @@ use Rattle.mdv_engine_law.specs.Replies.{ok_line, refusal_line, text_of}
 use Rattle.mdv_engine_law.specs.Standing.{ArePutBy, LineWrites}
 use Rattle.mdv_engine_law.specs.declared.answer.Answer.{Answer}
 use Rattle.mdv_engine_law.specs.declared.host.Host.{Host}
-use Rattle.mdv_engine_law.proofs.Allowed.{allowed_clean, dropped_forced}
-use Rattle.mdv_engine_law.proofs.Freed.{freed_current}
-use Rattle.mdv_map.specs.Maps.{DriveBlock, Map, run_map}
+use Rattle.mdv_engine_law.proofs.Allowed.{dropped_forced}
+use Rattle.mdv_map.specs.Maps.{Map}
 use Rattle.mdv_name.specs.declared.geometry.Geometry.{Geometry}
 use Rattle.mdv_places.specs.Asked.{Adds, Asks as AsksPlaces, Drops}
 use Rattle.mdv_run_law.specs.Run.{IsAnswered, IsSaid, TextWrites}
 use Rattle.mdv_shelf.specs.Area.{IsKept}
 use Rattle.mdv_shelf.specs.Failing.{Outcomes}
-use Rattle.mdv_shelf.specs.Everywhere.{Image}
 use Rattle.mdv_shelf.specs.Tale.{Tale}
 use Rattle.mdv_shown.specs.Site.{site_area}
 use Rattle.mdv_store.specs.Boot.{IsEndBy, is_memory}
@@ -43,8 +40,6 @@ use Rattle.mdv_store.specs.declared.booting.BootEnd.TheVariants as ending
 use Rattle.mdv_store.specs.declared.booting.BootEnd.{BootEnd}
 use Rattle.mdv_store_law.specs.Changes.{AddListed, AddPlaces, Change, DropPlaces, FirstPlace, OfPlan, moved}
 use Rattle.mdv_store_law.specs.Log.{IsMade, IsRising}
-use Rattle.mdv_store_law.specs.Log as log
-use Rattle.mdv_store_law.proofs.Fates.{lives_there}
 use Rattle.mdv_survey.specs.declared.replica.Survey.{Survey}
 use Rattle.mdv_table.specs.Change as table
 use Rattle.mdv_table.specs.Change.{IsAfter, table_after}
@@ -52,14 +47,9 @@ use Rattle.mdv_table.specs.Plan.{settled}
 use Rattle.mdv_table.specs.declared.change.Change.{Change as PlanChange}
 use Rattle.mdv_table.specs.declared.change.Change.TheVariants.{MakeStripe}
 use Rattle.mdv_table.specs.declared.table.Table.{Table}
-use Rattle.mdv_table.specs.declared.volume.Base.{Base}
-use Rattle.mdv_table.specs.declared.volume.Base.TheVariants.{Slice}
-use Rattle.mdv_table.specs.declared.volume.Component.{Component}
-use Rattle.mdv_table.specs.declared.volume.VolumeKind.{VolumeKind}
-use Rattle.mdv_table.specs.declared.volume.VolumeKind.TheVariants.{Stripe}
 use Rattle.mdv_volumes.specs.Databases.{log_of}
-use Rattle.mdv_volumes.specs.Happening.{IsOver, MayBeFound}
-use Rattle.mdv_volumes.specs.Tables.{IsBaseMap, IsKindMap, IsMapOf}
+use Rattle.mdv_volumes.specs.Happening.{MayBeFound}
+use Rattle.mdv_volumes.specs.Tables.{IsMapOf}
 use Rattle.mdv_volumes.proofs.Found.{AreLasting, newest_found}
 use Rattle.mdv_volumes.proofs.Made.{map_stays}
 use Rattle.mdv_volumes.proofs.Tables.{tables_lie}
@@ -103,14 +93,7 @@ pub map_carried : (g : Geometry) (volume : VolId) (v : Map) → IsCarried g (λ 
 map_carried g volume v = (
   λ old new other slice after has. tables_lie.stays g old new other slice volume v after has,
   λ table has. map_stays g volume v None table (settled table) (inr refl) has,
-  λ change old has. record { of = has.of; has = has.has; kind = has.kind },
-)
-
-pub grows_carried : (g : Geometry) (table : Table) → IsCarried g (Grows g table)
-grows_carried g table = (
-  λ old new volume slice after grows other v has. (map_carried g other v).0 old new volume slice after (grows other v has),
-  λ now grows other v has. (map_carried g other v).1 now (grows other v has),
-  λ change old grows other v has. (map_carried g other v).2 change old (grows other v has),
+  λ change old has. has,
 )
 
 -- each table that a boot may find by the history that is known there is one of these
@@ -128,23 +111,9 @@ open_keeps host P at o are opened =
 pub keeps_open : (host : Host) (P : Table → Type 0) (at : Between host) (o : Opened) → at.kept.memory.opened ≡ Some o → P o.table → Keeps host P at
 keeps_open host P at o opened has = open_lasting host at.kept.memory at.sure.history at.sure.tale o at.sure.known opened P has
 
--- the same blocks are the same content
-pub same_content : (old new : Image) → IsSame old new → new ≡ old
-same_content old new same = λ i drive block. same drive block i
-
 -- some replica shows a table then
 pub keeps_shown : (host : Host) (P : Table → Type 0) (at : Between host) → Keeps host P at → HasNoTableOn host.drives (key_of host) at.kept.content → ⊥
 keeps_shown host P at are = firm_shows host at.sure.history at.sure.tale at.sure.known.stands are.lives are.firm at.kept.content at.sure.reads
-
--- and where none is open a call failed in the last boot, so none may be made
-pub keeps_down : (host : Host) (P : Table → Type 0) (at : Between host) → Keeps host P at → at.kept.memory.opened ≡ None → at.kept.memory.clean ≡ true → ⊥
-keeps_down host P at are none clean = by (freed_current host.drives at.sure.history.databases (key_of host) at.sure.tale at.sure.known.stands.databases (at.sure.known.free none clean)) where
-  by : (log.is_firm (log_of at.sure.history.databases (key_of host)) ≡ false) ⊎ IsOver at.sure.history.databases (key_of host) → ⊥
-  by (inl loose) = false≢true (sym loose ∙ are.firm)
-  by (inr over) = lives_there (log_of at.sure.history.databases (key_of host)).fate are.lives over
-
-pub never_created : (host : Host) (P : Table → Type 0) (at : Between host) → Keeps host P at → at.kept.memory.opened ≡ None → (slices : List SliceName) (force : Bool) (count blocks : ℕ) → IsAllowed (case_of host at.kept) (command.AddPlaces slices force count blocks) → ⊥
-never_created host P at are none slices force count blocks free = keeps_down host P at are none (allowed_clean (case_of host at.kept) slices force count blocks free none)
 
 module _ (host : Host) (P : Table → Type 0) (carried : IsCarried host.drives P) where
   -- a line that can't have taken the database away leaves it so
@@ -178,9 +147,9 @@ pub record WroteThere (host : Host) (memory : Memory) (text : List ℕ) (t u : T
   pub at : ℕ
   pub block : List ℕ
   pub spelled : IsLine text (words.Exec (Write volume at block))
-  pub place : DriveBlock
-  pub there : AreBlocksAt host memory volume at 1 place
-  pub put : ArePutBy place (block ∷ []) t u
+  pub map : Map
+  pub there : HasBlocks host memory volume at 1 map
+  pub put : ArePutBy map at (block ∷ []) t u
 
 module _ (host : Host) (sees : SeesOwn host) (kept : Kept) (sure : IsSure host kept) (text : List ℕ) (t u : Tale) (drive b : ℕ) (out : site_area host.site drive b ≡ false) where
   abbrev Left : Type 0
@@ -193,7 +162,7 @@ module _ (host : Host) (sees : SeesOwn host) (kept : Kept) (sure : IsSure host k
   command_kept (command.MakeStripe volume slice) spelled writes = inl (writes drive b (opened_outside host sees kept.memory sure.history sure.tale sure.known drive b out))
   command_kept (Read volume at count) spelled writes = inl (writes drive b refl)
   command_kept (Write volume at block) spelled (inl none) = inl (none drive b refl)
-  command_kept (Write volume at block) spelled (inr (place, there, put)) = inr (record { volume = volume; at = at; block = block; spelled = spelled; place = place; there = there; put = put })
+  command_kept (Write volume at block) spelled (inr (v, there, put)) = inr (record { volume = volume; at = at; block = block; spelled = spelled; map = v; there = there; put = put })
   command_kept (Print names) spelled writes = inl (writes drive b refl)
 
   line_kept : (spelled : Line) → IsLine text spelled → LineWrites host spelled kept.memory t u → Left
@@ -288,8 +257,8 @@ module _ (host : Host) (calls : Outcomes) (text : List ℕ) (answer : Answer) (k
     by true all deleted = gone its slices force also all spelled free (inl ok) (ap (λ (m : Memory). m.opened) deleted.memory)
     by false some is = moves its (Drops slices) is
   open_done (command.MakeStripe volume slice) spelled free (ok, its, also, made) = rests made.opened (ap (λ (m : Memory). m.opened) made.memory)
-  open_done (Read volume at count) spelled free effect = stays effect.4
-  open_done (Write volume at block) spelled free (calm, place, there, ok, memory, put) = still memory
+  open_done (Read volume at count) spelled free effect = stays effect.7
+  open_done (Write volume at block) spelled free (calm, v, there, ok, memory, put) = still memory
   open_done (Print names) spelled free effect = stays effect.4
 
   open_faulted : (cmd : Command) → Spelled cmd → IsAllowed (case_of host kept) cmd → answer ≡ refusing IoFault → Fault calls host kept cmd next → Line_of
@@ -303,8 +272,8 @@ module _ (host : Host) (calls : Outcomes) (text : List ℕ) (answer : Answer) (k
     by (inl is) = rests is.opened (ap (λ (m : Memory). m.opened) is.memory)
     by (inr is) = gone its slices force also all spelled free (inr told) (ap (λ (m : Memory). m.opened) is.memory)
   open_faulted (command.MakeStripe volume slice) spelled free told fault = absurd fault
-  open_faulted (Read volume at count) spelled free told fault = stays fault.3
-  open_faulted (Write volume at block) spelled free told (place, failed, there, memory, put) = rests o (ap (λ (m : Memory). m.opened) memory ∙ opened)
+  open_faulted (Read volume at count) spelled free told fault = stays fault.1
+  open_faulted (Write volume at block) spelled free told (failed, unsettled, put) = rests o (ap (λ (m : Memory). m.opened) unsettled.beside ∙ opened)
   open_faulted (Print names) spelled free told fault = absurd fault
 
   open_wanting : (cmd : Command) → Wanting host kept cmd next → Line_of
@@ -365,23 +334,12 @@ module _ (host : Host) (Failed : ℕ → Type 0) where
       by (falls blind none) = absurd (never [] from (no_step from) o opened calls unfailed blind)
       by (leaves slices spelled so none) = absurd (keeps one (contains_first one rest) (leaves_takes one answer told slices spelled so))
 
--- a volume of a table lies together
-pub map_is_run : (g : Geometry) (t : Table) (volume : VolId) (v : Map) → IsMapOf g t volume v → (drive : ℕ) × (first : ℕ) × (count : ℕ) × (v ≡ run_map drive first count)
-map_is_run g t volume v is = of_kind is.of.kind is.kind where
-  of_base : (c : Component) (base : Base) → IsBaseMap g c base v → (drive : ℕ) × (first : ℕ) × (count : ℕ) × (v ≡ run_map drive first count)
-  of_base c (Slice slice) (at, has, same) = (at.drive.0, at.start + c.start, c.blocks, same)
-
-  of_kind : (kind : VolumeKind) → IsKindMap g kind v → (drive : ℕ) × (first : ℕ) × (count : ℕ) × (v ≡ run_map drive first count)
-  of_kind (Stripe s) lies = of_base s.component s.component.on lies
-
 -- the open table has the volume
 pub record HasThere (host : Host) (volume : VolId) (kept : Kept) : Type 0 where
   pub o : Opened
   pub opened : kept.memory.opened ≡ Some o
-  pub drive : ℕ
-  pub first : ℕ
-  pub count : ℕ
-  pub lies : IsMapOf host.drives o.table volume (run_map drive first count)
+  pub map : Map
+  pub lies : IsMapOf host.drives o.table volume map
 
 -- what was told of a command that was granted is no refusal
 pub granted_is_none : (one : Exchange) (cmd : Command) (r : Refusal) → IsGranted one cmd → IsTold one (refusal_line r) → ⊥
@@ -413,12 +371,10 @@ module _ (host : Host) (calls : Outcomes) (kept next : Kept) (one : Exchange) (a
     by (inr (inr (quiet, refused))) = absurd (unrefusing cmd OutOfMemory granted refused.0)
 
   module _ (volume : VolId) (after : IsSure host next) where
-    has_volume : (other : VolId) (drive first count : ℕ) → other ≡ volume → HasVolumeOn host next.memory other drive first count → HasThere host volume next
-    has_volume other drive first count same (o, opened, lies) =
-        record { o = o; opened = opened; drive = drive; first = first; count = count; lies = subst (λ (w : VolId). IsMapOf host.drives o.table w (run_map drive first count)) same lies }
-
-    same_there : (other : VolId) (drive first count : ℕ) → next.memory ≡ kept.memory → HasVolumeOn host kept.memory other drive first count → HasVolumeOn host next.memory other drive first count
-    same_there other drive first count memory has = subst (λ (m : Memory). HasVolumeOn host m other drive first count) (sym memory) has
+    -- blocks of it were there before
+    same_there : (other : VolId) (at count : ℕ) (v : Map) → other ≡ volume → next.memory ≡ kept.memory → HasBlocks host kept.memory other at count v → HasThere host volume next
+    same_there other at count v same memory there =
+        record { o = there.o; opened = ap (λ (m : Memory). m.opened) memory ∙ there.opened; map = v; lies = subst (λ (w : VolId). IsMapOf host.drives there.o.table w v) same there.lies }
 
     made_there : (other : VolId) (slice : SliceName) (its : Opened) → other ≡ volume → IsAllowed (case_of host kept) (command.MakeStripe other slice) → kept.memory.opened ≡ Some its
         → IsCommitted calls host its (table_after host.drives (MakeStripe other slice) its.table) kept next → HasThere host volume next
@@ -429,16 +385,15 @@ module _ (host : Host) (calls : Outcomes) (kept next : Kept) (one : Exchange) (a
         let grew : IsAfter host.drives change its.table.plan made.opened.table.plan = subst (λ (t : Table). IsAfter host.drives change its.table.plan t.plan) (sym table_is) (unrefused host its change unheld, refl) in
         let now : next.memory.opened ≡ Some made.opened = ap (λ (m : Memory). m.opened) made.memory in
         let lies = tables_lie.lies host.drives its.table made.opened.table other slice grew (sure_plan host next made.opened after now) in
-        let run = map_is_run host.drives made.opened.table other lies.0 lies.1 in
-        has_volume other run.0 run.1 run.2 same (made.opened, now, subst (λ (v : Map). IsMapOf host.drives made.opened.table other v) run.3 lies.1)
+        record { o = made.opened; opened = now; map = lies.0; lies = subst (λ (w : VolId). IsMapOf host.drives made.opened.table w lies.0) same lies.1 }
 
     on_there : (cmd : Command) → IsOn volume cmd → IsAllowed (case_of host kept) (meant kept.memory.entries cmd) × Effect calls host kept (meant kept.memory.entries cmd) answer next → HasThere host volume next
     on_there (command.AddPlaces slices force count blocks) on done = absurd on
     on_there (command.AddListed number force) on done = absurd on
     on_there (command.DropPlaces slices force) on done = absurd on
     on_there (command.MakeStripe other slice) on (free, (ok, its, opened, made)) = made_there other slice its on free opened made
-    on_there (Read other at count) on (free, (calm, from, there, values, stays)) = has_volume other from.drive there.first there.blocks on (same_there other from.drive there.first there.blocks stays.memory there.lies)
-    on_there (Write other at block) on (free, (calm, place, there, ok, memory, put)) = has_volume other place.drive there.first there.blocks on (same_there other place.drive there.first there.blocks memory there.lies)
+    on_there (Read other at count) on (free, (calm, v, there, blocks, many, seen, values, stays)) = same_there other at count v on stays.memory there
+    on_there (Write other at block) on (free, (calm, v, there, ok, memory, put)) = same_there other at 1 v on memory there
     on_there (Print names) on done = absurd on
 
     -- behind a line that shows it to be there the volume is in the open table

@@ -1,5 +1,5 @@
 -- What a run leaves in a block of a volume, from a place between two of its lines, or from its start, up to one of its moments; unless one of its lines may have taken the database away.
-use Rattle.std.proofs.Common.{◌≡◌, ◌⊎◌, inl, inr, ℕ, ◌+◌, List, [], ◌++◌, Some, refl, sym, ◌∙◌, ap, subst, append_assoc, Contains}
+use Rattle.std.proofs.Common.{◌≡◌, ◌⊎◌, inl, inr, ℕ, List, [], ◌++◌, Some, refl, sym, ◌∙◌, ap, subst, append_assoc, Contains}
 use Rattle.std.proofs.lemmas.List.{append_cancel_left}
 use Rattle.mdv_base.specs.declared.name.VolId.{VolId}
 use Rattle.mdv_engine_law.specs.Awake.{Happening}
@@ -29,7 +29,8 @@ use Rattle.mdv_theorem.proofs.Come.{CameInWork, HasMetNothing, come_work}
 use Rattle.mdv_theorem.proofs.Ends.{TakeDatabase, lined_ends}
 use Rattle.mdv_theorem.proofs.Given.{Given}
 use Rattle.mdv_theorem.proofs.Later.{IsLasting, LastsNow, lasting_on, run_lasts, take_before, take_behind}
-use Rattle.mdv_theorem.proofs.Leaving.{Leaves, Spot, leaves_more, own, site_leaves}
+use Rattle.mdv_theorem.proofs.Place.{Spot}
+use Rattle.mdv_theorem.proofs.Leaving.{Leaves, leaves_more, own, site_leaves}
 use Rattle.mdv_theorem.proofs.Left.{AreInto, lines_here, lines_leave, lines_say, open_into, work_leaves}
 use Rattle.mdv_theorem.proofs.Lined.{AreLined, come_lined}
 use Rattle.mdv_theorem.proofs.Sure.{IsSureAt, booted, sure_boot}
@@ -81,10 +82,10 @@ module _ (drives : Geometry) (name : List ℕ) (fresh : ℕ) (before : List Ran)
               (subst (IsLasting drives name table) (sym (after_more history_after h sure.come.es came.fs)) (lasting_on drives name table there came.fs came.course keeps lasts)))
         ]
 
-  module _ (sound : IsSound drives) (of_table : Contains drives.hosts name) (given : Given) (Away : Type 0) (final : Table) (volume : VolId) (number : ℕ) (spot : Spot drives name final volume number)
+  module _ (sound : IsSound drives) (of_table : Contains drives.hosts name) (given : Given) (Away : Type 0) (final : Table) (volume : VolId) (number : ℕ) (spot : Spot (own drives name).drives final volume number)
       (into : (table : Table) → LastsNow drives name table here before m.tale → Away ⊎ Grows (own drives name).drives table final) where
     abbrev AreLeft : List Exchange → Tale → Tale → Type 0
-    AreLeft es t u = Leaves volume number spot.drive (spot.first + number) es t u
+    AreLeft es t u = Leaves volume number spot.at.drive spot.at.block es t u
 
     -- from a place between two lines to the moment
     pub tail_leaves : (stretch : Stretch) (n : ℕ) (now at : At) (so_far rest : List ℕ) (lines : LinesTold host stretch n now so_far at) (sure : IsSureAt host script h t now) → ((u : Story) → at.story ≡ Some u → AtWork host at (tale_of u) m.tale) → IsNextFront host at rest m
@@ -103,7 +104,7 @@ module _ (drives : Geometry) (name : List ℕ) (fresh : ℕ) (before : List Ran)
             | inr its ↦
                 let last = work_leaves drives name sound of_table given fresh final volume number spot at led.0.story m led.0.is rest front its (work led.0.story led.0.is).writes in
                 inr (subst (λ (l : List Exchange). AreLeft l (tale_of sure.story) m.tale) (sym all)
-                (leaves_more volume number spot.drive (spot.first + number) these others (tale_of sure.story) (tale_of led.0.story) m.tale led.1 last))
+                (leaves_more volume number spot.at.drive spot.at.block these others (tale_of sure.story) (tale_of led.0.story) m.tale led.1 last))
           ]
         ]
 
@@ -119,7 +120,7 @@ module _ (drives : Geometry) (name : List ℕ) (fresh : ℕ) (before : List Ran)
           elim (tail_leaves stretch 0 (booted host stretch start t script bytes m by) lines.at lines.so_far lines.rest lines.lines up lines.work lines.front (rest_told host stretch start t script bytes m by is_told s begins starts)
           (λ taken. takes (subst TakeDatabase said taken))) [
             | inl away ↦ inl away
-            | inr last ↦ inr (leaves_more volume number spot.drive (spot.first + number) [] (exchanges_of script bytes) t (tale_of v) m.tale first (subst (λ (l : List Exchange). AreLeft l (tale_of v) m.tale) said last))
+            | inr last ↦ inr (leaves_more volume number spot.at.drive spot.at.block [] (exchanges_of script bytes) t (tale_of v) m.tale first (subst (λ (l : List Exchange). AreLeft l (tale_of v) m.tale) said last))
           ]
 
       pub told_leave : ((bytes ≡ []) × KeptOutside (site_area host.site) t m.tale) ⊎ RunToldBy host stretch start t script bytes m → Away ⊎ AreLeft (exchanges_of script bytes) t m.tale

@@ -84,9 +84,6 @@ module _ (host : Host) (calls : Outcomes) (kept next : Kept) (one : Exchange) (a
   abbrev IsDone : Command → Type 0
   IsDone cmd = IsAllowed (case_of host kept) cmd × Effect calls host kept cmd answer next
 
-  moved_open : (memory : Memory) → next.memory ≡ memory → (o : Opened) → memory.opened ≡ Some o → IsOpen
-  moved_open memory is o opened = (o, ap (λ (m : Memory). m.opened) is ∙ opened)
-
   more_open : (slices : List _) (force : Bool) (count blocks : ℕ) → IsDone (command.AddPlaces slices force count blocks) → IsOpen
   more_open slices force count blocks (free, (ok, effect)) = by kept.memory.opened effect where
     by : (x : Option Opened) → MatchOption x (IsCreated calls host (lines_asked host slices) count blocks kept next) (λ o. HasMovedOn calls host o (Adds (lines_asked host slices) count blocks) kept next) → IsOpen
@@ -108,8 +105,8 @@ module _ (host : Host) (calls : Outcomes) (kept next : Kept) (one : Exchange) (a
   done_open (command.AddListed number force) needs done = listed_open number force (listed_by kept.memory.entries number) done
   done_open (command.DropPlaces slices force) needs done = less_open slices (subst (λ (b : Bool). IsDone (command.DropPlaces slices b)) needs done)
   done_open (command.MakeStripe volume slice) needs (free, (ok, its, opened, made)) = (made.opened, ap (λ (m : Memory). m.opened) made.memory)
-  done_open (command.Read volume at count) needs (free, (calm, from, there, values, stays)) = (there.lies.0, ap (λ (m : Memory). m.opened) stays.memory ∙ there.lies.1)
-  done_open (command.Write volume at block) needs (free, (calm, place, there, ok, memory, put)) = (there.lies.0, ap (λ (m : Memory). m.opened) memory ∙ there.lies.1)
+  done_open (command.Read volume at count) needs (free, (calm, v, there, blocks, many, seen, values, stays)) = (there.o, ap (λ (m : Memory). m.opened) stays.memory ∙ there.opened)
+  done_open (command.Write volume at block) needs (free, (calm, v, there, ok, memory, put)) = (there.o, ap (λ (m : Memory). m.opened) memory ∙ there.opened)
   done_open (command.Print names) needs (free, (calm, its, also, text, same)) = (its, ap (λ (m : Memory). m.opened) same.memory ∙ also)
 
   -- A command that was granted on a database leaves one open.

@@ -4,7 +4,6 @@ use Rattle.std.proofs.lemmas.List.{append-nil, append_cancel_right}
 use Rattle.mdv_base.specs.declared.name.Key.TheVariants.{Local}
 use Rattle.mdv_base.specs.declared.name.VolId.{VolId}
 use Rattle.mdv_engine_law.specs.declared.host.Host.{Host}
-use Rattle.mdv_map.specs.Maps.{run_map}
 use Rattle.mdv_name.specs.declared.geometry.Geometry.{Geometry}
 use Rattle.mdv_port.specs.Script.{Script}
 use Rattle.mdv_run_law.specs.Lives.{IsHistoryOf, IsLife, Ran, host_of}
@@ -18,7 +17,6 @@ use Rattle.mdv_shelf.specs.Story.{Story, tale_of}
 use Rattle.mdv_shelf.specs.Tale.{Tale}
 use Rattle.mdv_status.specs.Values.{values_reply}
 use Rattle.mdv_table.specs.Slices.{IsSound}
-use Rattle.mdv_table.specs.Table.{IsPlanOf}
 use Rattle.mdv_table.specs.declared.table.Table.{Table}
 use Rattle.mdv_volumes.specs.History.{Deleted, History, history_after_all}
 use Rattle.mdv_volumes.specs.HistoryLaws.{new_history}
@@ -30,15 +28,17 @@ use Rattle.mdv_theorem.proofs.Contents.{IsToldOf, told_block}
 use Rattle.mdv_theorem.proofs.Ends.{TakeDatabase}
 use Rattle.mdv_theorem.proofs.Given.{Given}
 use Rattle.mdv_theorem.proofs.Later.{IsLasting, Lasts, lasting_on, lines_since, open_has}
-use Rattle.mdv_theorem.proofs.Leaving.{Leaves, Spot, leaves_more, own, site_leaves}
+use Rattle.mdv_theorem.proofs.Leaving.{Leaves, leaves_more, own, site_leaves}
 use Rattle.mdv_theorem.proofs.Left.{AreInto, Gone, LastsAt, gone_lasts, lines_go, lines_here, lines_leave, lines_say}
 use Rattle.mdv_theorem.proofs.Lined.{idle_quiet}
 use Rattle.mdv_theorem.proofs.Leading.{IsIdled}
 use Rattle.mdv_theorem.proofs.Lying.{LiesOn, early_first, lies_at}
 use Rattle.mdv_theorem.proofs.Over.{AllInto, runs_leave}
+use Rattle.mdv_theorem.proofs.Place.{Spot}
 use Rattle.mdv_theorem.proofs.Placed.{Any, Place, lines_place}
+use Rattle.mdv_theorem.proofs.Staying.{its_sound}
 use Rattle.mdv_theorem.proofs.Steps.{Between, known_at}
-use Rattle.mdv_theorem.proofs.Sure.{IsSureAt, open_is, since_last, sure_boot}
+use Rattle.mdv_theorem.proofs.Sure.{IsSureAt, since_last, sure_boot}
 use Rattle.mdv_theorem.proofs.Tables.{Grows}
 
 module _ (drives : Geometry) (name : List ℕ) (before : List Ran) (script : Script) (sound : IsSound drives) (of_table : Contains drives.hosts name) (run : Running drives name before script) (given : Given) (read : Exchange) (here later : List Exchange)
@@ -79,7 +79,7 @@ module _ (drives : Geometry) (name : List ℕ) (before : List Ran) (script : Scr
       (subst (λ (l : List ℕ). exchanges_of script l ≡ here ++ read ∷ later) by.lines.parts parts) tells.told
 
   pub its : IsToldOf host volume number block place.at.kept place.next
-  its = told_block host place.calls place.at.kept place.next read place.answer place.comes place.said place.told volume number block tells
+  its = told_block host (its_sound drives name before script sound of_table run) place.calls place.at.kept place.next place.sure read place.answer place.comes place.said place.told volume number block tells
 
   abbrev pub final : Table
   final = its.o.table
@@ -116,13 +116,8 @@ module _ (drives : Geometry) (name : List ℕ) (before : List Ran) (script : Scr
   pub into : (table : Table) → Lasts drives name table before run.t.tale → TakeDatabase here ⊎ Grows (own drives name).drives table final
   into table lasts = read_grows lasts.held lasts.of table lasts.lasting
 
-  pub plan : IsPlanOf (own drives name).drives final.plan
-  plan =
-      let sure = (to_read run.made (its_start run of_table)).next in
-      (open_is host place.at.kept.memory (history_after_all (start run of_table) sure.come.es) (tale_of sure.story) its.o sure.come.known its.opened).1.of_geometry
-
-  abbrev pub spot : Spot drives name final volume number
-  spot = record { drive = its.drive; first = its.first; count = its.count; within = its.within; plan = plan; lies = its.lies }
+  abbrev pub spot : Spot (own drives name).drives final volume number
+  spot = its.spot
 
   -- where it lies, by a place behind the run's boot
   abbrev at_boot : (sure : IsSureAt host script (start run of_table) run.t.tale booted) × AreIdle host sure.come.es
@@ -134,11 +129,11 @@ module _ (drives : Geometry) (name : List ℕ) (before : List Ran) (script : Scr
   first_idled : IsIdled host (start run of_table) first_at.sure.history
   first_idled = record { es = at_boot.0.come.es; course = at_boot.0.come.course; is = refl; idle = at_boot.1 }
 
-  pub lie : LiesOn drives name before script sound of_table run volume (exchanges_by name before ++ here) (run_map its.drive its.first its.count)
-  lie = lies_at drives name before script sound of_table run volume (its_start run of_table) (early_first drives name before script sound of_table run volume) here first_at (record { kept = place.at.kept; sure = place.sure }) first_idled Any place.upto its.o its.opened plan (run_map its.drive its.first its.count) its.lies
+  pub lie : LiesOn drives name before script sound of_table run volume (exchanges_by name before ++ here) spot.map
+  lie = lies_at drives name before script sound of_table run volume (its_start run of_table) (early_first drives name before script sound of_table run volume) here first_at (record { kept = place.at.kept; sure = place.sure }) first_idled Any place.upto its.o its.opened spot.plan spot.map spot.lies
 
   abbrev pub AreLeft : List Exchange → Tale → Tale → Type 0
-  AreLeft es t u = Leaves volume number its.drive (its.first + number) es t u
+  AreLeft es t u = Leaves volume number spot.at.drive spot.at.block es t u
 
   -- what the boot leaves, and the lines
   by_boot : AreLeft [] run.t.tale (tale_of begun.story)
@@ -169,8 +164,8 @@ module _ (drives : Geometry) (name : List ℕ) (before : List Ran) (script : Scr
           | inr left ↦ elim by_lines [
             | inl away ↦ inl away
             | inr (end, these) ↦
-                let boot = leaves_more volume number its.drive (its.first + number) since [] from run.t.tale (tale_of begun.story) left by_boot in
-                let both = leaves_more volume number its.drive (its.first + number) (since ++ []) lines from (tale_of begun.story) (tale_of end.story) boot these in
+                let boot = leaves_more volume number spot.at.drive spot.at.block since [] from run.t.tale (tale_of begun.story) left by_boot in
+                let both = leaves_more volume number spot.at.drive spot.at.block (since ++ []) lines from (tale_of begun.story) (tale_of end.story) boot these in
                 inr (end, subst (λ (l : List Exchange). AreLeft l from (tale_of end.story)) (λ i. append-nil since i ++ here_is i) both)
           ]
         ]

@@ -103,7 +103,7 @@ module _ (host : Host) (is_host : IsOfTable host) (calm : ℕ → Bool) (calls :
     effect_upheld (AddListed number force) is = absurd is
     effect_upheld (DropPlaces slices force) is = subst IsUpheld (sym is.0) tt
     effect_upheld (command.MakeStripe volume slice) is = subst IsUpheld (sym is.0) tt
-    effect_upheld (Read volume at count) is = subst IsUpheld (sym is.3) tt
+    effect_upheld (Read volume at count) is = subst IsUpheld (sym is.6) tt
     effect_upheld (Write volume at block) is = subst IsUpheld (sym is.3) tt
     effect_upheld (Print names) is = subst IsUpheld (sym is.3) tt
 

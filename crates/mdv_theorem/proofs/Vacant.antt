@@ -17,7 +17,7 @@ use Rattle.mdv_engine_law.specs.Awake.{Happening}
 use Rattle.mdv_engine_law.specs.Hosts.{key_of}
 use Rattle.mdv_engine_law.specs.Line.{Kept, Memory}
 use Rattle.mdv_engine_law.specs.Replies.{IsPlainAnswer, refusal_line, text_of}
-use Rattle.mdv_engine_law.specs.Standing.{AreOwn, BootedTo, IsBare, IsKnown, IsOfRun, MeetsStaleAt, StandsAt, is_up}
+use Rattle.mdv_engine_law.specs.Standing.{AreOwn, BootedTo, IsBare, IsKnown, IsOfRun, MeetsStaleAt, StandsAt, is_steady}
 use Rattle.mdv_engine_law.specs.declared.answer.Answer.{Answer}
 use Rattle.mdv_engine_law.specs.declared.host.Host.{Host}
 use Rattle.mdv_port.specs.Script.{Script, at_end, line, spent, too_long}
@@ -39,7 +39,7 @@ use Rattle.mdv_store_law.specs.Machine.{AreAll}
 use Rattle.mdv_volumes.specs.Events.{Answers, Begins, Flushes, Issues, VolumeEvent, Woke}
 use Rattle.mdv_volumes.specs.Events as lives
 use Rattle.mdv_volumes.specs.Happening.{IsCourse, IsIssue, MayHappen, begins, begun_at, begun_of, deed_of, ends_of, issued_by}
-use Rattle.mdv_volumes.specs.History.{Acknowledges, Boots, Crashes, Created, Creation, Deed, Deleted, Deletes, Event, History, OfDatabase, OfVolume, Reads, Shows, Stops, history_after, history_after_all}
+use Rattle.mdv_volumes.specs.History.{Acknowledges, Boots, Crashes, Created, Creation, Deed, Deleted, Deletes, Event, History, OfDatabase, OfVolume, Reads, Shows, Stops, Unsettles, history_after, history_after_all}
 use Rattle.mdv_volumes.specs.HistoryLaws.{AreWoken, KeepDatabase}
 use Rattle.mdv_volumes.specs.Striking.{IsStruck, struck}
 use Rattle.mdv_volumes.specs.Vacant.{IsVacant}
@@ -149,6 +149,7 @@ module _ (host : Host) where
   no_end h (Shows place key volume at blocks) may none has = never_in (Deleted its_key) has
   no_end h (Deletes place key) may none has = never_in (Deleted its_key) has
   no_end h (Boots key up) may none has = never_in (Deleted its_key) has
+  no_end h (Unsettles key drive) may none has = never_in (Deleted its_key) has
   no_end h Stops may none has = never_in (Deleted its_key) has
   no_end h Crashes may none has = never_in (Deleted its_key) has
 
@@ -205,7 +206,7 @@ module _ (host : Host) where
       is_open = subst (λ (x : Option Opened). IfSome x (λ o. IsOpenIn host.drives o (struck its_key h).databases t)) (sym none) tt;
       free = λ closed clean. struck_is.freed;
       up = known.up;
-      woken = subst (λ (x : Option Opened). IfSome x (λ o. AreWoken host.drives o.table (is_up memory) (struck its_key h) its_key)) (sym none) tt;
+      woken = subst (λ (x : Option Opened). IfSome x (λ o. AreWoken host.drives o.table (is_steady memory) (struck its_key h) its_key)) (sym none) tt;
       knows = known.knows;
     }
 

@@ -9,7 +9,7 @@ use Rattle.mdv_databases.proofs.Lists.{key_is, some_same}
 use Rattle.mdv_volumes.specs.Below.{Geometry, Key}
 use Rattle.mdv_volumes.specs.Databases.{Database, current_of, is_current, same_key, with_event, with_over}
 use Rattle.mdv_volumes.specs.Happening.{IsCourse, MayHappen, begins, begun_at, issued_by}
-use Rattle.mdv_volumes.specs.History.{Acknowledges, Boots, Crashes, Creation, Deleted, Deletes, Event, History, OfDatabase, OfVolume, Reads, Shows, Stops, databases_after, history_after, history_after_all}
+use Rattle.mdv_volumes.specs.History.{Acknowledges, Boots, Crashes, Creation, Deleted, Deletes, Event, History, OfDatabase, OfVolume, Reads, Shows, Stops, Unsettles, databases_after, history_after, history_after_all}
 use Rattle.mdv_volumes.specs.HistoryLaws.{KeepDatabase}
 use Rattle.mdv_volumes.proofs.Ending.{own_begins}
 use Rattle.mdv_volumes.proofs.Lists.{contains_behind, contains_first, first_or_behind}
@@ -55,6 +55,7 @@ module _ (key : Key) where
   step_lives g h (Shows place other volume at blocks) may keep each = each
   step_lives g h (Deletes place other) may keep each = each
   step_lives g h (Boots other up) may keep each = each
+  step_lives g h (Unsettles other drive) may keep each = each
   step_lives g h Stops may keep each = each
   step_lives g h Crashes may keep each = each
 

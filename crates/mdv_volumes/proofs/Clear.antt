@@ -11,7 +11,8 @@ use Rattle.mdv_plan.specs.Slices.{is_other_db, meets_db, overlap, overlap_at, sh
 use Rattle.mdv_shown.proofs.Elsewhere.{in_range}
 use Rattle.mdv_shown.specs.Sites.{is_line_of, is_reached_at, is_slice_of, lines_of, takes_replicas}
 use Rattle.mdv_volumes.proofs.Lists.{in_filter}
-use Rattle.mdv_volumes.specs.Below.{Geometry, HasSlice, IsBeside, IsSound, Key, SliceAt, SliceName, range}
+use Rattle.mdv_layout_law.specs.Laid.{takes_volumes}
+use Rattle.mdv_volumes.specs.Below.{Geometry, HasSlice, IsBeside, IsSound, Key, SliceAt, SliceName, plain_area, range}
 
 -- a slice of a site is one of the table of drives that is set aside for replicas, with which no other one that is shares a block
 pub record IsSetAside (g : Geometry) (line : SliceLine) : Type 0 where
@@ -51,3 +52,12 @@ module _ (g : Geometry) (sound : IsSound g) (name : SliceName) (at : SliceAt) (h
       let y = in_range at.drive.0 at.start at.blocks drive block here in
       let meet : share_a_block line.at at ≡ true = grind (arith, nat_tests, x, y) in
       never_shares line is.has is.db meet
+
+-- so has none of the slices on which volumes may lie
+pub plain_beside : (g : Geometry) → IsSound g → IsBeside g (plain_area g)
+plain_beside g sound key drive block here there =
+    let found = Any-from_list_any (λ (line : SliceLine). takes_volumes g line && range line.at.drive.0 line.at.start line.at.blocks drive block) g.slices here in
+    let line : SliceLine = found.1 in
+    let both = and_parts (takes_volumes g line) (range line.at.drive.0 line.at.start line.at.blocks drive block) found.4 in
+    let takes = and_parts (not line.at.db) (not (meets_db g line.name)) both.0 in
+    lies_beside g sound line.name line.at (found.0, found.2, found.3) (not-true line.at.db takes.0) (not-true (meets_db g line.name) takes.1) key drive block both.1 there

@@ -11,7 +11,7 @@ use Rattle.mdv_databases.proofs.Lists.{key_is}
 use Rattle.mdv_volumes.specs.Below.{Geometry, Key, Log, is_firm}
 use Rattle.mdv_volumes.specs.Databases.{log_of, same_key}
 use Rattle.mdv_volumes.specs.Happening.{IsCourse, begins, begun_at, issued_by}
-use Rattle.mdv_volumes.specs.History.{Acknowledges, Boots, Crashes, Creation, Deed, Deleted, Deletes, Event, History, OfDatabase, OfVolume, Reads, Shows, Stops, history_after_all}
+use Rattle.mdv_volumes.specs.History.{Acknowledges, Boots, Crashes, Creation, Deed, Deleted, Deletes, Event, History, OfDatabase, OfVolume, Reads, Shows, Stops, Unsettles, history_after_all}
 use Rattle.mdv_volumes.specs.HistoryLaws.{HasFirm, KeepDatabase, log_events_at, log_events_of}
 use Rattle.mdv_volumes.proofs.Keys.{databases_live}
 use Rattle.mdv_volumes.proofs.Lists.{all_both, contains_first}
@@ -38,6 +38,7 @@ module _ (key : Key) where
   one_begins (Shows place other volume at blocks) keep = tt
   one_begins (Deletes place other) keep = tt
   one_begins (Boots other up) keep = tt
+  one_begins (Unsettles other drive) keep = tt
   one_begins Stops keep = tt
   one_begins Crashes keep = tt
 

@@ -8,7 +8,7 @@ use Rattle.mdv_databases.proofs.Lists.{events_elsewhere, events_log, key_differs
 use Rattle.mdv_volumes.specs.Below.{Change, Geometry, Identity, Key, Log, VolId, is_firm}
 use Rattle.mdv_volumes.specs.Databases.{Database, current_of, log_in, log_of, same_key, with_creation, with_event}
 use Rattle.mdv_volumes.specs.Happening.{IsCourse, IsOfCurrent, IsOver, MayHappen, ends_of, begun_at, deed_of, issued_by, told_by}
-use Rattle.mdv_volumes.specs.History.{Acknowledges, Boots, Crashes, Creation, Deed, Deletes, Event, History, OfDatabase, OfVolume, Reads, Shows, Stops, databases_after, history_after, history_after_all}
+use Rattle.mdv_volumes.specs.History.{Acknowledges, Boots, Crashes, Creation, Deed, Deletes, Event, History, OfDatabase, OfVolume, Reads, Shows, Stops, Unsettles, databases_after, history_after, history_after_all}
 use Rattle.mdv_volumes.specs.HistoryLaws.{DatabasesLive, database_deeds, log_events_at, log_events_of}
 use Rattle.mdv_volumes.specs.Happening.{begun_of}
 use Rattle.mdv_volumes.specs.Events.{Answers, Begins, Flushes, Issues, VolumeEvent, Woke}
@@ -51,6 +51,7 @@ module _ (key : Key) where
   log_step g h (Shows place other volume at blocks) may = refl
   log_step g h (Deletes place other) may = refl
   log_step g h (Boots other up) may = refl
+  log_step g h (Unsettles other drive) may = refl
   log_step g h Stops may = refl
   log_step g h Crashes may = refl
 
@@ -82,6 +83,7 @@ module _ (key : Key) where
     may_step h (Shows place other volume at blocks) may = tt
     may_step h (Deletes place other) may = tt
     may_step h (Boots other up) may = tt
+    may_step h (Unsettles other drive) may = tt
     may_step h Stops may = tt
     may_step h Crashes may = tt
 
@@ -115,6 +117,7 @@ module _ (key : Key) where
   tells_all (Shows place other volume at blocks ∷ es) = tells_all es
   tells_all (Deletes place other ∷ es) = tells_all es
   tells_all (Boots other up ∷ es) = tells_all es
+  tells_all (Unsettles other drive ∷ es) = tells_all es
   tells_all (Stops ∷ es) = tells_all es
   tells_all (Crashes ∷ es) = tells_all es
 
@@ -161,6 +164,7 @@ module _ (key : Key) where
   begins_all (Shows place other volume at blocks ∷ es) = begins_all es
   begins_all (Deletes place other ∷ es) = begins_all es
   begins_all (Boots other up ∷ es) = begins_all es
+  begins_all (Unsettles other drive ∷ es) = begins_all es
   begins_all (Stops ∷ es) = begins_all es
   begins_all (Crashes ∷ es) = begins_all es
 

@@ -9,7 +9,7 @@ use Rattle.mdv_volumes.specs.Databases.{is_volume, log_of}
 use Rattle.mdv_volumes.specs.Events.{AllGoOn, Answers, Begins, Flushes, GoesOn, Issues, VolumeEvent, Woke}
 use Rattle.mdv_volumes.specs.Events as lives
 use Rattle.mdv_volumes.specs.Happening.{HasRange, IsCourse, IsNamed, IsPlaced, MayHappen}
-use Rattle.mdv_volumes.specs.History.{Acknowledges, Boots, Crashes, Creation, Deletes, Event, History, OfDatabase, OfVolume, Reads, Shows, Stops, events_at, events_of, history_after, history_after_all}
+use Rattle.mdv_volumes.specs.History.{Acknowledges, Boots, Crashes, Creation, Deletes, Event, History, OfDatabase, OfVolume, Reads, Shows, Stops, Unsettles, events_at, events_of, history_after, history_after_all}
 use Rattle.mdv_volumes.specs.HistoryLaws.{HasLogs, KeepDatabase, log_events_of}
 use Rattle.mdv_volumes.specs.Tables.{IsMapOf}
 use Rattle.mdv_volumes.proofs.Databases.{volume_key, volume_number}
@@ -76,6 +76,7 @@ module _ (g : Geometry) (key : Key) (volume : VolId) (b : ℕ) where
   step_goes h (Shows place other beside at blocks) may are = tt
   step_goes h (Deletes place other) may are = tt
   step_goes h (Boots other up) may are = tt
+  step_goes h (Unsettles other drive) may are = tt
   step_goes h Stops may are = tt
   step_goes h Crashes may are = (tt, tt)
 

@@ -1,8 +1,10 @@
 pub mod Lists
+pub mod Drives
 pub mod Logs
 pub mod Standing
 pub mod Runs
 pub mod Clear
+pub mod Maps
 pub mod Tables
 pub mod Databases
 pub mod Owners
@@ -18,6 +20,7 @@ pub mod Transfers
 pub mod Restarts
 pub mod Lifting
 pub mod Telling
+pub mod Copies
 pub mod Waking
 pub mod Lasting
 pub mod Told

@@ -16,7 +16,7 @@ use Rattle.mdv_databases.proofs.Lists.{key_is}
 use Rattle.mdv_volumes.specs.Below.{Change, Geometry, Key, Lists, Log, One, Place, Table, Two, is_firm}
 use Rattle.mdv_volumes.specs.Databases.{log_of, same_key}
 use Rattle.mdv_volumes.specs.Happening.{IsCourse, IsIssue, MayBeFound, issued_by}
-use Rattle.mdv_volumes.specs.History.{Acknowledges, Boots, Changed, Crashes, Created, Creation, Deed, Deleted, Deletes, Event, History, OfDatabase, OfVolume, Reads, Saw, Shows, Stops, Wrote, history_after_all}
+use Rattle.mdv_volumes.specs.History.{Acknowledges, Boots, Changed, Crashes, Created, Creation, Deed, Deleted, Deletes, Event, History, OfDatabase, OfVolume, Reads, Saw, Shows, Stops, Unsettles, Wrote, history_after_all}
 use Rattle.mdv_volumes.specs.HistoryLaws.{AllLists, HasFirm, KeepDatabase, KeepPlaces, ListsStay, TellLists, database_deeds, lists_by, log_events_of}
 use Rattle.mdv_volumes.proofs.Ending.{firm_lasts, none_begins}
 use Rattle.mdv_volumes.proofs.Found.{AllFound, begun_found, kept_all, lasting_at, written_found}
@@ -235,5 +235,6 @@ module _ (Which Any : Issue → Type 0) (also : (change : Change) → Which (log
   issues_ask key (Shows place other volume at blocks ∷ es) are = issues_ask key es are.1
   issues_ask key (Deletes place other ∷ es) are = issues_ask key es are.1
   issues_ask key (Boots other up ∷ es) are = issues_ask key es are.1
+  issues_ask key (Unsettles other drive ∷ es) are = issues_ask key es are.1
   issues_ask key (Stops ∷ es) are = absurd are.0
   issues_ask key (Crashes ∷ es) are = absurd are.0

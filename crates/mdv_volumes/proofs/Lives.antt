@@ -6,7 +6,7 @@ use Rattle.mdv_volumes.specs.Below.{Geometry, Key, VolId}
 use Rattle.mdv_volumes.specs.Databases.{is_volume}
 use Rattle.mdv_volumes.specs.Events as lives
 use Rattle.mdv_volumes.specs.Happening.{IsCourse, MayHappen}
-use Rattle.mdv_volumes.specs.History.{Deletes, Event, Creation, OfDatabase, OfVolume, Reads, Acknowledges, Shows, Boots, Stops, Crashes, History, events_at, events_of, history_after, history_after_all}
+use Rattle.mdv_volumes.specs.History.{Deletes, Event, Creation, OfDatabase, OfVolume, Reads, Acknowledges, Shows, Boots, Unsettles, Stops, Crashes, History, events_at, events_of, history_after, history_after_all}
 use Rattle.mdv_volumes.specs.HistoryLaws.{VolumesLive}
 use Rattle.mdv_volumes.proofs.Databases.{volume_key, volume_number}
 
@@ -31,6 +31,7 @@ module _ (key : Key) (volume : VolId) where
   one_may g h (Shows place other beside at blocks) may = tt
   one_may g h (Deletes place other) may = tt
   one_may g h (Boots other up) may = tt
+  one_may g h (Unsettles other drive) may = tt
   one_may g h Stops may = tt
   one_may g h Crashes may = (tt, tt)
 

@@ -12,17 +12,19 @@ use Rattle.mdv_volumes.proofs.Tables.{tables_lie}
 
 module _ (g : Geometry) (table : Table) where
   map_settled : (volume : VolId) (v : Map) → IsMapOf g table volume v → IsMapOf g (settled table) volume v
-  map_settled volume v map = record { of = map.of; has = map.has; kind = map.kind }
+  map_settled volume v map = map
 
   settled_map : (volume : VolId) (v : Map) → IsMapOf g (settled table) volume v → IsMapOf g table volume v
-  settled_map volume v map = record { of = map.of; has = map.has; kind = map.kind }
+  settled_map volume v map = map
 
   laid_settled : AreLaid g table → AreLaid g (settled table)
   laid_settled is = record {
-    one = λ volume v w map other. is.one volume v w (settled_map volume v map) (settled_map volume w other);
     disjoint = λ volume v map. is.disjoint volume v (settled_map volume v map);
     apart = λ volume beside v w differ map other. is.apart volume beside v w differ (settled_map volume v map) (settled_map beside w other);
     clear = λ volume v map. is.clear volume v (settled_map volume v map);
+    plain = λ volume v map. is.plain volume v (settled_map volume v map);
+    one = λ volume v map. is.one volume v (settled_map volume v map);
+    bounded = λ volume v map. is.bounded volume v (settled_map volume v map);
   }
 
   -- a boot may find it as well
@@ -44,7 +46,7 @@ map_was g old next volume v (inr over) map = settled_map g old volume v (subst (
 
 -- places that come and go leave the volumes
 map_moved : (g : Geometry) (change : Change) (old next : Table) (volume : VolId) (v : Map) → next ≡ moved change old → IsMapOf g old volume v → IsMapOf g next volume v
-map_moved g change old next volume v made map = subst (λ (table : Table). IsMapOf g table volume v) (sym made) (record { of = map.of; has = map.has; kind = map.kind })
+map_moved g change old next volume v made map = subst (λ (table : Table). IsMapOf g table volume v) (sym made) map
 
 -- a volume stays where it lies
 pub map_stays : (g : Geometry) (volume : VolId) (v : Map) (asked : Option Change) (old next : Table) → IsMade g asked old next → IsMapOf g old volume v → IsMapOf g next volume v

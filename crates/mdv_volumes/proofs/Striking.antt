@@ -10,7 +10,7 @@ use Rattle.mdv_volumes.specs.Below.{Geometry, Identity, Key, Map, Version, VolId
 use Rattle.mdv_volumes.specs.Databases.{Database, current_of, log_in, log_of, with_over}
 use Rattle.mdv_volumes.specs.Happening.{IsCourse, IsNamed, MayBeFound, MayHappen, begins, issued_by}
 use Rattle.mdv_volumes.specs.Histories.{Stands}
-use Rattle.mdv_volumes.specs.History.{Acknowledges, Boots, Crashes, Created, Creation, Deletes, Event, History, OfDatabase, OfVolume, Reads, Shows, Stops, databases_after, history_after, history_after_all}
+use Rattle.mdv_volumes.specs.History.{Acknowledges, Boots, Crashes, Created, Creation, Deletes, Event, History, OfDatabase, OfVolume, Reads, Shows, Stops, Unsettles, databases_after, history_after, history_after_all}
 use Rattle.mdv_volumes.specs.Striking.{IsStruck, StrikesGo, struck}
 use Rattle.mdv_volumes.proofs.Databases.{is_log_of}
 use Rattle.mdv_volumes.proofs.Found.{none_found}
@@ -77,6 +77,7 @@ module _ (g : Geometry) (key : Key) where
   stays_one h (Shows place other volume at blocks) may none never = none
   stays_one h (Deletes place other) may none never = none
   stays_one h (Boots other up) may none never = none
+  stays_one h (Unsettles other drive) may none never = none
   stays_one h Stops may none never = none
   stays_one h Crashes may none never = none
 

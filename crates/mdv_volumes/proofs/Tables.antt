@@ -1,33 +1,34 @@
 -- Where the volumes of a table of the geometry lie.
-use Rattle.std.proofs.Common.{◌≡◌, ◌⊎◌, inl, inr, ⊎_elim, Bool, true, nat_lt, if◌then◌else◌, ℕ, ◌+◌, ◌<◌, false, List, [], ◌∷◌, ◌++◌, length, get_or, map, Contains, Option, Some, None, refl, sym, ◌∙◌, ap, subst, arith}
+use Rattle.std.proofs.Common.{◌≡◌, ◌⊎◌, inl, inr, Bool, true, false, not, ℕ, ◌^◌, ◌<◌, ◌&&◌, ◌||◌, ◌==◌, ◌++◌, List, [], ◌∷◌, length, get_or, map, Contains, Option, Some, None, refl, sym, ◌∙◌, ap, subst, arith}
+use Rattle.std.specs.Option.{is_none}
 use Rattle.std.specs.Prelude.{AllPairs}
-use Rattle.std.proofs.lemmas.Bool.{cases_lt}
+use Rattle.std.proofs.lemmas.Bool.{and_from, cases_lt, not_from_false}
 use Rattle.std.proofs.lemmas.List.{get_or-map, get_or_default, length-map}
 use Rattle.std.proofs.lemmas.List.Concat.{flat_map-cons}
-use Rattle.std.proofs.lemmas.List.Elements.{All-contains, All-contains_itself}
-use Rattle.std.proofs.lemmas.Option.{none-some}
+use Rattle.std.proofs.lemmas.List.Elements.{All-contains}
+use Rattle.std.proofs.lemmas.List.Folds.{list_any_at}
+use Rattle.std.proofs.lemmas.Option.{same_Some}
 use Rattle.mdv_base.specs.declared.drive.DriveNo.{DriveNo}
+use Rattle.mdv_dev.specs.OneCopy.{run_one}
+use Rattle.mdv_layout_law.specs.Laid.{plain_area, takes_volumes}
 use Rattle.mdv_map.proofs.Combining.{in_run, run_disjoint}
 use Rattle.mdv_map.proofs.Covering.{runs_lie}
+use Rattle.mdv_shelf.proofs.Blocks.{both_ways}
 use Rattle.mdv_table.specs.Below.{meets_db}
-use Rattle.mdv_table.specs.Plan.{component_slices}
+use Rattle.mdv_table.specs.Plan.{component_slices, is_in_use, used_slices}
 use Rattle.mdv_table.specs.Slices.{HasBlock, Overlaps}
 use Rattle.mdv_table.specs.Table.{IsComponentOn, IsKindOf}
-use Rattle.mdv_table.specs.Volume.{base_slices, kind_slices, volume_slices}
-use Rattle.mdv_table.specs.Change.{blocks_at}
-use Rattle.mdv_table.specs.Volume.{stripe_on}
-use Rattle.mdv_table.specs.Volumes.{with_volume}
-use Rattle.mdv_table.specs.declared.plan.Plan.{Plan}
+use Rattle.mdv_table.specs.Volume.{base_slices, kind_slices, stripe_on, volume_slices}
+use Rattle.mdv_table.specs.Change.{blocks_at, is_db, refusal_of}
+use Rattle.mdv_table.specs.Volumes.{has_volume}
 use Rattle.mdv_table.proofs.Apart.{volume_slice}
-use Rattle.mdv_table.proofs.Ascending.{All-with}
-use Rattle.mdv_table.proofs.Causes.{name_taken, no_slice}
-use Rattle.mdv_name.specs.SliceIndex.{slice_at}
-use Rattle.mdv_name.proofs.Finding.{slice_at-none, slice_at-some}
-use Rattle.mdv_base.specs.declared.refusal.Refusal.TheVariants.{NameTaken, NoSuchSlice}
-use Rattle.mdv_volumes.specs.Below.{AreApart, AreDisjoint, Base, Component, Geometry, HasSlice, HasVolume, IsDisjoint, IsAfter, IsOfGeometry, IsSound, MakeStripe, Map, Slice, SliceAt, SliceName, Stripe, Table, VolId, Volume, VolumeKind, area_of_map, run_map, site_area, site_of}
+use Rattle.mdv_table.proofs.Causes.{first_is_told, told}
+use Rattle.mdv_name.specs.declared.slice_lines.SliceLine.{SliceLine}
+use Rattle.mdv_name.proofs.Finding.{slice_at-some}
+use Rattle.mdv_volumes.specs.Below.{AreApart, AreDisjoint, Base, Component, Geometry, HasDriveBlock, HasSlice, HasVolume, IsAfter, IsDisjoint, IsOfGeometry, IsOneCopy, IsSound, MakeStripe, Map, Plan, Slice, SliceAt, SliceName, Stripe, Table, VolId, Volume, VolumeKind, area_of_map, at_map, range, run_map, site_area, site_of, slice_at}
 use Rattle.mdv_volumes.proofs.Clear.{lies_beside}
-use Rattle.mdv_volumes.proofs.Lists.{contains_behind, contains_first, first_or_behind}
-use Rattle.mdv_volumes.specs.Tables.{AreLaid, IsBaseMap, IsClear, IsKindMap, IsMapOf, TablesLie}
+use Rattle.mdv_volumes.proofs.Maps.{in_area, found_as, found_has, has_new, kind_some, none_found, number_is, others_found, some_found}
+use Rattle.mdv_volumes.specs.Tables.{AreLaid, IsClear, IsMapOf, TablesLie, base_map, kind_map, map_at, volume_of}
 
 -- a volume lies on all blocks of one slice
 record OnSlice (g : Geometry) (of : Volume) (v : Map) : Type 0 where
@@ -81,57 +82,39 @@ stands xs a b one other = elim (cases_lt one.0 other.0) [
 ]
 
 module _ (g : Geometry) (sound : IsSound g) where
-  on_base : (c : Component) (base : Base) (v : Map) → IsComponentOn g c base → IsBaseMap g c base v → OnBase g base v
-  on_base c (Slice slice) v on lies =
-      let same : on.at ≡ lies.0 = sound.once slice on.at lies.0 on.has lies.1 in
-      record {
-        slice = slice;
-        at = lies.0;
-        has = lies.1;
-        plain = subst (λ (a : SliceAt). a.db ≡ false) same on.whole.plain;
-        clear = on.clear;
-        is = refl;
-        map = lies.2 ∙ ap (λ (first : ℕ). run_map lies.0.drive.0 first c.blocks) (let start = on.whole.start in omega arith)
-            ∙ ap (λ (n : ℕ). run_map lies.0.drive.0 lies.0.start n) (on.whole.blocks ∙ ap (λ (a : SliceAt). a.blocks) same);
-      }
+  on_base : (c : Component) (base : Base) → IsComponentOn g c base → OnBase g base (base_map g c base)
+  on_base c (Slice slice) on = record {
+    slice = slice;
+    at = on.at;
+    has = on.has;
+    plain = on.whole.plain;
+    clear = on.clear;
+    is = refl;
+    map = ap (λ (o : Option SliceAt). at_map o c.start c.blocks) ((slice_at-some g slice on.at sound).1 on.has)
+        ∙ ap (λ (first : ℕ). run_map on.at.drive.0 first c.blocks) (let start = on.whole.start in omega arith)
+        ∙ ap (λ (n : ℕ). run_map on.at.drive.0 on.at.start n) on.whole.blocks;
+  }
 
-  of_kind : (of : Volume) (kind : VolumeKind) (v : Map) → of.kind ≡ kind → IsKindOf g kind → IsKindMap g kind v → OnSlice g of v
-  of_kind of (Stripe s) v is kind lies =
-      let found = on_base s.component s.component.on v kind.component lies in
-      record { slice = found.slice; at = found.at; has = found.has; plain = found.plain; clear = found.clear; lists = ap kind_slices is ∙ found.is; map = found.map }
+  of_kind : (of : Volume) (kind : VolumeKind) (v : Map) → of.kind ≡ kind → IsKindOf g kind → kind_map g kind ≡ Some v → OnSlice g of v
+  of_kind of (Stripe s) v is kind map =
+      let found = on_base s.component s.component.on kind.component in
+      let same : base_map g s.component s.component.on ≡ v = same_Some (base_map g s.component s.component.on) v map in
+      record { slice = found.slice; at = found.at; has = found.has; plain = found.plain; clear = found.clear; lists = ap kind_slices is ∙ found.is; map = sym same ∙ found.map }
 
   module _ (table : Table) (is : IsOfGeometry g table) where
     abbrev volumes : List Volume
     volumes = table.plan.volumes
 
-    on_slice : (volume : VolId) (v : Map) (lies : IsMapOf g table volume v) → OnSlice g lies.of v
-    on_slice volume v lies = of_kind lies.of lies.of.kind v refl (All-contains (λ (w : Volume). IsKindOf g w.kind) volumes lies.of is.kinds lies.has.0) lies.kind
+    record Lies (volume : VolId) (v : Map) : Type 0 where
+      of : Volume
+      has : HasVolume volumes volume of
+      on : OnSlice g of v
 
-    rising : (i j : ℕ) (a b : Volume) → i < j → j < length volumes → get_or volumes i a ≡ a → get_or volumes j b ≡ b → a.number.0 < b.number.0
-    rising i j a b lt within is_a is_b =
-        let less = is.numbers.ascending i j a lt within in
-        let second = get_or_default volumes j a b within ∙ is_b in rw (sym is_a, sym second) less
-
-    -- a number stands for one volume
-    same_of : (volume : VolId) (a b : Volume) → HasVolume volumes volume a → HasVolume volumes volume b → a ≡ b
-    same_of volume a b one other = elim (stands volumes a b one.0 other.0) [
-      | same is ↦ is
-      | before i j lt within is_a is_b ↦ absurd (below a b (rising i j a b lt within is_a is_b) (one.1 ∙ sym other.1))
-      | behind i j lt within is_b is_a ↦ absurd (below b a (rising i j b a lt within is_b is_a) (other.1 ∙ sym one.1))
-    ]
-      where
-        below : (x y : Volume) → x.number.0 < y.number.0 → x.number ≡ y.number → ⊥
-        below x y lt is_same = let number = ap (λ (n : VolId). n.0) is_same in omega (arith, lt, number)
-
-    one_map : (volume : VolId) (v w : Map) → IsMapOf g table volume v → IsMapOf g table volume w → v ≡ w
-    one_map volume v w lies other =
-        let a = on_slice volume v lies in
-        let b = on_slice volume w other in
-        let same = same_of volume lies.of other.of lies.has other.has in
-        let slices : a.slice ∷ [] ≡ b.slice ∷ [] = sym a.lists ∙ ap volume_slices same ∙ b.lists in
-        let slice : a.slice ≡ b.slice = cc slices in
-        let at : a.at ≡ b.at = sound.once b.slice a.at b.at (subst (λ (n : SliceName). HasSlice g.slices n a.at) slice a.has) b.has in
-        a.map ∙ ap (λ (x : SliceAt). run_map x.drive.0 x.start x.blocks) at ∙ sym b.map
+    lies : (volume : VolId) (v : Map) → IsMapOf g table volume v → Lies volume v
+    lies volume v map =
+        let found = found_as g table volume v map in
+        let has = found_has table.plan volume found.of found.found in
+        record { of = found.of; has = has; on = of_kind found.of found.of.kind v refl (All-contains (λ (w : Volume). IsKindOf g w.kind) volumes found.of is.kinds has.0) found.kind }
 
     -- two volumes lie on slices that don't overlap
     never_over : (a b : Volume) (m n : SliceName) → Contains volumes a → Contains volumes b → (a ≡ b → ⊥) → volume_slices a ≡ m ∷ [] → volume_slices b ≡ n ∷ [] → (Overlaps g.slices m n → ⊥) ⊎ (Overlaps g.slices n m → ⊥)
@@ -162,80 +145,100 @@ module _ (g : Geometry) (sound : IsSound g) where
         same_drive c d is = ap (λ (n : ℕ). record { 0 = n }) is
 
     apart_maps : (volume other : VolId) (v w : Map) → (volume ≡ other → ⊥) → IsMapOf g table volume v → IsMapOf g table other w → AreDisjoint v w
-    apart_maps volume other v w differ lies beside =
-        let a = on_slice volume v lies in
-        let b = on_slice other w beside in
-        let away = never_over lies.of beside.of a.slice b.slice lies.has.0 beside.has.0 (λ same. differ (sym lies.has.1 ∙ ap (λ (x : Volume). x.number) same ∙ beside.has.1)) a.lists b.lists in
+    apart_maps volume other v w differ map beside =
+        let one = lies volume v map in
+        let two = lies other w beside in
+        let a = one.on in
+        let b = two.on in
+        let away = never_over one.of two.of a.slice b.slice one.has.0 two.has.0 (λ same. differ (sym one.has.1 ∙ ap (λ (x : Volume). x.number) same ∙ two.has.1)) a.lists b.lists in
         subst (λ (x : Map). AreDisjoint x w) (sym a.map) (subst (λ (y : Map). AreDisjoint (run_map a.at.drive.0 a.at.start a.at.blocks) y) (sym b.map) (never_shared a.slice b.slice a.at b.at a.has b.has away))
 
     clear_map : (volume : VolId) (v : Map) → IsMapOf g table volume v → IsClear g v
-    clear_map volume v lies key =
-        let a = on_slice volume v lies in
+    clear_map volume v map key =
+        let a = (lies volume v map).on in
         subst (λ (x : Map). AreApart (area_of_map x) (site_area (site_of g key))) (sym a.map) (λ drive block here there.
         lies_beside g sound a.slice a.at a.has a.plain a.clear key drive block (sym (runs_lie.area a.at.drive.0 a.at.start a.at.blocks drive block) ∙ here) there)
 
+    -- a block of its slice is one of those that volumes may lie on
+    plain_map : (volume : VolId) (v : Map) → IsMapOf g table volume v → (drive block : ℕ) → area_of_map v drive block ≡ true → plain_area g drive block ≡ true
+    plain_map volume v map drive block here =
+        let a = (lies volume v map).on in
+        let line : SliceLine = record { name = a.slice; at = a.at } in
+        let test = λ (l : SliceLine). takes_volumes g l && range l.at.drive.0 l.at.start l.at.blocks drive block in
+        let takes = and_from (not a.at.db) (not (meets_db g a.slice)) (not_from_false a.at.db a.plain) (not_from_false (meets_db g a.slice) a.clear) in
+        let inside = sym (runs_lie.area a.at.drive.0 a.at.start a.at.blocks drive block) ∙ subst (λ (x : Map). area_of_map x drive block ≡ true) a.map here in
+        list_any_at test g.slices a.has.0 line a.has.1 (ap test a.has.2 ∙ and_from (takes_volumes g line) (range a.at.drive.0 a.at.start a.at.blocks drive block) takes inside)
+
+    short_map : (volume : VolId) (v : Map) → IsMapOf g table volume v → v.blocks < 2 ^ 63
+    short_map volume v map =
+        let a = (lies volume v map).on in
+        let within = (sound.each a.slice a.at a.has).within in
+        subst (λ (x : Map). x.blocks < 2 ^ 63) (sym a.map) (omega arith)
+
     laid : AreLaid g table
     laid = record {
-      one = one_map;
-      disjoint = λ volume v lies. let a = on_slice volume v lies in subst IsDisjoint (sym a.map) (run_disjoint a.at.drive.0 a.at.start a.at.blocks);
+      disjoint = λ volume v map. let a = (lies volume v map).on in subst IsDisjoint (sym a.map) (run_disjoint a.at.drive.0 a.at.start a.at.blocks);
       apart = apart_maps;
       clear = clear_map;
+      plain = plain_map;
+      one = λ volume v map. let a = (lies volume v map).on in subst IsOneCopy (sym a.map) (run_one a.at.drive.0 a.at.start a.at.blocks);
+      bounded = short_map;
     }
 
--- the maps of a component of the geometry, and of a volume
-some_base : (g : Geometry) (c : Component) (base : Base) → IsComponentOn g c base → (v : Map) × IsBaseMap g c base v
-some_base g c (Slice slice) on = (run_map on.at.drive.0 (on.at.start + c.start) c.blocks, (on.at, on.has, refl))
+-- the blocks of a volume are some that volumes may lie on
+pub blocks_plain : (g : Geometry) (table : Table) → AreLaid g table → (volume : VolId) (v : Map) → IsMapOf g table volume v → (b drive block : ℕ) → b < v.blocks → HasDriveBlock (v.places b) drive block → plain_area g drive block ≡ true
+blocks_plain g table laid volume v map b drive block lt has = laid.plain volume v map drive block (in_area v b drive block lt has)
 
-some_kind : (g : Geometry) (kind : VolumeKind) → IsKindOf g kind → (v : Map) × IsKindMap g kind v
-some_kind g (Stripe s) kind = some_base g s.component s.component.on kind.component
+-- each volume of a list has a map
+has_map : (g : Geometry) (table : Table) (of : Volume) → Contains table.plan.volumes of → (v : Map) × IsMapOf g table of.number v
+has_map g table of has =
+    let found = some_found table.plan.volumes of has in
+    let kind = kind_some g found.0.kind in (kind.0, ap (map_at g) found.1 ∙ kind.1)
 
 module _ (g : Geometry) (old next : Table) (volume : VolId) (slice : SliceName) (after : IsAfter g (MakeStripe volume slice) old.plan next.plan) where
-  never_taken : (o : Option SliceAt) → slice_at g.slices slice ≡ o → IsSound g → (of : Volume) → HasVolume old.plan.volumes volume of → ⊥
-  never_taken None is sound of has = none-some NoSuchSlice (sym after.0 ∙ no_slice g sound old.plan volume slice ((slice_at-none g.slices slice).0 is))
-  never_taken (Some at) is sound of has = none-some NameTaken (sym after.0 ∙ name_taken g sound old.plan volume slice at ((slice_at-some g slice at sound).0 is) of has)
+  refused : refusal_of g old.plan (MakeStripe volume slice)
+      ≡ told (is_none (slice_at g.slices slice)) (has_volume old.plan.volumes volume) (is_db (slice_at g.slices slice)) (is_in_use g.slices (used_slices old.plan) slice || meets_db g slice)
+  unfolding refusal_of
+  refused = first_is_told (is_none (slice_at g.slices slice)) (has_volume old.plan.volumes volume) (is_db (slice_at g.slices slice)) (is_in_use g.slices (used_slices old.plan) slice || meets_db g slice)
+
+  untaken : (absent taken db used : Bool) → told absent taken db used ≡ None → taken ≡ false
+  untaken true true db used none = cc none
+  untaken false true db used none = cc none
+  untaken absent false db used none = refl
+
+  -- the table before had no such volume
+  never_taken : (v : Map) → IsMapOf g old volume v → ⊥
+  never_taken v map =
+      let free = untaken (is_none (slice_at g.slices slice)) (has_volume old.plan.volumes volume) (is_db (slice_at g.slices slice)) (is_in_use g.slices (used_slices old.plan) slice || meets_db g slice) (sym refused ∙ after.0) in
+      let found = found_as g old volume v map in none_found old.plan.volumes volume found.of free found.found
 
   abbrev stripe : Volume
   stripe = stripe_on volume slice (blocks_at (slice_at g.slices slice))
 
-  is_old : (of : Volume) → Contains (with_volume stripe old.plan.volumes) of → (of ≡ stripe) ⊎ Contains old.plan.volumes of
-  is_old of has = All-contains (λ (x : Volume). (x ≡ stripe) ⊎ Contains old.plan.volumes x) (with_volume stripe old.plan.volumes) of
-      (All-with (λ (x : Volume). (x ≡ stripe) ⊎ Contains old.plan.volumes x) stripe old.plan.volumes (inl refl) (λ k d lt. inr (All-contains_itself old.plan.volumes k d lt))) has
+  others_stay : (other : VolId) → volume.0 == other.0 ≡ false → volume_of next.plan other ≡ volume_of old.plan other
+  others_stay other differs = ap (λ (p : Plan). volume_of p other) after.1 ∙ others_found stripe old.plan.volumes other differs
 
-  of_old : (other : VolId) (v : Map) → IsMapOf g next other v → IsMapOf g old other v ⊎ (other ≡ volume)
-  of_old other v map = elim (is_old map.of (subst (λ (p : Plan). Contains p.volumes map.of) after.1 map.has.0)) [
-    | inl new ↦ inr (sym map.has.1 ∙ ap (λ (x : Volume). x.number) new)
-    | inr old_one ↦ inl (record { of = map.of; has = (old_one, map.has.1); kind = map.kind })
+  made_or_old : (other : VolId) (v : Map) → IsMapOf g next other v → IsMapOf g old other v ⊎ (other ≡ volume)
+  made_or_old other v map = elim (both_ways (volume.0 == other.0)) [
+    | inl does ↦ inr (sym (number_is volume other does))
+    | inr never ↦ inl (ap (map_at g) (sym (others_stay other never)) ∙ map)
   ]
 
-  still_has : (vs : List Volume) (of : Volume) → Contains vs of → Contains (with_volume stripe vs) of
-  still_has [] of has = absurd (omega (arith, has.1))
-  still_has (w ∷ ws) of has = by (λ behind. still_has ws of behind) (nat_lt stripe.number.0 w.number.0) where
-    by : (Contains ws of → Contains (with_volume stripe ws) of) → (lt : Bool) → Contains (if lt then stripe ∷ w ∷ ws else w ∷ with_volume stripe ws) of
-    by rest true = contains_behind stripe of (w ∷ ws) has
-    by rest false = ⊎_elim (λ here. subst (λ (x : Volume). Contains (w ∷ with_volume stripe ws) x) here (contains_first w (with_volume stripe ws))) (λ behind. contains_behind w of (with_volume stripe ws) (rest behind)) (first_or_behind w of ws has)
+  old_stays : (other : VolId) (v : Map) → IsMapOf g old other v → IsMapOf g next other v
+  old_stays other v map = elim (both_ways (volume.0 == other.0)) [
+    | inl does ↦ absurd (never_taken v (subst (λ (n : VolId). IsMapOf g old n v) (sym (number_is volume other does)) map))
+    | inr never ↦ ap (map_at g) (others_stay other never) ∙ map
+  ]
 
-  has_new : (vs : List Volume) → Contains (with_volume stripe vs) stripe
-  has_new [] = contains_first stripe []
-  has_new (w ∷ ws) = by (has_new ws) (nat_lt stripe.number.0 w.number.0) where
-    by : Contains (with_volume stripe ws) stripe → (lt : Bool) → Contains (if lt then stripe ∷ w ∷ ws else w ∷ with_volume stripe ws) stripe
-    by rest true = contains_first stripe (w ∷ ws)
-    by rest false = contains_behind w stripe (with_volume stripe ws) rest
-
-  new_lies : IsOfGeometry g next → (v : Map) × IsMapOf g next volume v
-  new_lies is =
-      let has = subst (λ (p : Plan). Contains p.volumes stripe) (sym after.1) (has_new old.plan.volumes) in
-      let found = some_kind g stripe.kind (All-contains (λ (w : Volume). IsKindOf g w.kind) next.plan.volumes stripe is.kinds has) in
-      (found.0, record { of = stripe; has = (has, refl); kind = found.1 })
-
-  of_next : (other : VolId) (v : Map) → IsMapOf g old other v → IsMapOf g next other v
-  of_next other v map = record { of = map.of; has = (subst (λ (p : Plan). Contains p.volumes map.of) (sym after.1) (still_has old.plan.volumes map.of map.has.0), map.has.1); kind = map.kind }
+  new_lies : (v : Map) × IsMapOf g next volume v
+  new_lies = has_map g next stripe (subst (λ (p : Plan). Contains p.volumes stripe) (sym after.1) (has_new stripe old.plan.volumes))
 
 pub tables_lie : TablesLie
 tables_lie = record {
   laid = λ g table sound is. laid g sound table is;
-  some = λ g table of is has. let found = some_kind g of.kind (All-contains (λ (w : Volume). IsKindOf g w.kind) table.plan.volumes of is.kinds has) in (found.0, record { of = of; has = (has, refl); kind = found.1 });
-  new = λ g old next volume slice v sound after map. never_taken g old next volume slice after (slice_at g.slices slice) refl sound map.of map.has;
-  lies = λ g old next volume slice after is. new_lies g old next volume slice after is;
-  made = λ g old next volume slice other v after map. of_old g old next volume slice after other v map;
-  stays = λ g old next volume slice other v after map. of_next g old next volume slice after other v map;
+  some = λ g table of is has. has_map g table of has;
+  new = λ g old next volume slice v sound after map. never_taken g old next volume slice after v map;
+  lies = λ g old next volume slice after is. new_lies g old next volume slice after;
+  made = λ g old next volume slice other v after map. made_or_old g old next volume slice after other v map;
+  stays = λ g old next volume slice other v after map. old_stays g old next volume slice after other v map;
 }

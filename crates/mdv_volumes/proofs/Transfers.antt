@@ -2,15 +2,15 @@
 use Rattle.std.proofs.Common.{◌≡◌, ◌+◌, ◌<◌, ℕ, true, false, List, [], ◌∷◌, ◌++◌, filter, length, slice_index_or, Contains, refl, sym, ◌∙◌, ap, subst, arith}
 use Rattle.std.proofs.lemmas.Bool.Decides.{nat_tests}
 use Rattle.mdv_map.proofs.Covering.{areas_cover}
-use Rattle.mdv_map.proofs.Following.{answers_follow, flushes_follow, issues_follow}
+use Rattle.mdv_map.proofs.Following.{answers_follow, copies_follow, flushes_follow, issues_follow}
 use Rattle.mdv_databases.proofs.Lasting.{stand_elsewhere}
-use Rattle.mdv_volumes.specs.Below.{AllOnDisk, AllRead, AreLastIssued, Follows, Geometry, IsDisjoint, Key, Map, Rewriting, Stand, Tale, VolId, VolumeLog, area_of_map, is_among, only}
+use Rattle.mdv_volumes.specs.Below.{AllOnDisk, AllRead, Among, AreLastIssued, BlockLog, DriveNo, Follows, Geometry, HasDriveBlock, IsDisjoint, Key, Map, Rewriting, Stand, Tale, VolId, VolumeLog, area_of_map, is_among, last, only}
 use Rattle.mdv_volumes.specs.Databases.{is_volume}
 use Rattle.mdv_volumes.specs.Events.{Answers, Flushes, Issues, VolumeEvent}
 use Rattle.mdv_volumes.specs.Events as lives
 use Rattle.mdv_volumes.specs.Happening.{HasRange, HaveOnly, IsNamed}
 use Rattle.mdv_volumes.specs.Histories.{Happens, Stands}
-use Rattle.mdv_volumes.specs.History.{Wrote, OfVolume, History, events_of, history_after, is_within}
+use Rattle.mdv_volumes.specs.History.{Wrote, OfVolume, Unsettles, History, events_of, history_after, is_within}
 use Rattle.mdv_volumes.specs.HistoryLaws.{IsWritten, ReadsGo, WritesGo}
 use Rattle.mdv_volumes.specs.Tables.{AreLaid}
 use Rattle.mdv_volumes.proofs.Databases.{volume_itself}
@@ -18,6 +18,10 @@ use Rattle.mdv_volumes.proofs.Lives.{volumes_live}
 use Rattle.mdv_volumes.proofs.Logs.{writes_last}
 use Rattle.mdv_volumes.proofs.Standing.{frames_stand, reads_stand, writes_stand}
 use Rattle.mdv_volumes.proofs.Volumes.{after_own, other_map, same_map, stands_after, there_found, there_named}
+
+more_than_one : (ys : List (List ℕ)) (y x z : List ℕ) → y ∷ ys ≡ x ∷ [] → Among ys z → ⊥
+more_than_one [] y x z same none = none
+more_than_one (w ∷ ws) y x z same among = cc same
 
 module _ (g : Geometry) (h : History) (key : Key) (volume : VolId) (at : ℕ) (blocks : List (List ℕ)) (t : Tale) (range : HasRange g h.databases key volume at (length blocks)) (stands : Stands g h t) where
   laid : AreLaid g range.there.newest.table
@@ -49,6 +53,27 @@ module _ (g : Geometry) (h : History) (key : Key) (volume : VolId) (at : ℕ) (b
         (λ w named. subst (λ (x : Map). Follows x (lives.log_after (h.volumes key volume) (Issues at blocks)) m) (sym (same_map g h t stands key volume range.map range.there w named))
         (writes_stand.issued range.map at blocks (h.volumes key volume) t m one range.within rewriting follows).follows) (others_stay m rewriting);
   }
+
+  -- then a block of theirs that has a copy isn't one value: a read gave another before, or the same
+  torn_at : (k drive block : ℕ) → k < length blocks → HasDriveBlock (range.map.copies (at + k)) drive block → (x : List ℕ) → (history_after h (OfVolume key volume (Issues at blocks))).volumes key volume (at + k) ≡ only x → ⊥
+  torn_at k drive block lt has x is =
+      let within = range.within in
+      let old = (copies_follow.each range.map (h.volumes key volume) t follows).reads (at + k) drive block (omega (arith, within, lt)) has in
+      let new = issues_follow.reads at blocks (h.volumes key volume) k lt in
+      let own = ap (λ (l : VolumeLog). (l (at + k)).reads) (after_own g h key volume (Issues at blocks) t t stands) in
+      more_than_one (h.volumes key volume (at + k)).reads (slice_index_or blocks k []) x (last t drive block) (sym new ∙ sym own ∙ ap (λ (l : BlockLog). l.reads) is) old
+
+  pub torn_goes : (m : Tale) (drive : DriveNo) (k block : ℕ) → Rewriting range.map at blocks t m → k < length blocks → HasDriveBlock (range.map.copies (at + k)) drive.0 block
+      → Happens g h (OfVolume key volume (Issues at blocks) ∷ Unsettles key drive ∷ []) (Wrote key volume at blocks ∷ []) [] m
+  torn_goes m drive k block rewriting lt has =
+      let issued = issued_goes m rewriting in
+      let within = range.within in
+      record {
+        course = (issued.course.0, (record { volume = volume; map = range.map; there = range.there; number = at + k; below = omega (arith, within, lt); block = block; lies = has; torn = torn_at k drive.0 block lt has }, tt));
+        begins = refl;
+        tells = refl;
+        stands = record { databases = issued.stands.databases; laid = issued.stands.laid; apart = issued.stands.apart; volumes = issued.stands.volumes };
+      }
 
 -- an event of a volume where nothing is done on the drives
 module _ (g : Geometry) (h : History) (key : Key) (volume : VolId) (e : VolumeEvent) (t : Tale) (stands : Stands g h t) where
@@ -114,6 +139,7 @@ module _ (g : Geometry) (h : History) (key : Key) (volume : VolId) (at : ℕ) (b
 pub writes_go : WritesGo
 writes_go = record {
   issued = λ g h key volume at blocks t m range stands rewriting. issued_goes g h key volume at blocks t range stands m rewriting;
+  torn = λ g h key volume at blocks t m range drive k block stands rewriting lt has. torn_goes g h key volume at blocks t range stands m drive k block rewriting lt has;
   done = λ g h key volume at blocks t u range stands rewriting read on. written_goes g h key volume at blocks t u range stands rewriting read on;
 }
 

@@ -17,6 +17,7 @@ use Rattle.mdv_volumes.specs.History.{Deed, Event, OfVolume, History, history_af
 use Rattle.mdv_volumes.specs.Tables.{IsMapOf}
 use Rattle.mdv_volumes.proofs.Databases.{is_log_of, volume_itself, volume_key, volume_number}
 use Rattle.mdv_volumes.proofs.Found.{newest_found, only_found}
+use Rattle.mdv_volumes.proofs.Maps as maps
 
 -- events one behind another
 pub happens_more : (g : Geometry) (h : History) (es fs : List Event) (begun more told later : List Deed) (u m : Tale) → Happens g h es begun told u → Happens g (history_after_all h es) fs more later m
@@ -50,7 +51,7 @@ module _ (g : Geometry) (h : History) (t : Tale) (stands : Stands g h t) where
         subst (λ (x : Version). IsMapOf g x.table beside w) version named.map
 
     pub same_map : (w : Map) → IsNamed g h.databases key volume w → w ≡ v
-    same_map w named = (stands.laid key there.newest there_found).one volume w v (of_newest volume w named) there.map
+    same_map w named = maps.same_map g there.newest.table volume w v (of_newest volume w named) there.map
 
     -- another volume shares no block of a drive with it
     pub other_map : (other : Key) (beside : VolId) (w : Map) → is_volume other beside key volume ≡ false → IsNamed g h.databases other beside w → AreDisjoint w v

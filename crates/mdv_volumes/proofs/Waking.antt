@@ -1,11 +1,12 @@
 -- Boots that find one value of each block, and logs that begin.
-use Rattle.std.proofs.Common.{◌≡◌, ◌⊎◌, inl, inr, ⊎_elim, ℕ, zero, suc, Bool, true, ◌+◌, ◌<◌, ◌≤◌, List, [], ◌∷◌, map, All, Contains, refl, sym, ◌∙◌, ap, subst, arith}
+use Rattle.std.proofs.Common.{◌≡◌, ◌⊎◌, inl, inr, ⊎_elim, ℕ, Bool, true, ◌≤◌, List, [], ◌∷◌, map, All, Contains, Option, Some, None, refl, sym, ◌∙◌, ap, subst, arith}
 use Rattle.std.proofs.lemmas.List.Elements.{All-cons, All-head, All-nil, All-tail}
-use Rattle.mdv_map.proofs.Covering.{runs_lie}
+use Rattle.std.proofs.lemmas.Option.{none-some}
+use Rattle.mdv_dev.proofs.Copies.{has_place}
 use Rattle.mdv_shelf.proofs.Blocks.{both_ways}
-use Rattle.mdv_shelf.proofs.Settled.{covered}
-use Rattle.mdv_volumes.specs.Below.{Among, Base, Component, Follows, Geometry, Key, Map, MayLeave, Slice, Stripe, Tale, Version, VolId, Volume, VolumeKind, VolumeLog, after_begin, area_of_map, last, opening, run_map}
-use Rattle.mdv_volumes.specs.Databases.{is_volume, log_of}
+use Rattle.mdv_store_law.specs.Log.{IsRising}
+use Rattle.mdv_volumes.specs.Below.{Follows, Geometry, IsOneCopy, Key, Map, MayLeave, Tale, Version, VolId, Volume, VolumeLog, after_begin, area_of_map, last, opening}
+use Rattle.mdv_volumes.specs.Databases.{is_volume}
 use Rattle.mdv_volumes.specs.Events.{Begins, Woke}
 use Rattle.mdv_volumes.specs.Events as lives
 use Rattle.mdv_volumes.specs.Happening.{IsNamed, MayBeFound}
@@ -13,14 +14,14 @@ use Rattle.mdv_volumes.specs.Histories.{Happens, Stands}
 use Rattle.mdv_volumes.specs.History.{OfVolume, History, history_after, history_after_all}
 use Rattle.mdv_volumes.specs.HistoryLaws.{AreAwake, AreWoken, BeginningsGo, BootsGo, IsBooted, IsFoundBy, IsUpon, Waking, wakings}
 use Rattle.mdv_volumes.specs.Standing.{HaveOneValue}
-use Rattle.mdv_volumes.specs.Tables.{IsBaseMap, IsKindMap, IsMapOf}
+use Rattle.mdv_volumes.specs.Tables.{AreLaid, IsMapOf, map_of}
+use Rattle.mdv_volumes.proofs.Copies.{content, one_value, upon_or_not}
 use Rattle.mdv_volumes.proofs.Databases.{is_log_of, volume_itself, volume_number}
-use Rattle.mdv_store_law.specs.Log.{IsRising}
 use Rattle.mdv_volumes.proofs.Found.{newest_found}
 use Rattle.mdv_volumes.proofs.Lists.{contains_behind, contains_first, first_or_behind}
 use Rattle.mdv_volumes.proofs.Logs.{goes_test}
+use Rattle.mdv_volumes.proofs.Maps as maps
 use Rattle.mdv_volumes.proofs.Standing.{beginnings_stand, boots_stand}
-use Rattle.mdv_volumes.proofs.Tables.{tables_lie}
 use Rattle.mdv_volumes.proofs.Transfers.{noted}
 use Rattle.mdv_volumes.proofs.Volumes.{after_own, happens_more, same_map, there_named}
 
@@ -82,7 +83,7 @@ awake g h key (w ∷ ws) t found stands =
       up = rest.up;
     }
 
--- a volume whose blocks lie together on a drive that is up has one value in each of them, or none of its drives is up
+-- a volume each of whose blocks has one copy, on a drive that is up, has one value in each of them, or not all of its drives are up
 module _ (g : Geometry) (h : History) (key : Key) (newest : Version) (up : ℕ → Bool) (t : Tale) (booted : IsBooted g h key newest up t) (stands : Stands g h t) where
   abbrev Found : Map → Type 0
   Found v = ((content : ℕ → List ℕ) × HaveOneValue v content t) ⊎ (IsUpon up v → ⊥)
@@ -91,28 +92,10 @@ module _ (g : Geometry) (h : History) (key : Key) (newest : Version) (up : ℕ �
   abbrev Still : Map → Type 0
   Still v = (drive block : ℕ) → area_of_map v drive block ≡ true → up drive ≡ true → (x : List ℕ) → MayLeave t drive block x → x ≡ last t drive block
 
-  one_value : (drive first count : ℕ) → up drive ≡ true → Still (run_map drive first count) → HaveOneValue (run_map drive first count) (λ b. last t drive (first + b)) t
-  one_value drive first count on still = record {
-    some = λ b lt. inl refl;
-    alone = λ image b x is lt among. by image b x lt (is.each drive (first + b)) among;
-  }
-    where
-      by : (image : ℕ → ℕ → List ℕ) (b : ℕ) (x : List ℕ) → b < count → MayLeave t drive (first + b) (image drive (first + b)) → Among (image drive (first + b) ∷ []) x → x ≡ last t drive (first + b)
-      by image b x lt left (inl same) = same ∙ still drive (first + b) (runs_lie.area drive first count drive (first + b) ∙ covered drive first count b lt) on (image drive (first + b)) left
-      by image b x lt left (inr none) = absurd none
-
-  of_run : (drive first count : ℕ) → Still (run_map drive first count) → Found (run_map drive first count)
-  of_run drive first zero still = inl (λ b. [], record { some = λ b lt. absurd (omega (arith, lt)); alone = λ image b x is lt. absurd (omega (arith, lt)) })
-  of_run drive first (suc count) still = elim (both_ways (up drive)) [
-    | inl does ↦ inl (λ b. last t drive (first + b), one_value drive first (suc count) does still)
-    | inr never ↦ inr (λ upon. absurd (let is = upon 0 drive (first + 0) (omega arith) (inl (refl, refl)) in cc (is, never)))
-  ]
-
-  of_base : (c : Component) (base : Base) (v : Map) → IsBaseMap g c base v → Still v → Found v
-  of_base c (Slice slice) v lies still = subst Found (sym lies.2) (of_run lies.0.drive.0 (lies.0.start + c.start) c.blocks (subst Still lies.2 still))
-
-  of_kind : (kind : VolumeKind) (v : Map) → IsKindMap g kind v → Still v → Found v
-  of_kind (Stripe s) v lies still = of_base s.component s.component.on v lies still
+  found : (v : Map) → IsOneCopy v → Still v → Found v
+  found v one still = ⊎_elim
+      (λ upon. inl (content v one t, one_value v one t up (λ b drive block lt at does. still drive block (maps.in_area v b drive block lt (has_place v b drive block at)) does) upon))
+      (λ never. inr never) (upon_or_not v one up)
 
   -- what is found of the volumes of a list
   record FoundOf (volumes : List Volume) : Type 0 where
@@ -121,9 +104,10 @@ module _ (g : Geometry) (h : History) (key : Key) (newest : Version) (up : ℕ �
     each : (of : Volume) (v : Map) → Contains volumes of → IsMapOf g newest.table of.number v → IsUpon up v → (w : Waking) × Contains ws w × (w.volume ≡ of.number) × (w.count ≡ v.blocks)
 
   is_one : (volume : VolId) (v w : Map) → IsMapOf g newest.table volume v → IsMapOf g newest.table volume w → v ≡ w
-  is_one = (stands.laid key newest found).one where
-    found : MayBeFound (log_of h.databases key).family newest
-    found = subst (λ (f : List Version). MayBeFound f newest) (sym booted.family) (newest_found newest booted.older (subst IsRising booted.family (is_log_of g h.databases t stands.databases key).rising))
+  is_one volume v w map other = maps.same_map g newest.table volume v w map other
+
+  laid : AreLaid g newest.table
+  laid = stands.laid key newest (subst (λ (f : List Version). MayBeFound f newest) (sym booted.family) (newest_found newest booted.older (subst IsRising booted.family (is_log_of g h.databases t stands.databases key).rising)))
 
   one_more : (of : Volume) (volumes : List Volume) (v : Map) → IsMapOf g newest.table of.number v → Found v → FoundOf volumes → FoundOf (of ∷ volumes)
   one_more of volumes v map (inl one) rest =
@@ -153,21 +137,34 @@ module _ (g : Geometry) (h : History) (key : Key) (newest : Version) (up : ℕ �
         (λ behind. rest.each other x behind other_map upon) (first_or_behind of other volumes has);
   }
 
-  found_of : (volumes : List Volume) → ((of : Volume) → Contains volumes of → Contains newest.table.plan.volumes of) → FoundOf volumes
-  found_of [] among = record { ws = []; all = All-nil (IsFoundBy g h.databases key t); each = λ of v has. absurd (omega (arith, has.1)) }
-  found_of (of ∷ volumes) among =
-      let lies = tables_lie.some g newest.table of booted.of_geometry (among of (contains_first of volumes)) in
-      one_more of volumes lies.0 lies.1 (of_kind lies.1.of.kind lies.0 lies.1.kind (λ drive block. booted.still of.number lies.0 drive block lies.1)) (found_of volumes (λ other has. among other (contains_behind of other volumes has)))
+  -- one without a map is none that a boot could find
+  none_more : (of : Volume) (volumes : List Volume) → map_of g newest.table of.number ≡ None → FoundOf volumes → FoundOf (of ∷ volumes)
+  none_more of volumes none rest = record {
+    ws = rest.ws;
+    all = rest.all;
+    each = λ other x has other_map upon. ⊎_elim
+        (λ same. absurd (none-some x (sym none ∙ subst (λ (o : Volume). IsMapOf g newest.table o.number x) (sym same) other_map)))
+        (λ behind. rest.each other x behind other_map upon) (first_or_behind of other volumes has);
+  }
+
+  found_of : (volumes : List Volume) → FoundOf volumes
+  found_of [] = record { ws = []; all = All-nil (IsFoundBy g h.databases key t); each = λ of v has. absurd (omega (arith, has.1)) }
+  found_of (of ∷ volumes) = by (found_of volumes) (map_of g newest.table of.number) refl where
+    by : FoundOf volumes → (o : Option Map) → map_of g newest.table of.number ≡ o → FoundOf (of ∷ volumes)
+    by rest None none = none_more of volumes none rest
+    by rest (Some v) map = one_more of volumes v map (found v (laid.one of.number v map) (λ drive block. booted.still of.number v drive block map)) rest
 
   all_awake : (ws : List Waking) × AreAwake g h key ws t × AreWoken g newest.table up (history_after_all h (wakings key ws)) key
   all_awake =
-      let found = found_of newest.table.plan.volumes (λ of has. has) in
+      let found = found_of newest.table.plan.volumes in
       let woke = awake g h key found.ws t found.all stands in (
         found.ws,
         woke,
         λ volume v map upon.
-            let w = found.each map.of v map.has.0 (record { of = map.of; has = (map.has.0, refl); kind = map.kind }) upon in
-            ap (λ (n : VolId). (history_after_all h (wakings key found.ws)).woken key n) (sym map.has.1 ∙ sym w.2) ∙ woke.woken w.0 w.1 ∙ w.3,
+            let at = maps.found_as g newest.table volume v map in
+            let has = maps.found_has newest.table.plan volume at.of at.found in
+            let w = found.each at.of v has.0 (subst (λ (n : VolId). IsMapOf g newest.table n v) (sym has.1) map) upon in
+            ap (λ (n : VolId). (history_after_all h (wakings key found.ws)).woken key n) (sym has.1 ∙ sym w.2) ∙ woke.woken w.0 w.1 ∙ w.3,
       )
 
 pub boots_go : BootsGo

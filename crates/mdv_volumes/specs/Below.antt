@@ -1,14 +1,18 @@
 -- The words of the crates below in which this crate speaks, so that a file of it needs one line of import.
 pub use Rattle.mdv_base.specs.DriveSet.{Drives}
+pub use Rattle.mdv_base.specs.declared.drive.DriveNo.{DriveNo}
 pub use Rattle.mdv_base.specs.declared.drive.SliceName.{SliceName}
 pub use Rattle.mdv_base.specs.declared.mark.Identity.{Identity}
 pub use Rattle.mdv_base.specs.declared.name.Key.{Key}
 pub use Rattle.mdv_base.specs.declared.name.VolId.{VolId}
 pub use Rattle.mdv_base.specs.declared.place.Place.{Place}
+pub use Rattle.mdv_dev.specs.Pieces.{IsOneCopy, LiesAt}
+pub use Rattle.mdv_layout_law.specs.Laid.{plain_area}
+pub use Rattle.mdv_layout_law.specs.Layout.{at_map}
 pub use Rattle.mdv_map.specs.Logs.{AreLastIssued, BlockLog, Follows, VolumeLog, after_answer, after_begin, after_crash, after_flush, after_issue, is_among, left_in, only, opening}
 pub use Rattle.mdv_map.specs.Maps.{AreDisjoint, HasDriveBlock, IsDisjoint, Map, area_of_map, readings, run_map}
 pub use Rattle.mdv_map.specs.Requests.{AllOnDisk, AllRead, Rewriting}
-pub use Rattle.mdv_name.specs.SliceIndex.{HasSlice}
+pub use Rattle.mdv_name.specs.SliceIndex.{HasSlice, slice_at}
 pub use Rattle.mdv_name.specs.declared.geometry.Geometry.{Geometry}
 pub use Rattle.mdv_name.specs.declared.slice_lines.SliceAt.{SliceAt}
 pub use Rattle.mdv_shelf.specs.Area.{Area, AreApart, IsKept, KeptOutside, range}
@@ -31,6 +35,7 @@ pub use Rattle.mdv_table.specs.Volumes.{HasVolume}
 pub use Rattle.mdv_table.specs.declared.change.Change.TheVariants.{MakeStripe}
 pub use Rattle.mdv_table.specs.declared.plan.Lists.{Lists}
 pub use Rattle.mdv_table.specs.declared.plan.Lists.TheVariants.{One, Two}
+pub use Rattle.mdv_table.specs.declared.plan.Plan.{Plan}
 pub use Rattle.mdv_table.specs.declared.table.Table.{Table}
 pub use Rattle.mdv_table.specs.declared.volume.Base.{Base}
 pub use Rattle.mdv_table.specs.declared.volume.Base.TheVariants.{Slice}

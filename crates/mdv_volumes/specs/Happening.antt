@@ -1,6 +1,6 @@
 -- When each event of a history may happen, what it tells and what it begins.
 use Rattle.std.specs.Prelude.{◌++◌, ◌≡◌, ◌⊎◌, ℕ, ◌+◌, ◌<◌, ◌≤◌, true, false, List, [], ◌∷◌, length, map, slice_index_or, Option, None, Some}
-use Rattle.mdv_volumes.specs.Below.{Change, Geometry, Identity, IsFresh, Key, Map, Version, VolId, VolumeLog, is_firm, only}
+use Rattle.mdv_volumes.specs.Below.{Change, DriveNo, Geometry, HasDriveBlock, Identity, IsFresh, Key, Map, Version, VolId, VolumeLog, is_firm, only}
 use Rattle.mdv_store_law.specs.Log as log
 use Rattle.mdv_store_law.specs.Machine.{all_of}
 use Rattle.mdv_store_law.specs.Machine as machine
@@ -8,7 +8,7 @@ use Rattle.mdv_volumes.specs.Databases.{Database, current_of, log_of}
 pub use Rattle.mdv_databases.specs.Meeting.{MayBeFound}
 use Rattle.mdv_volumes.specs.Events.{VolumeEvent, Issues, Answers, Flushes, Begins, Woke, AreReadable}
 use Rattle.mdv_volumes.specs.Events as lives
-use Rattle.mdv_volumes.specs.History.{Deed, Created, Changed, Deleted, Deletes, Wrote, Saw, Event, Creation, OfDatabase, OfVolume, Reads, Acknowledges, Shows, Boots, Stops, Crashes, History, history_after}
+use Rattle.mdv_volumes.specs.History.{Deed, Created, Changed, Deleted, Deletes, Wrote, Saw, Event, Creation, OfDatabase, OfVolume, Reads, Acknowledges, Shows, Boots, Unsettles, Stops, Crashes, History, history_after}
 use Rattle.mdv_volumes.specs.Tables.{IsMapOf}
 
 -- a table that a boot may find has the volume, with this map
@@ -32,6 +32,17 @@ pub record HasRange (g : Geometry) (databases : List Database) (key : Key) (volu
   pub there : IsThere g databases key volume map
   pub some : 0 < count
   pub within : at + count ≤ map.blocks
+
+-- a block of a volume that the newest table has, with a copy on the drive, isn't one value: a crash may leave another one than a read gives
+pub record IsTornOn (g : Geometry) (h : History) (key : Key) (drive : DriveNo) : Type 0 where
+  pub volume : VolId
+  pub map : Map
+  pub there : IsThere g h.databases key volume map
+  pub number : ℕ
+  pub below : number < map.blocks
+  pub block : ℕ
+  pub lies : HasDriveBlock (map.copies number) drive.0 block
+  pub torn : (x : List ℕ) → h.volumes key volume number ≡ only x → ⊥
 
 -- it isn't a creation
 abbrev pub IsLater : log.Event → Type 0
@@ -79,6 +90,7 @@ abbrev pub HaveOnly : VolumeLog → ℕ → List (List ℕ) → Type 0
 HaveOnly log at blocks = (k : ℕ) → k < length blocks → log (at + k) ≡ only (slice_index_or blocks k [])
 
 -- When each event may happen. A write is told while its values are all that its blocks may have, whatever crashes; an end while no image has the key's database.
+-- A drive becomes unsteady only where a block on it isn't one value.
 abbrev pub MayHappen : Geometry → History → Event → Type 0
 MayHappen g h (Creation key identity) = MayBegin h.databases key identity
 MayHappen g h (OfDatabase key identity e) = IsOfCurrent g h.databases key identity e
@@ -88,6 +100,7 @@ MayHappen g h (Acknowledges place key volume at blocks) = IsUntoldAt h.untold pl
 MayHappen g h (Shows place key volume at blocks) = IsUntoldAt h.untold place (Saw key volume at blocks)
 MayHappen g h (Deletes place key) = IsUntoldAt h.untold place (Deleted key) × IsOver h.databases key
 MayHappen g h (Boots key up) = Unit {0}
+MayHappen g h (Unsettles key drive) = IsTornOn g h key drive
 MayHappen g h Stops = Unit {0}
 MayHappen g h Crashes = (h.answered ≡ []) × (h.untold ≡ [])
 
@@ -110,6 +123,7 @@ tells (Acknowledges place key volume at blocks) = Wrote key volume at blocks ∷
 tells (Shows place key volume at blocks) = Saw key volume at blocks ∷ []
 tells (Deletes place key) = Deleted key ∷ []
 tells (Boots key up) = []
+tells (Unsettles key drive) = []
 tells Stops = []
 tells Crashes = []
 
@@ -149,6 +163,7 @@ begins (Acknowledges place key volume at blocks) = []
 begins (Shows place key volume at blocks) = []
 begins (Deletes place key) = []
 begins (Boots key up) = []
+begins (Unsettles key drive) = []
 begins Stops = []
 begins Crashes = []
 
@@ -165,6 +180,7 @@ IsIssue Which (Acknowledges place key volume at blocks) = Unit {0}
 IsIssue Which (Shows place key volume at blocks) = Unit {0}
 IsIssue Which (Deletes place key) = Unit {0}
 IsIssue Which (Boots key up) = Unit {0}
+IsIssue Which (Unsettles key drive) = Unit {0}
 IsIssue Which Stops = ⊥
 IsIssue Which Crashes = ⊥
 

@@ -1,6 +1,6 @@
 -- What a host's drives have lived through: the databases that were begun there, the blocks of volumes, and what was done and isn't told.
-use Rattle.std.specs.Prelude.{ℕ, ◌+◌, Bool, false, not, ◌&&◌, nat_le, if◌then◌else◌, List, [], ◌∷◌, ◌++◌, filter, length, take, drop, min}
-use Rattle.mdv_volumes.specs.Below.{Change, Drives, Identity, Key, VolId, VolumeLog}
+use Rattle.std.specs.Prelude.{ℕ, zero, suc, ◌+◌, Bool, false, not, ◌&&◌, nat_le, if◌then◌else◌, List, [], ◌∷◌, ◌++◌, filter, length, take, drop, min}
+use Rattle.mdv_volumes.specs.Below.{Change, DriveNo, Drives, Identity, Key, VolId, VolumeLog}
 use Rattle.mdv_store_law.specs.Log as log
 use Rattle.mdv_store_law.specs.Machine.{after_all, all_of}
 use Rattle.mdv_volumes.specs.Databases.{Database, is_volume, same_key, with_creation, with_event}
@@ -16,7 +16,7 @@ pub data Deed : Type 0 where
   Saw : Key → VolId → ℕ → List (List ℕ) → Deed
 
 -- The databases; the log of each volume's blocks; writes that were answered and aren't on the disk; what was done and isn't told, ends of databases,
--- writes that are on the disk and reads; which drives the last boot of a key brought up, and of how many first blocks of a volume one value was found since it began.
+-- writes that are on the disk and reads; which drives the last boot of a key brought up and are steady since, and of how many first blocks of a volume one value was found since it began.
 pub record History : Type 0 where
   pub databases : List Database
   pub volumes : Key → VolId → VolumeLog
@@ -42,6 +42,8 @@ pub data Event : Type 0 where
   Deletes : ℕ → Key → Event
   -- a boot of the key begins, which brings these drives up
   Boots : Key → Drives → Event
+  -- a drive that the last boot of the key brought up is unsteady from now on: a crash may leave another value of a block there than a read gives
+  Unsettles : Key → DriveNo → Event
   -- a run ends; what it did and didn't tell, nobody will be told
   Stops : Event
   -- drives begin anew, between two runs
@@ -57,6 +59,7 @@ databases_after ds (Acknowledges place key volume at blocks) = ds
 databases_after ds (Shows place key volume at blocks) = ds
 databases_after ds (Deletes place key) = ds
 databases_after ds (Boots key up) = ds
+databases_after ds (Unsettles key drive) = ds
 databases_after ds Stops = ds
 databases_after ds Crashes = ds
 
@@ -70,6 +73,7 @@ events_at key volume (Acknowledges place other beside at blocks) = []
 events_at key volume (Shows place other beside at blocks) = []
 events_at key volume (Deletes place other) = []
 events_at key volume (Boots other up) = []
+events_at key volume (Unsettles other drive) = []
 events_at key volume Stops = []
 events_at key volume Crashes = lives.Crashes ∷ []
 
@@ -105,6 +109,7 @@ answered_after deeds (Acknowledges place key volume at blocks) = deeds
 answered_after deeds (Shows place key volume at blocks) = deeds
 answered_after deeds (Deletes place key) = deeds
 answered_after deeds (Boots key up) = deeds
+answered_after deeds (Unsettles key drive) = deeds
 answered_after deeds Stops = []
 answered_after deeds Crashes = deeds
 
@@ -140,6 +145,7 @@ untold_after answered untold (Acknowledges place key volume at blocks) = without
 untold_after answered untold (Shows place key volume at blocks) = without place untold
 untold_after answered untold (Deletes place key) = without place untold
 untold_after answered untold (Boots key up) = untold
+untold_after answered untold (Unsettles key drive) = untold
 untold_after answered untold Stops = []
 untold_after answered untold Crashes = untold
 
@@ -160,8 +166,18 @@ woken_after woken (Acknowledges place key volume at blocks) other beside = woken
 woken_after woken (Shows place key volume at blocks) other beside = woken other beside
 woken_after woken (Deletes place key) other beside = woken other beside
 woken_after woken (Boots key up) other beside = if same_key key other then 0 else woken other beside
+woken_after woken (Unsettles key drive) other beside = woken other beside
 woken_after woken Stops other beside = 0
 woken_after woken Crashes other beside = 0
+
+-- all but the drive of that number
+abbrev pub without_at : ℕ → Drives → Drives
+without_at n [] = []
+without_at zero (has ∷ set) = false ∷ set
+without_at (suc n) (has ∷ set) = has ∷ without_at n set
+
+abbrev pub without_drive : Drives → DriveNo → Drives
+without_drive set drive = without_at drive.0 set
 
 abbrev pub up_after : (Key → Drives) → Event → Key → Drives
 up_after up (Creation key identity) other = up other
@@ -172,6 +188,7 @@ up_after up (Acknowledges place key volume at blocks) other = up other
 up_after up (Shows place key volume at blocks) other = up other
 up_after up (Deletes place key) other = up other
 up_after up (Boots key drives) other = if same_key key other then drives else up other
+up_after up (Unsettles key drive) other = if same_key key other then without_drive (up other) drive else up other
 up_after up Stops other = up other
 up_after up Crashes other = up other
 

@@ -1,6 +1,6 @@
 -- Laws of histories: of each volume, of databases and of deeds, over crashes, boots, writes and reads.
 use Rattle.std.specs.Prelude.{◌≡◌, ◌⊎◌, ◌+◌, ◌<◌, ◌≤◌, ℕ, true, List, [], ◌∷◌, ◌++◌, length, slice_index_or, Bool, if◌then◌else◌, map, Option, Some, None, All, Contains}
-use Rattle.mdv_volumes.specs.Below.{AllOnDisk, AllRead, Among, AreApart, AreDisjoint, Area, Change, Follows, Geometry, HasDriveBlock, HasNoReplica, Identity, Image, IsBeside, IsCurrentOf, IsOfGeometry, Key, KeptOutside, Map, MayLeave, One, Place, Rewriting, Spells, Stand, Table, Tale, Version, VolId, area_of_map, is_firm, last, only, opening, restarted, site_area, site_of, with_events, Lists, Two}
+use Rattle.mdv_volumes.specs.Below.{AllOnDisk, AllRead, Among, AreApart, AreDisjoint, Area, Change, DriveNo, Follows, Geometry, HasDriveBlock, HasNoReplica, Identity, Image, IsBeside, IsCurrentOf, IsOfGeometry, Key, KeptOutside, Map, MayLeave, One, Place, Rewriting, Spells, Stand, Table, Tale, Version, VolId, area_of_map, is_firm, last, only, opening, restarted, site_area, site_of, with_events, Lists, Two}
 use Rattle.mdv_store_law.specs.Changes.{KeepsPlaces, TellsList, list_after}
 use Rattle.mdv_store_law.specs.Log as log
 use Rattle.mdv_store_law.specs.Machine.{AreAll, all_of}
@@ -11,7 +11,7 @@ use Rattle.mdv_volumes.specs.Events as lives
 use Rattle.mdv_volumes.specs.Happening.{HasRange, HaveOnly, IsCourse, IsLater, IsNamed, IsOver, IsThere, MayBeFound, MayBegin, begun_at, deed_of, issued_by, told_by}
 use Rattle.mdv_volumes.specs.Histories.{Happens, Stands}
 use Rattle.mdv_volumes.specs.LogLaws.{MayBe}
-use Rattle.mdv_volumes.specs.History.{Deed, Created, Changed, Deleted, Deletes, Wrote, Saw, Event, Creation, OfDatabase, OfVolume, Reads, Acknowledges, Shows, Boots, Stops, Crashes, History, events_of, history_after, history_after_all}
+use Rattle.mdv_volumes.specs.History.{Deed, Created, Changed, Deleted, Deletes, Wrote, Saw, Event, Creation, OfDatabase, OfVolume, Reads, Acknowledges, Shows, Boots, Unsettles, Stops, Crashes, History, events_of, history_after, history_after_all}
 use Rattle.mdv_volumes.specs.Standing.{HaveCopies, HaveOneValue, LeavesNoMore}
 use Rattle.mdv_volumes.specs.Tables.{AreLaid, IsMapOf}
 
@@ -61,6 +61,7 @@ log_events_at key (Acknowledges place other volume at blocks) = []
 log_events_at key (Shows place other volume at blocks) = []
 log_events_at key (Deletes place other) = []
 log_events_at key (Boots other up) = []
+log_events_at key (Unsettles other drive) = []
 log_events_at key Stops = []
 log_events_at key Crashes = []
 
@@ -142,6 +143,10 @@ pub record WritesGo : Type 0 where
   -- at each moment they were issued
   pub issued : (g : Geometry) (h : History) (key : Key) (volume : VolId) (at : ℕ) (blocks : List (List ℕ)) (t m : Tale) (range : HasRange g h.databases key volume at (length blocks)) → Stands g h t
       → Rewriting range.map at blocks t m → Happens g h (OfVolume key volume (Issues at blocks) ∷ []) (Wrote key volume at blocks ∷ []) [] m
+  -- where the write fails, a drive on which one of them has a copy may become unsteady
+  pub torn : (g : Geometry) (h : History) (key : Key) (volume : VolId) (at : ℕ) (blocks : List (List ℕ)) (t m : Tale) (range : HasRange g h.databases key volume at (length blocks)) (drive : DriveNo) (k block : ℕ) → Stands g h t
+      → Rewriting range.map at blocks t m → k < length blocks → HasDriveBlock (range.map.copies (at + k)) drive.0 block
+      → Happens g h (OfVolume key volume (Issues at blocks) ∷ Unsettles key drive ∷ []) (Wrote key volume at blocks ∷ []) [] m
   -- in the end, on the disk, they were answered too, and can be told
   pub done : (g : Geometry) (h : History) (key : Key) (volume : VolId) (at : ℕ) (blocks : List (List ℕ)) (t u : Tale) (range : HasRange g h.databases key volume at (length blocks)) → Stands g h t
       → Rewriting range.map at blocks t u → AllRead range.map at blocks u → AllOnDisk range.map at (length blocks) u → IsWritten g h key volume at blocks u

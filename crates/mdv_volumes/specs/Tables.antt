@@ -1,30 +1,45 @@
 -- Where the volumes of a table lie: the map of each of them.
-use Rattle.std.specs.Prelude.{◌≡◌, ◌⊎◌, ◌+◌, Contains}
-use Rattle.mdv_volumes.specs.Below.{AreDisjoint, Base, Component, Geometry, HasSlice, HasVolume, IsAfter, IsBeside, IsDisjoint, IsOfGeometry, IsSound, MakeStripe, Map, Slice, SliceAt, SliceName, Stripe, Table, VolId, Volume, VolumeKind, area_of_map, run_map}
+use Rattle.std.specs.Prelude.{◌≡◌, ◌⊎◌, ◌==◌, ◌^◌, ◌<◌, ℕ, true, find, Contains, Option, None, Some}
+use Rattle.mdv_volumes.specs.Below.{AreDisjoint, Base, Component, Geometry, IsAfter, IsBeside, IsDisjoint, IsOfGeometry, IsOneCopy, IsSound, MakeStripe, Map, Plan, Slice, SliceName, Stripe, Table, VolId, Volume, VolumeKind, area_of_map, at_map, plain_area, slice_at}
 
 -- the blocks of a slice that a component has
-abbrev pub IsBaseMap : Geometry → Component → Base → Map → Type 0
-IsBaseMap g c (Slice slice) v = (at : SliceAt) × HasSlice g.slices slice at × (v ≡ run_map at.drive.0 (at.start + c.start) c.blocks)
+abbrev pub base_map : Geometry → Component → Base → Map
+base_map g c (Slice slice) = at_map (slice_at g.slices slice) c.start c.blocks
 
-abbrev pub IsKindMap : Geometry → VolumeKind → Map → Type 0
-IsKindMap g (Stripe s) v = IsBaseMap g s.component s.component.on v
+-- by what a volume is made of; no volume is made of others yet
+abbrev pub kind_map : Geometry → VolumeKind → Option Map
+kind_map g (Stripe s) = Some (base_map g s.component s.component.on)
 
--- the table has the volume, and that is its map; no volume is made of others yet
-pub record IsMapOf (g : Geometry) (table : Table) (volume : VolId) (v : Map) : Type 0 where
-  pub of : Volume
-  pub has : HasVolume table.plan.volumes volume of
-  pub kind : IsKindMap g of.kind v
+-- the volume of the number
+abbrev pub volume_of : Plan → VolId → Option Volume
+volume_of p volume = find (λ (of : Volume). of.number.0 == volume.0) p.volumes
+
+abbrev pub map_at : Geometry → Option Volume → Option Map
+map_at g None = None
+map_at g (Some of) = kind_map g of.kind
+
+-- the map of a volume; none of one that isn't there
+abbrev pub map_of : Geometry → Table → VolId → Option Map
+map_of g table volume = map_at g (volume_of table.plan volume)
+
+-- the table has the volume, and that is its map
+abbrev pub IsMapOf : Geometry → Table → VolId → Map → Type 0
+IsMapOf g table volume v = map_of g table volume ≡ Some v
 
 -- no slice on which a boot looks for replicas, of whatever key, has a block of the map
 abbrev pub IsClear : Geometry → Map → Type 0
 IsClear g v = IsBeside g (area_of_map v)
 
--- The volumes of a table: each has one map, no block of a drive belongs to two of its blocks, nor to those of two volumes, nor to a slice with replicas.
+-- The volumes of a table: no block of a drive belongs to two blocks of one, nor to those of two volumes, nor to a slice with replicas; all lie on slices
+-- that volumes may lie on.
 pub record AreLaid (g : Geometry) (table : Table) : Type 0 where
-  pub one : (volume : VolId) (v w : Map) → IsMapOf g table volume v → IsMapOf g table volume w → v ≡ w
   pub disjoint : (volume : VolId) (v : Map) → IsMapOf g table volume v → IsDisjoint v
   pub apart : (volume other : VolId) (v w : Map) → (volume ≡ other → ⊥) → IsMapOf g table volume v → IsMapOf g table other w → AreDisjoint v w
   pub clear : (volume : VolId) (v : Map) → IsMapOf g table volume v → IsClear g v
+  pub plain : (volume : VolId) (v : Map) → IsMapOf g table volume v → (drive block : ℕ) → area_of_map v drive block ≡ true → plain_area g drive block ≡ true
+  -- mirrors have more copies than one
+  pub one : (volume : VolId) (v : Map) → IsMapOf g table volume v → IsOneCopy v
+  pub bounded : (volume : VolId) (v : Map) → IsMapOf g table volume v → v.blocks < 2 ^ 63
 
 -- tables of the geometry
 pub record TablesLie : Type 0 where

@@ -1,7 +1,7 @@
-use Rattle.std.proofs.Common.{length, rules}
-use Rattle.mdv_base.specs.declared.drive.Failed.{Failed}
+use Rattle.std.proofs.Common.{length}
 use Rattle.mdv_shelf.specs.Shelves.{DriveFailures}
 use Rattle.mdv_dev.proofs.Drives.{drives_more}
+use Rattle.mdv_dev.proofs.Failing.{handed_on}
 use Rattle.mdv_dev.proofs.Requesting.{first_is_new, moments_flushed, syncs_stop, write_ends, writes_stop, writes_took}
 use Rattle.mdv_dev.proofs.request.write_blocks.Goals as goal
 
@@ -14,13 +14,14 @@ returns-in_err-finish-2-clause-moments g c =
 
 pub returns-in_err-finish-clause-counted : goal.returns-in_err-finish-clause-counted
 returns-in_err-finish-clause-counted g c =
-    writes_stop g.S.Shelf (g.D.Placed.map c.args.device.now) c.args.at (length c.args.from.now) c.args.shelf.now c.finish.new.shelf c.finish.new.work c.args.from.now c.finish.new.buffer {U = Unit {0}} {F = Failed} c.in_err-finish.field-0.0 c.from_residual.result (search rules)
-    c.in_err-finish.ensures.finished c.in_err-finish.ensures.counted
+    rw (handed_on c.from_residual.result c.in_err-finish.field-0.0 c.from_residual.ensures.1)
+    (writes_stop g.S.Shelf (g.D.Placed.map c.args.device.now) c.args.at (length c.args.from.now) c.args.shelf.now c.finish.new.shelf c.finish.new.work c.args.from.now c.finish.new.buffer c.in_err-finish.field-0.0 c.in_err-finish.ensures.finished c.in_err-finish.ensures.counted)
 
 pub returns-in_err-finish-2-clause-counted : goal.returns-in_err-finish-2-clause-counted
 returns-in_err-finish-2-clause-counted g c =
-    syncs_stop g.S.Shelf (g.D.Placed.map c.args.device.now) c.args.at (length c.args.from.now) c.args.shelf.now c.finish.new.shelf c.finish-2.new.shelf c.finish.new.work c.finish-2.new.work c.finish.new.buffer c.finish-2.new.buffer c.in_ok-finish.ensures.finished.whole.1 c.in_ok-finish.field-0 c.in_ok-finish.ensures.counted
-    {U = Unit {0}} {F = Failed} c.in_err-finish-2.field-0.0 c.from_residual-in_err-finish-2.result (search rules) c.in_err-finish-2.ensures.finished c.in_err-finish-2.ensures.counted
+    rw (handed_on c.from_residual-in_err-finish-2.result c.in_err-finish-2.field-0.0 c.from_residual-in_err-finish-2.ensures.1)
+    (syncs_stop g.S.Shelf (g.D.Placed.map c.args.device.now) c.args.at (length c.args.from.now) c.args.shelf.now c.finish.new.shelf c.finish-2.new.shelf c.finish.new.work c.finish-2.new.work c.finish.new.buffer c.finish-2.new.buffer c.in_ok-finish.ensures.finished.whole.1 c.in_ok-finish.field-0 c.in_ok-finish.ensures.counted
+    c.in_err-finish-2.field-0.0 c.in_err-finish-2.ensures.finished c.in_err-finish-2.ensures.counted)
 
 pub returns-in_err-finish-2-clause-kept : goal.returns-in_err-finish-2-clause-kept
 returns-in_err-finish-2-clause-kept g c = drives_more g.S.Shelf c.args.shelf.now c.finish.new.shelf (g.D.Placed.map c.args.device.now) c.args.at (length c.args.from.now) c.in_ok-finish.ensures.finished.whole.1 c.finish.ensures.kept c.finish-2.new.shelf c.finish-2.ensures.kept

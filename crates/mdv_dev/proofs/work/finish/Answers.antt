@@ -1,5 +1,5 @@
-use Rattle.std.proofs.Common.{List, ℕ, inl, refl, subst, rules}
-use Rattle.mdv_base.specs.declared.drive.Failed.{Failed}
+use Rattle.std.proofs.Common.{List, ℕ, inl, refl, subst}
+use Rattle.mdv_dev.proofs.Failing.{handed_on}
 use Rattle.mdv_dev.proofs.Finishing.{ends_badly, ends_well, open_still, same_drives, so_far_more}
 use Rattle.mdv_dev.specs.Pieces.{IsOn}
 use Rattle.mdv_dev.proofs.work.finish.Goals as goal
@@ -22,45 +22,45 @@ loop-work-preserved g c =
 
 pub returns-in_err-turn-clause-moments : goal.returns-in_err-turn-clause-moments
 returns-in_err-turn-clause-moments g c =
-    (ends_badly g.S.Shelf (g.D.Placed.map c.args.device.now) c.args.shelf.now c.args.work.now c.args.buffer.now {U = Unit {0}} {F = Failed} c.in_err-turn.field-0.0 c.from_residual.result (search rules) c.turn.new.shelf c.turn.new.work c.turn.new.buffer c.loop-work.shelf c.loop-work.work c.loop-work.buffer c.loop-work.invariant
+    (ends_badly g.S.Shelf (g.D.Placed.map c.args.device.now) c.args.shelf.now c.args.work.now c.args.buffer.now {T = Unit {0}} c.in_err-turn.field-0.0 c.turn.new.shelf c.turn.new.work c.turn.new.buffer c.loop-work.shelf c.loop-work.work c.loop-work.buffer c.loop-work.invariant
     (record { moments = c.turn.ensures.moments; done = c.turn.ensures.done; turned = c.in_err-turn.ensures.turned; counted = c.in_err-turn.ensures.counted; kept = c.turn.ensures.kept }) c.loop-work-test.true c.requires.open.begins).moments
 
 pub returns-in_err-turn-clause-done : goal.returns-in_err-turn-clause-done
 returns-in_err-turn-clause-done g c =
-    (ends_badly g.S.Shelf (g.D.Placed.map c.args.device.now) c.args.shelf.now c.args.work.now c.args.buffer.now {U = Unit {0}} {F = Failed} c.in_err-turn.field-0.0 c.from_residual.result (search rules) c.turn.new.shelf c.turn.new.work c.turn.new.buffer c.loop-work.shelf c.loop-work.work c.loop-work.buffer c.loop-work.invariant
+    (ends_badly g.S.Shelf (g.D.Placed.map c.args.device.now) c.args.shelf.now c.args.work.now c.args.buffer.now {T = Unit {0}} c.in_err-turn.field-0.0 c.turn.new.shelf c.turn.new.work c.turn.new.buffer c.loop-work.shelf c.loop-work.work c.loop-work.buffer c.loop-work.invariant
     (record { moments = c.turn.ensures.moments; done = c.turn.ensures.done; turned = c.in_err-turn.ensures.turned; counted = c.in_err-turn.ensures.counted; kept = c.turn.ensures.kept }) c.loop-work-test.true c.requires.open.begins).done
 
 pub returns-in_err-turn-clause-finished : goal.returns-in_err-turn-clause-finished
 returns-in_err-turn-clause-finished g c =
-    (ends_badly g.S.Shelf (g.D.Placed.map c.args.device.now) c.args.shelf.now c.args.work.now c.args.buffer.now {U = Unit {0}} {F = Failed} c.in_err-turn.field-0.0 c.from_residual.result (search rules) c.turn.new.shelf c.turn.new.work c.turn.new.buffer c.loop-work.shelf c.loop-work.work c.loop-work.buffer c.loop-work.invariant
+    rw (handed_on c.from_residual.result c.in_err-turn.field-0.0 c.from_residual.ensures.1) (ends_badly g.S.Shelf (g.D.Placed.map c.args.device.now) c.args.shelf.now c.args.work.now c.args.buffer.now {T = Unit {0}} c.in_err-turn.field-0.0 c.turn.new.shelf c.turn.new.work c.turn.new.buffer c.loop-work.shelf c.loop-work.work c.loop-work.buffer c.loop-work.invariant
     (record { moments = c.turn.ensures.moments; done = c.turn.ensures.done; turned = c.in_err-turn.ensures.turned; counted = c.in_err-turn.ensures.counted; kept = c.turn.ensures.kept }) c.loop-work-test.true c.requires.open.begins).finished
 
 pub returns-in_err-turn-clause-counted : goal.returns-in_err-turn-clause-counted
 returns-in_err-turn-clause-counted g c =
-    (ends_badly g.S.Shelf (g.D.Placed.map c.args.device.now) c.args.shelf.now c.args.work.now c.args.buffer.now {U = Unit {0}} {F = Failed} c.in_err-turn.field-0.0 c.from_residual.result (search rules) c.turn.new.shelf c.turn.new.work c.turn.new.buffer c.loop-work.shelf c.loop-work.work c.loop-work.buffer c.loop-work.invariant
+    rw (handed_on c.from_residual.result c.in_err-turn.field-0.0 c.from_residual.ensures.1) (ends_badly g.S.Shelf (g.D.Placed.map c.args.device.now) c.args.shelf.now c.args.work.now c.args.buffer.now {T = Unit {0}} c.in_err-turn.field-0.0 c.turn.new.shelf c.turn.new.work c.turn.new.buffer c.loop-work.shelf c.loop-work.work c.loop-work.buffer c.loop-work.invariant
     (record { moments = c.turn.ensures.moments; done = c.turn.ensures.done; turned = c.in_err-turn.ensures.turned; counted = c.in_err-turn.ensures.counted; kept = c.turn.ensures.kept }) c.loop-work-test.true c.requires.open.begins).counted
 
 pub returns-in_err-turn-clause-kept : goal.returns-in_err-turn-clause-kept
 returns-in_err-turn-clause-kept g c =
-    (ends_badly g.S.Shelf (g.D.Placed.map c.args.device.now) c.args.shelf.now c.args.work.now c.args.buffer.now {U = Unit {0}} {F = Failed} c.in_err-turn.field-0.0 c.from_residual.result (search rules) c.turn.new.shelf c.turn.new.work c.turn.new.buffer c.loop-work.shelf c.loop-work.work c.loop-work.buffer c.loop-work.invariant
+    (ends_badly g.S.Shelf (g.D.Placed.map c.args.device.now) c.args.shelf.now c.args.work.now c.args.buffer.now {T = Unit {0}} c.in_err-turn.field-0.0 c.turn.new.shelf c.turn.new.work c.turn.new.buffer c.loop-work.shelf c.loop-work.work c.loop-work.buffer c.loop-work.invariant
     (record { moments = c.turn.ensures.moments; done = c.turn.ensures.done; turned = c.in_err-turn.ensures.turned; counted = c.in_err-turn.ensures.counted; kept = c.turn.ensures.kept }) c.loop-work-test.true c.requires.open.begins).kept
 
 pub returns-clause-moments : goal.returns-clause-moments
 returns-clause-moments g c =
-    (ends_well g.S.Shelf (g.D.Placed.map c.args.device.now) c.args.shelf.now c.args.work.now c.args.buffer.now {T = Unit {0}} {E = Failed} tt c.loop-work.shelf c.loop-work.work c.loop-work.buffer c.loop-work.invariant c.requires.open.some_left c.loop-work-test.false).moments
+    (ends_well g.S.Shelf (g.D.Placed.map c.args.device.now) c.args.shelf.now c.args.work.now c.args.buffer.now {T = Unit {0}} tt c.loop-work.shelf c.loop-work.work c.loop-work.buffer c.loop-work.invariant c.requires.open.some_left c.loop-work-test.false).moments
 
 pub returns-clause-done : goal.returns-clause-done
 returns-clause-done g c =
-    (ends_well g.S.Shelf (g.D.Placed.map c.args.device.now) c.args.shelf.now c.args.work.now c.args.buffer.now {T = Unit {0}} {E = Failed} tt c.loop-work.shelf c.loop-work.work c.loop-work.buffer c.loop-work.invariant c.requires.open.some_left c.loop-work-test.false).done
+    (ends_well g.S.Shelf (g.D.Placed.map c.args.device.now) c.args.shelf.now c.args.work.now c.args.buffer.now {T = Unit {0}} tt c.loop-work.shelf c.loop-work.work c.loop-work.buffer c.loop-work.invariant c.requires.open.some_left c.loop-work-test.false).done
 
 pub returns-clause-finished : goal.returns-clause-finished
 returns-clause-finished g c =
-    (ends_well g.S.Shelf (g.D.Placed.map c.args.device.now) c.args.shelf.now c.args.work.now c.args.buffer.now {T = Unit {0}} {E = Failed} tt c.loop-work.shelf c.loop-work.work c.loop-work.buffer c.loop-work.invariant c.requires.open.some_left c.loop-work-test.false).finished
+    (ends_well g.S.Shelf (g.D.Placed.map c.args.device.now) c.args.shelf.now c.args.work.now c.args.buffer.now {T = Unit {0}} tt c.loop-work.shelf c.loop-work.work c.loop-work.buffer c.loop-work.invariant c.requires.open.some_left c.loop-work-test.false).finished
 
 pub returns-clause-counted : goal.returns-clause-counted
 returns-clause-counted g c =
-    (ends_well g.S.Shelf (g.D.Placed.map c.args.device.now) c.args.shelf.now c.args.work.now c.args.buffer.now {T = Unit {0}} {E = Failed} tt c.loop-work.shelf c.loop-work.work c.loop-work.buffer c.loop-work.invariant c.requires.open.some_left c.loop-work-test.false).counted
+    (ends_well g.S.Shelf (g.D.Placed.map c.args.device.now) c.args.shelf.now c.args.work.now c.args.buffer.now {T = Unit {0}} tt c.loop-work.shelf c.loop-work.work c.loop-work.buffer c.loop-work.invariant c.requires.open.some_left c.loop-work-test.false).counted
 
 pub returns-clause-kept : goal.returns-clause-kept
 returns-clause-kept g c =
-    (ends_well g.S.Shelf (g.D.Placed.map c.args.device.now) c.args.shelf.now c.args.work.now c.args.buffer.now {T = Unit {0}} {E = Failed} tt c.loop-work.shelf c.loop-work.work c.loop-work.buffer c.loop-work.invariant c.requires.open.some_left c.loop-work-test.false).kept
+    (ends_well g.S.Shelf (g.D.Placed.map c.args.device.now) c.args.shelf.now c.args.work.now c.args.buffer.now {T = Unit {0}} tt c.loop-work.shelf c.loop-work.work c.loop-work.buffer c.loop-work.invariant c.requires.open.some_left c.loop-work-test.false).kept

@@ -1,4 +1,4 @@
-use Rattle.std.proofs.Common.{◌+◌, ◌-◌, ◌<◌, ◌≤◌, ◌≡◌, ℕ, List, length, Option, refl, sym, ◌∙◌, subst, arith, rules}
+use Rattle.std.proofs.Common.{◌+◌, ◌-◌, ◌<◌, ◌≤◌, ◌≡◌, ℕ, List, length, Option, refl, sym, ◌∙◌, subst, arith}
 use Rattle.mdv_shelf.specs.Tale.{Tale}
 use Rattle.mdv_shelf.specs.Calls.{InDrive, OnDrive}
 use Rattle.mdv_shelf.specs.Moments.{Ends}
@@ -6,7 +6,6 @@ use Rattle.mdv_shelf.specs.Shelves.{DriveFailures}
 use Rattle.mdv_shelf.proofs.InTime.{kept_on_call}
 use Rattle.mdv_map.specs.Maps.{Map}
 use Rattle.mdv_map.specs.Requests.{AreRead}
-use Rattle.mdv_dev.specs.Below.{FailedOn}
 use Rattle.mdv_dev.specs.Works.{LeavesBuffer, HasRoom, HasDoneOf, HasSyncedOf, written_of, is_turn}
 use Rattle.mdv_dev.specs.Pieces.{is_start}
 use Rattle.mdv_dev.specs.declared.work.WorkKind.{WorkKind}
@@ -45,11 +44,11 @@ read-requires g c =
     let there = in_drive v (w.at + w.done) (w.count - w.done) c.piece-piece.result c.piece-piece.ensures (g.S.Shelf.sizes c.args.shelf.now) c.requires.on (let within = c.requires.open.within in let some = c.requires.open.some_left in omega arith) in
     subst (λ (n : ℕ). InDrive (g.S.Shelf.sizes c.args.shelf.now) c.piece-piece.result.drive.0 c.piece-piece.result.block n) (sym (part_long w.done count c.args.out.now room)) there
 
-pub returns-in_err-read-clause-moments : goal.returns-in_err-read-clause-moments
-returns-in_err-read-clause-moments g c = rewriting_still g.S.Shelf c.args.shelf.now c.read.new.self (g.D.Placed.map c.args.device.now) c.args.work.now c.args.out.now c.read.ensures.reads.same
+pub returns-in-Err-clause-moments : goal.returns-in-Err-clause-moments
+returns-in-Err-clause-moments g c = rewriting_still g.S.Shelf c.args.shelf.now c.read.new.self (g.D.Placed.map c.args.device.now) c.args.work.now c.args.out.now c.read.ensures.reads.same
 
-pub returns-in_err-read-clause-done : goal.returns-in_err-read-clause-done
-returns-in_err-read-clause-done g c =
+pub returns-in-Err-clause-done : goal.returns-in-Err-clause-done
+returns-in-Err-clause-done g c =
     let v = g.D.Placed.map c.args.device.now in
     let w = c.args.work.now in
     let count = c.piece-piece.result.count in
@@ -61,8 +60,8 @@ returns-in_err-read-clause-done g c =
     (done_of w.kind c.requires.kind v w.at w.count w.done w.done out _ (g.S.Shelf.tale c.args.shelf.now) (g.S.Shelf.tale c.read.new.self)
     (ends_still _ (g.S.Shelf.tale c.args.shelf.now) (g.S.Shelf.tale c.read.new.self) c.read.ensures.reads.same (λ t told had k x lt reading. had k x lt reading ∙ sym (filled_front w.done count out room news long k lt))))
 
-pub returns-in_err-read-clause-turned : goal.returns-in_err-read-clause-turned
-returns-in_err-read-clause-turned g c =
+pub returns-in-Err-clause-turned : goal.returns-in-Err-clause-turned
+returns-in-Err-clause-turned g c =
     let v = g.D.Placed.map c.args.device.now in
     let w = c.args.work.now in
     let count = c.piece-piece.result.count in
@@ -74,15 +73,15 @@ returns-in_err-read-clause-turned g c =
     let filled = same_length w.kind _ _ c.requires.kind (filled_long w.done count out room news long) in
     let here = drive_here v w.at w.done w.count c.piece-piece.result c.piece-piece.ensures w.done (omega arith) (omega arith) in
     let on = kept_on_call g.S.Shelf (OnDrive c.piece-piece.result.drive.0) _ _ c.read.ensures.noted c.read.ensures.keeps c.read.ensures.cause.others in
-    missed v (DriveFailures g.S.Shelf c.args.shelf.now c.read.new.self) w out _ c.from_residual.result filled (filled_before w.done count out room news long) (search rules) c.requires.open.some_left c.requires.open.begins
-    (subst (λ (d : ℕ). FailedOn d (DriveFailures g.S.Shelf c.args.shelf.now c.read.new.self)) (sym here) (failed_on g.S.Shelf _ _ c.piece-piece.result.drive.0 on c.in_err-read.ensures.cause.own.failed))
+    missed v (DriveFailures g.S.Shelf c.args.shelf.now c.read.new.self) w out _ c.piece-piece.result.drive filled (filled_before w.done count out room news long) c.requires.open.some_left c.requires.open.begins
+    (sym here) (failed_on g.S.Shelf _ _ c.piece-piece.result.drive.0 on c.in-Err.ensures.cause.own.failed)
 
-pub returns-in_err-read-clause-counted : goal.returns-in_err-read-clause-counted
-returns-in_err-read-clause-counted g c =
-    turn_missed g.S.Shelf c.args.shelf.now c.read.new.self c.args.work.now c.args.work.now 0 c.read.ensures.counted (omega arith) c.from_residual.result (search rules)
+pub returns-in-Err-clause-counted : goal.returns-in-Err-clause-counted
+returns-in-Err-clause-counted g c =
+    turn_missed g.S.Shelf c.args.shelf.now c.read.new.self c.args.work.now c.args.work.now 0 c.read.ensures.counted (omega arith) c.piece-piece.result.drive
 
-pub returns-in_err-read-clause-kept : goal.returns-in_err-read-clause-kept
-returns-in_err-read-clause-kept g c =
+pub returns-in-Err-clause-kept : goal.returns-in-Err-clause-kept
+returns-in-Err-clause-kept g c =
     let v = g.D.Placed.map c.args.device.now in
     let w = c.args.work.now in
     let some = c.piece-piece.ensures.some in
@@ -90,11 +89,11 @@ returns-in_err-read-clause-kept g c =
     drives_of_on g.S.Shelf _ _ v w.at w.count c.piece-piece.result.drive.0 (has_at v w.at w.count w.done c.piece-piece.result.drive.0 c.requires.open.some_left here)
     (kept_on_call g.S.Shelf (OnDrive c.piece-piece.result.drive.0) _ _ c.read.ensures.noted c.read.ensures.keeps c.read.ensures.cause.others)
 
-pub returns-clause-moments : goal.returns-clause-moments
-returns-clause-moments g c = rewriting_still g.S.Shelf c.args.shelf.now c.read.new.self (g.D.Placed.map c.args.device.now) c.args.work.now c.args.out.now c.read.ensures.reads.same
+pub returns-in-Ok-clause-moments : goal.returns-in-Ok-clause-moments
+returns-in-Ok-clause-moments g c = rewriting_still g.S.Shelf c.args.shelf.now c.read.new.self (g.D.Placed.map c.args.device.now) c.args.work.now c.args.out.now c.read.ensures.reads.same
 
-pub returns-clause-done : goal.returns-clause-done
-returns-clause-done g c =
+pub returns-in-Ok-clause-done : goal.returns-in-Ok-clause-done
+returns-in-Ok-clause-done g c =
     let v = g.D.Placed.map c.args.device.now in
     let w = c.args.work.now in
     let count = c.piece-piece.result.count in
@@ -104,13 +103,13 @@ returns-clause-done g c =
     let long : length news ≡ count = c.read.auto.out ∙ part_long w.done count out room in
     carry_ends v w (record w { done = w.done + count }) out _ (g.S.Shelf.tale c.args.shelf.now) (g.S.Shelf.tale c.read.new.self)
     (done_of w.kind c.requires.kind v w.at w.count w.done (w.done + count) out _ (g.S.Shelf.tale c.args.shelf.now) (g.S.Shelf.tale c.read.new.self)
-    (ends_still _ (g.S.Shelf.tale c.args.shelf.now) (g.S.Shelf.tale c.read.new.self) c.in_ok-read.ensures.reads.same (λ t told had.
+    (ends_still _ (g.S.Shelf.tale c.args.shelf.now) (g.S.Shelf.tale c.read.new.self) c.in-Ok.ensures.reads.same (λ t told had.
     more_read v w.at w.done w.count c.piece-piece.result c.piece-piece.ensures c.requires.disjoint c.requires.open.within c.requires.open.some_left _ t
     (λ k x lt reading. had k x lt reading ∙ sym (filled_front w.done count out room news long k lt))
-    (λ j lt. sym (c.in_ok-read.ensures.reads.gave t told j (omega arith)) ∙ sym (filled_part w.done count out room news long j lt)))))
+    (λ j lt. sym (c.in-Ok.ensures.reads.gave t told j (omega arith)) ∙ sym (filled_part w.done count out room news long j lt)))))
 
-pub returns-clause-turned : goal.returns-clause-turned
-returns-clause-turned g c =
+pub returns-in-Ok-clause-turned : goal.returns-in-Ok-clause-turned
+returns-in-Ok-clause-turned g c =
     let v = g.D.Placed.map c.args.device.now in
     let w = c.args.work.now in
     let count = c.piece-piece.result.count in
@@ -125,14 +124,14 @@ returns-clause-turned g c =
     (omega arith) (let few = c.piece-piece.ensures.within in let left = c.requires.open.some_left in omega arith) c.requires.open.begins
     (λ j above below. turn_is w.kind v w.at j c.requires.kind ∙ starts_in v w.at w.done w.count c.piece-piece.result c.piece-piece.ensures j above below)
     (λ below. turn_is w.kind v w.at (w.done + count) c.requires.kind ∙ starts_next v w.at w.done w.count c.piece-piece.result c.piece-piece.ensures below)
-    (calm_on g.S.Shelf _ _ c.piece-piece.result.drive.0 on c.in_ok-read.ensures.cause.own.calm)
+    (calm_on g.S.Shelf _ _ c.piece-piece.result.drive.0 on c.in-Ok.ensures.cause.own.calm)
 
-pub returns-clause-counted : goal.returns-clause-counted
-returns-clause-counted g c =
+pub returns-in-Ok-clause-counted : goal.returns-in-Ok-clause-counted
+returns-in-Ok-clause-counted g c =
     turn_counted g.S.Shelf c.args.shelf.now c.read.new.self c.args.work.now (record c.args.work.now { done = c.args.work.now.done + c.piece-piece.result.count }) 0 c.read.ensures.counted (omega arith) tt (written_none c.args.work.now.kind _ c.requires.kind)
 
-pub returns-clause-kept : goal.returns-clause-kept
-returns-clause-kept g c =
+pub returns-in-Ok-clause-kept : goal.returns-in-Ok-clause-kept
+returns-in-Ok-clause-kept g c =
     let v = g.D.Placed.map c.args.device.now in
     let w = c.args.work.now in
     let some = c.piece-piece.ensures.some in

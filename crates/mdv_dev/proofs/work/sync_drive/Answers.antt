@@ -1,4 +1,4 @@
-use Rattle.std.proofs.Common.{◌+◌, ◌-◌, ◌<◌, ◌≤◌, ◌≡◌, inl, inr, ℕ, true, false, [], nat_lt, Option, refl, sym, ◌∙◌, subst, arith, rules}
+use Rattle.std.proofs.Common.{◌+◌, ◌-◌, ◌<◌, ◌≤◌, ◌≡◌, inl, inr, ℕ, true, false, [], nat_lt, Option, refl, sym, ◌∙◌, arith}
 use Rattle.mdv_shelf.specs.Tale.{Tale}
 use Rattle.mdv_shelf.specs.Calls.{OnDrive}
 use Rattle.mdv_shelf.specs.Moments.{Ends, Moments}
@@ -8,7 +8,7 @@ use Rattle.mdv_shelf.proofs.Blocks.{both_ways}
 use Rattle.mdv_map.proofs.Copies.{le_of_test, lt_of_test}
 use Rattle.mdv_map.specs.Maps.{Map}
 use Rattle.mdv_map.specs.Requests.{OnDrives, Rewriting}
-use Rattle.mdv_dev.specs.Below.{FailedOn, IsSynced}
+use Rattle.mdv_dev.specs.Below.{IsSynced}
 use Rattle.mdv_dev.specs.Works.{LeavesBuffer, HasDoneOf, HasSyncedOf, news, written_of, is_turn}
 use Rattle.mdv_dev.specs.Pieces.{IsPiece, has_drive, is_new}
 use Rattle.mdv_dev.specs.declared.piece.Piece.{Piece}
@@ -60,8 +60,8 @@ sync-requires g c =
     let there = in_drive v (w.at + w.done) (w.count - w.done) c.piece-piece.result c.piece-piece.ensures (g.S.Shelf.sizes c.args.shelf.now) c.requires.on (omega arith) in
     let known = there.known in omega arith
 
-pub returns-in_err-sync-clause-moments : goal.returns-in_err-sync-clause-moments
-returns-in_err-sync-clause-moments g c =
+pub returns-in-Err-clause-moments : goal.returns-in-Err-clause-moments
+returns-in-Err-clause-moments g c =
     let v = g.D.Placed.map c.args.device.now in
     let w = c.args.work.now in
     record {
@@ -69,28 +69,28 @@ returns-in_err-sync-clause-moments g c =
       still = not_read w.kind _ c.requires.kind;
     }
 
-pub returns-in_err-sync-clause-done : goal.returns-in_err-sync-clause-done
-returns-in_err-sync-clause-done g c =
+pub returns-in-Err-clause-done : goal.returns-in-Err-clause-done
+returns-in-Err-clause-done g c =
     let v = g.D.Placed.map c.args.device.now in
     let w = c.args.work.now in
-    carry_ends v w w [] [] (g.S.Shelf.tale c.args.shelf.now) (g.S.Shelf.tale c.sync.new.self) (ends_still _ (g.S.Shelf.tale c.args.shelf.now) (g.S.Shelf.tale c.sync.new.self) c.in_err-sync.ensures.syncs (λ t told. (λ had. had, λ drive had. had)))
+    carry_ends v w w [] [] (g.S.Shelf.tale c.args.shelf.now) (g.S.Shelf.tale c.sync.new.self) (ends_still _ (g.S.Shelf.tale c.args.shelf.now) (g.S.Shelf.tale c.sync.new.self) c.in-Err.ensures.syncs (λ t told. (λ had. had, λ drive had. had)))
 
-pub returns-in_err-sync-clause-turned : goal.returns-in_err-sync-clause-turned
-returns-in_err-sync-clause-turned g c =
+pub returns-in-Err-clause-turned : goal.returns-in-Err-clause-turned
+returns-in-Err-clause-turned g c =
     let v = g.D.Placed.map c.args.device.now in
     let w = c.args.work.now in
     let some = c.piece-piece.ensures.some in
     let here = drive_here v w.at w.done w.count c.piece-piece.result c.piece-piece.ensures w.done (omega arith) (omega arith) in
     let on = kept_on_call g.S.Shelf (OnDrive c.piece-piece.result.drive.0) _ _ c.sync.ensures.noted c.sync.ensures.keeps c.sync.ensures.cause.others in
-    missed v (DriveFailures g.S.Shelf c.args.shelf.now c.sync.new.self) w [] [] c.from_residual.result (same_buffer w.kind c.requires.kind) refl (search rules) c.requires.open.some_left c.requires.open.begins
-    (subst (λ (d : ℕ). FailedOn d (DriveFailures g.S.Shelf c.args.shelf.now c.sync.new.self)) (sym here) (failed_on g.S.Shelf _ _ c.piece-piece.result.drive.0 on c.in_err-sync.ensures.cause.own.failed))
+    missed v (DriveFailures g.S.Shelf c.args.shelf.now c.sync.new.self) w [] [] c.piece-piece.result.drive (same_buffer w.kind c.requires.kind) refl c.requires.open.some_left c.requires.open.begins
+    (sym here) (failed_on g.S.Shelf _ _ c.piece-piece.result.drive.0 on c.in-Err.ensures.cause.own.failed)
 
-pub returns-in_err-sync-clause-counted : goal.returns-in_err-sync-clause-counted
-returns-in_err-sync-clause-counted g c =
-    turn_missed g.S.Shelf c.args.shelf.now c.sync.new.self c.args.work.now c.args.work.now 0 c.sync.ensures.counted (omega arith) c.from_residual.result (search rules)
+pub returns-in-Err-clause-counted : goal.returns-in-Err-clause-counted
+returns-in-Err-clause-counted g c =
+    turn_missed g.S.Shelf c.args.shelf.now c.sync.new.self c.args.work.now c.args.work.now 0 c.sync.ensures.counted (omega arith) c.piece-piece.result.drive
 
-pub returns-in_err-sync-clause-kept : goal.returns-in_err-sync-clause-kept
-returns-in_err-sync-clause-kept g c =
+pub returns-in-Err-clause-kept : goal.returns-in-Err-clause-kept
+returns-in-Err-clause-kept g c =
     let v = g.D.Placed.map c.args.device.now in
     let w = c.args.work.now in
     let some = c.piece-piece.ensures.some in
@@ -98,8 +98,8 @@ returns-in_err-sync-clause-kept g c =
     drives_of_on g.S.Shelf _ _ v w.at w.count c.piece-piece.result.drive.0 (has_at v w.at w.count w.done c.piece-piece.result.drive.0 c.requires.open.some_left here)
     (kept_on_call g.S.Shelf (OnDrive c.piece-piece.result.drive.0) _ _ c.sync.ensures.noted c.sync.ensures.keeps c.sync.ensures.cause.others)
 
-pub returns-clause-moments : goal.returns-clause-moments
-returns-clause-moments g c =
+pub returns-in-Ok-clause-moments : goal.returns-in-Ok-clause-moments
+returns-in-Ok-clause-moments g c =
     let v = g.D.Placed.map c.args.device.now in
     let w = c.args.work.now in
     record {
@@ -107,17 +107,17 @@ returns-clause-moments g c =
       still = not_read w.kind _ c.requires.kind;
     }
 
-pub returns-clause-done : goal.returns-clause-done
-returns-clause-done g c =
+pub returns-in-Ok-clause-done : goal.returns-in-Ok-clause-done
+returns-in-Ok-clause-done g c =
     let v = g.D.Placed.map c.args.device.now in
     let w = c.args.work.now in
     let seen = seen_until v w.at w.done w.count c.piece-piece.result c.piece-piece.ensures c.next_drive-work.result c.next_drive-work.ensures.seen in
     carry_ends v w (record w { done = c.next_drive-work.result }) [] [] (g.S.Shelf.tale c.args.shelf.now) (g.S.Shelf.tale c.sync.new.self)
     (done_of w.kind c.requires.kind v w.at w.count w.done c.next_drive-work.result (g.S.Shelf.tale c.args.shelf.now) (g.S.Shelf.tale c.sync.new.self)
-    (sync_ends v w.at w.done w.count c.piece-piece.result c.piece-piece.ensures c.requires.open.some_left c.next_drive-work.result c.next_drive-work.ensures.behind seen (g.S.Shelf.tale c.args.shelf.now) (g.S.Shelf.tale c.sync.new.self) c.in_ok-sync.ensures.syncs))
+    (sync_ends v w.at w.done w.count c.piece-piece.result c.piece-piece.ensures c.requires.open.some_left c.next_drive-work.result c.next_drive-work.ensures.behind seen (g.S.Shelf.tale c.args.shelf.now) (g.S.Shelf.tale c.sync.new.self) c.in-Ok.ensures.syncs))
 
-pub returns-clause-turned : goal.returns-clause-turned
-returns-clause-turned g c =
+pub returns-in-Ok-clause-turned : goal.returns-in-Ok-clause-turned
+returns-in-Ok-clause-turned g c =
     let v = g.D.Placed.map c.args.device.now in
     let w = c.args.work.now in
     let some = c.piece-piece.ensures.some in
@@ -126,14 +126,14 @@ returns-clause-turned g c =
     turned v (DriveFailures g.S.Shelf c.args.shelf.now c.sync.new.self) w [] [] (same_buffer w.kind c.requires.kind) refl tt c.next_drive-work.result refl (omega arith) c.next_drive-work.ensures.until c.requires.open.begins
     (λ j above below. turn_is w.kind v w.at j c.requires.kind ∙ seen_until v w.at w.done w.count c.piece-piece.result c.piece-piece.ensures c.next_drive-work.result c.next_drive-work.ensures.seen j above below)
     (λ below. turn_is w.kind v w.at c.next_drive-work.result c.requires.kind ∙ c.next_drive-work.ensures.first below)
-    (calm_on g.S.Shelf _ _ c.piece-piece.result.drive.0 on c.in_ok-sync.ensures.cause.own.calm)
+    (calm_on g.S.Shelf _ _ c.piece-piece.result.drive.0 on c.in-Ok.ensures.cause.own.calm)
 
-pub returns-clause-counted : goal.returns-clause-counted
-returns-clause-counted g c =
+pub returns-in-Ok-clause-counted : goal.returns-in-Ok-clause-counted
+returns-in-Ok-clause-counted g c =
     turn_counted g.S.Shelf c.args.shelf.now c.sync.new.self c.args.work.now (record c.args.work.now { done = c.next_drive-work.result }) 0 c.sync.ensures.counted (omega arith) tt (written_none c.args.work.now.kind _ c.requires.kind)
 
-pub returns-clause-kept : goal.returns-clause-kept
-returns-clause-kept g c =
+pub returns-in-Ok-clause-kept : goal.returns-in-Ok-clause-kept
+returns-in-Ok-clause-kept g c =
     let v = g.D.Placed.map c.args.device.now in
     let w = c.args.work.now in
     let some = c.piece-piece.ensures.some in

@@ -1,4 +1,4 @@
-use Rattle.std.proofs.Common.{◌+◌, ◌-◌, ◌≤◌, ◌≡◌, ℕ, List, length, Option, refl, sym, ◌∙◌, subst, arith, rules}
+use Rattle.std.proofs.Common.{◌+◌, ◌-◌, ◌≤◌, ◌≡◌, ℕ, List, length, Option, refl, sym, ◌∙◌, subst, arith}
 use Rattle.mdv_shelf.specs.Tale.{Tale}
 use Rattle.mdv_shelf.specs.Calls.{InDrive, OnDrive}
 use Rattle.mdv_shelf.specs.Moments.{Ends, Moments}
@@ -6,7 +6,6 @@ use Rattle.mdv_shelf.specs.Shelves.{DriveFailures}
 use Rattle.mdv_shelf.proofs.InTime.{kept_on_call}
 use Rattle.mdv_map.specs.Maps.{Map}
 use Rattle.mdv_map.specs.Requests.{AreRead, Rewriting}
-use Rattle.mdv_dev.specs.Below.{FailedOn}
 use Rattle.mdv_dev.specs.Works.{LeavesBuffer, HasRoom, HasDoneOf, HasSyncedOf, written_of, is_turn, news}
 use Rattle.mdv_dev.specs.Pieces.{is_start}
 use Rattle.mdv_dev.specs.declared.work.WorkKind.{WorkKind}
@@ -56,8 +55,8 @@ write-requires g c =
     let there = in_drive v (w.at + w.done) (w.count - w.done) c.piece-piece.result c.piece-piece.ensures (g.S.Shelf.sizes c.args.shelf.now) c.requires.on (let within = c.requires.open.within in omega arith) in
     subst (λ (n : ℕ). InDrive (g.S.Shelf.sizes c.args.shelf.now) c.piece-piece.result.drive.0 c.piece-piece.result.block n) (sym (part_long w.done count c.args.from.now (omega arith))) there
 
-pub returns-in_err-write-clause-moments : goal.returns-in_err-write-clause-moments
-returns-in_err-write-clause-moments g c =
+pub returns-in-Err-clause-moments : goal.returns-in-Err-clause-moments
+returns-in-Err-clause-moments g c =
     let v = g.D.Placed.map c.args.device.now in
     let w = c.args.work.now in
     let count = c.piece-piece.result.count in
@@ -72,8 +71,8 @@ returns-in_err-write-clause-moments g c =
       still = not_read w.kind _ c.requires.kind;
     }
 
-pub returns-in_err-write-clause-done : goal.returns-in_err-write-clause-done
-returns-in_err-write-clause-done g c =
+pub returns-in-Err-clause-done : goal.returns-in-Err-clause-done
+returns-in-Err-clause-done g c =
     let v = g.D.Placed.map c.args.device.now in
     let w = c.args.work.now in
     let count = c.piece-piece.result.count in
@@ -86,28 +85,28 @@ returns-in_err-write-clause-done g c =
     (write_keeps v w.at w.done w.count c.piece-piece.result c.piece-piece.ensures c.requires.disjoint c.requires.open.within some _ c.args.from.now (part_long w.done count c.args.from.now fits) room (part_is w.done count c.args.from.now fits)
     (g.S.Shelf.tale c.args.shelf.now) (g.S.Shelf.tale c.write.new.self) _ c.write.ensures.writes))
 
-pub returns-in_err-write-clause-turned : goal.returns-in_err-write-clause-turned
-returns-in_err-write-clause-turned g c =
+pub returns-in-Err-clause-turned : goal.returns-in-Err-clause-turned
+returns-in-Err-clause-turned g c =
     let v = g.D.Placed.map c.args.device.now in
     let w = c.args.work.now in
     let some = c.piece-piece.ensures.some in
     let here = drive_here v w.at w.done w.count c.piece-piece.result c.piece-piece.ensures w.done (omega arith) (omega arith) in
     let on = kept_on_call g.S.Shelf (OnDrive c.piece-piece.result.drive.0) _ _ c.write.ensures.noted c.write.ensures.keeps c.write.ensures.cause.others in
-    missed v (DriveFailures g.S.Shelf c.args.shelf.now c.write.new.self) w c.args.from.now c.args.from.now c.from_residual.result (same_buffer w.kind c.args.from.now c.requires.kind) refl (search rules) c.requires.open.some_left c.requires.open.begins
-    (subst (λ (d : ℕ). FailedOn d (DriveFailures g.S.Shelf c.args.shelf.now c.write.new.self)) (sym here) (failed_on g.S.Shelf _ _ c.piece-piece.result.drive.0 on c.in_err-write.ensures.cause.own.failed))
+    missed v (DriveFailures g.S.Shelf c.args.shelf.now c.write.new.self) w c.args.from.now c.args.from.now c.piece-piece.result.drive (same_buffer w.kind c.args.from.now c.requires.kind) refl c.requires.open.some_left c.requires.open.begins
+    (sym here) (failed_on g.S.Shelf _ _ c.piece-piece.result.drive.0 on c.in-Err.ensures.cause.own.failed)
 
-pub returns-in_err-write-clause-counted : goal.returns-in_err-write-clause-counted
-returns-in_err-write-clause-counted g c =
+pub returns-in-Err-clause-counted : goal.returns-in-Err-clause-counted
+returns-in-Err-clause-counted g c =
     let w = c.args.work.now in
     let count = c.piece-piece.result.count in
     let room = same_room w.kind w.count (length c.args.from.now) c.requires.kind c.requires.open.buffer in
     let few = c.piece-piece.ensures.within in
     let some = c.requires.open.some_left in
     let long = part_long w.done count c.args.from.now (omega arith) in
-    turn_missed g.S.Shelf c.args.shelf.now c.write.new.self w w _ c.write.ensures.counted (written_few w.kind _ _ c.requires.kind (omega arith)) c.from_residual.result (search rules)
+    turn_missed g.S.Shelf c.args.shelf.now c.write.new.self w w _ c.write.ensures.counted (written_few w.kind _ _ c.requires.kind (omega arith)) c.piece-piece.result.drive
 
-pub returns-in_err-write-clause-kept : goal.returns-in_err-write-clause-kept
-returns-in_err-write-clause-kept g c =
+pub returns-in-Err-clause-kept : goal.returns-in-Err-clause-kept
+returns-in-Err-clause-kept g c =
     let v = g.D.Placed.map c.args.device.now in
     let w = c.args.work.now in
     let some = c.piece-piece.ensures.some in
@@ -115,8 +114,8 @@ returns-in_err-write-clause-kept g c =
     drives_of_on g.S.Shelf _ _ v w.at w.count c.piece-piece.result.drive.0 (has_at v w.at w.count w.done c.piece-piece.result.drive.0 c.requires.open.some_left here)
     (kept_on_call g.S.Shelf (OnDrive c.piece-piece.result.drive.0) _ _ c.write.ensures.noted c.write.ensures.keeps c.write.ensures.cause.others)
 
-pub returns-clause-moments : goal.returns-clause-moments
-returns-clause-moments g c =
+pub returns-in-Ok-clause-moments : goal.returns-in-Ok-clause-moments
+returns-in-Ok-clause-moments g c =
     let v = g.D.Placed.map c.args.device.now in
     let w = c.args.work.now in
     let count = c.piece-piece.result.count in
@@ -131,8 +130,8 @@ returns-clause-moments g c =
       still = not_read w.kind _ c.requires.kind;
     }
 
-pub returns-clause-done : goal.returns-clause-done
-returns-clause-done g c =
+pub returns-in-Ok-clause-done : goal.returns-in-Ok-clause-done
+returns-in-Ok-clause-done g c =
     let v = g.D.Placed.map c.args.device.now in
     let w = c.args.work.now in
     let count = c.piece-piece.result.count in
@@ -143,10 +142,10 @@ returns-clause-done g c =
     carry_ends v w (record w { done = w.done + count }) c.args.from.now c.args.from.now (g.S.Shelf.tale c.args.shelf.now) (g.S.Shelf.tale c.write.new.self)
     (done_of w.kind c.requires.kind v w.at w.count w.done (w.done + count) c.args.from.now (g.S.Shelf.tale c.args.shelf.now) (g.S.Shelf.tale c.write.new.self)
     (write_reads v w.at w.done w.count c.piece-piece.result c.piece-piece.ensures c.requires.disjoint c.requires.open.within some _ c.args.from.now (part_long w.done count c.args.from.now fits) room (part_is w.done count c.args.from.now fits)
-    (g.S.Shelf.tale c.args.shelf.now) (g.S.Shelf.tale c.write.new.self) c.in_ok-write.ensures.writes))
+    (g.S.Shelf.tale c.args.shelf.now) (g.S.Shelf.tale c.write.new.self) c.in-Ok.ensures.writes))
 
-pub returns-clause-turned : goal.returns-clause-turned
-returns-clause-turned g c =
+pub returns-in-Ok-clause-turned : goal.returns-in-Ok-clause-turned
+returns-in-Ok-clause-turned g c =
     let v = g.D.Placed.map c.args.device.now in
     let w = c.args.work.now in
     let count = c.piece-piece.result.count in
@@ -155,10 +154,10 @@ returns-clause-turned g c =
     turned v (DriveFailures g.S.Shelf c.args.shelf.now c.write.new.self) w c.args.from.now c.args.from.now (same_buffer w.kind c.args.from.now c.requires.kind) refl tt (w.done + count) refl (omega arith) (let few = c.piece-piece.ensures.within in let left = c.requires.open.some_left in omega arith) c.requires.open.begins
     (λ j above below. turn_is w.kind v w.at j c.requires.kind ∙ starts_in v w.at w.done w.count c.piece-piece.result c.piece-piece.ensures j above below)
     (λ below. turn_is w.kind v w.at (w.done + count) c.requires.kind ∙ starts_next v w.at w.done w.count c.piece-piece.result c.piece-piece.ensures below)
-    (calm_on g.S.Shelf _ _ c.piece-piece.result.drive.0 on c.in_ok-write.ensures.cause.own.calm)
+    (calm_on g.S.Shelf _ _ c.piece-piece.result.drive.0 on c.in-Ok.ensures.cause.own.calm)
 
-pub returns-clause-counted : goal.returns-clause-counted
-returns-clause-counted g c =
+pub returns-in-Ok-clause-counted : goal.returns-in-Ok-clause-counted
+returns-in-Ok-clause-counted g c =
     let w = c.args.work.now in
     let count = c.piece-piece.result.count in
     let room = same_room w.kind w.count (length c.args.from.now) c.requires.kind c.requires.open.buffer in
@@ -167,8 +166,8 @@ returns-clause-counted g c =
     let long = part_long w.done count c.args.from.now (omega arith) in
     turn_counted g.S.Shelf c.args.shelf.now c.write.new.self w (record w { done = w.done + count }) _ c.write.ensures.counted (written_few w.kind _ _ c.requires.kind (omega arith)) tt (written_is w.kind _ _ c.requires.kind (omega arith))
 
-pub returns-clause-kept : goal.returns-clause-kept
-returns-clause-kept g c =
+pub returns-in-Ok-clause-kept : goal.returns-in-Ok-clause-kept
+returns-in-Ok-clause-kept g c =
     let v = g.D.Placed.map c.args.device.now in
     let w = c.args.work.now in
     let some = c.piece-piece.ensures.some in

@@ -16,8 +16,8 @@ returns g c = λ o is.
     let v = c.args.self.now in
     let came = c.change_places.result in
     let same = one_open v.state c.in-Some.store o (ap (λ (e : Engine). e.state.opened) (sym c.self.view_is) ∙ c.in-Some.is) is in
-    subst (λ (x : Opened). HasChanged g.S.Shelf c.args.shelf.now c.change_places.new.shelf v x (asked_of c.args.asked.now) came (record { host = c.self.inside.0.0; state = record { opened = Some c.change_places.new.store; up = c.self.inside.0.1.0.up; clean = c.self.inside.0.1.0.clean; begun = c.self.inside.0.1.0.begun; entries = c.self.inside.0.1.0.entries.items } })) same
-    (subst (λ (e : Engine). HasChanged g.S.Shelf c.args.shelf.now c.change_places.new.shelf e c.in-Some.store (asked_of c.args.asked.now) came (record { host = c.self.inside.0.0; state = record { opened = Some c.change_places.new.store; up = c.self.inside.0.1.0.up; clean = c.self.inside.0.1.0.clean; begun = c.self.inside.0.1.0.begun; entries = c.self.inside.0.1.0.entries.items } })) c.self.view_is
+    subst (λ (x : Opened). HasChanged g.S.Shelf c.args.shelf.now c.change_places.new.shelf v x (asked_of c.args.asked.now) came (record { host = c.self.inside.0.0; state = record { opened = Some c.change_places.new.store; up = c.self.inside.0.1.0.up; unsteady = c.self.inside.0.1.0.unsteady; clean = c.self.inside.0.1.0.clean; begun = c.self.inside.0.1.0.begun; entries = c.self.inside.0.1.0.entries.items } })) same
+    (subst (λ (e : Engine). HasChanged g.S.Shelf c.args.shelf.now c.change_places.new.shelf e c.in-Some.store (asked_of c.args.asked.now) came (record { host = c.self.inside.0.0; state = record { opened = Some c.change_places.new.store; up = c.self.inside.0.1.0.up; unsteady = c.self.inside.0.1.0.unsteady; clean = c.self.inside.0.1.0.clean; begun = c.self.inside.0.1.0.begun; entries = c.self.inside.0.1.0.entries.items } })) c.self.view_is
     (record {
       now = c.change_places.new.store;
       is = refl;

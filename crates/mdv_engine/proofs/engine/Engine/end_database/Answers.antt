@@ -15,14 +15,14 @@ pub returns-in-Ok : goal.returns-in-Ok
 returns-in-Ok g c = λ o is.
     let v = c.args.self.now in
     let same = one_open v.state c.in-Some.store o (ap (λ (e : Engine). e.state.opened) (sym c.self.view_is) ∙ sym c.take.ensures.value ∙ c.in-Some.is) is in
-    subst (λ (x : Opened). HasClosed g.S.Shelf c.args.shelf.now c.end.new.shelf v x accepted (record { host = c.self.inside.0.0; state = record { opened = c.take.new.self; up = c.self.inside.0.1.0.up; clean = c.self.inside.0.1.0.clean; begun = c.self.inside.0.1.0.begun; entries = c.self.inside.0.1.0.entries.items } })) same
-    (gone c.end.ensures.moments refl (subst (λ (e : Engine). record { host = c.self.inside.0.0; state = record { opened = c.take.new.self; up = c.self.inside.0.1.0.up; clean = c.self.inside.0.1.0.clean; begun = c.self.inside.0.1.0.begun; entries = c.self.inside.0.1.0.entries.items } } ≡ record e { state = record e.state { opened = None } }) c.self.view_is
-    (λ i. record { host = c.self.inside.0.0; state = record { opened = c.take.ensures.after i; up = c.self.inside.0.1.0.up; clean = c.self.inside.0.1.0.clean; begun = c.self.inside.0.1.0.begun; entries = c.self.inside.0.1.0.entries.items } })) c.in-Ok.ensures.answer c.in-Ok.ensures.end)
+    subst (λ (x : Opened). HasClosed g.S.Shelf c.args.shelf.now c.end.new.shelf v x accepted (record { host = c.self.inside.0.0; state = record { opened = c.take.new.self; up = c.self.inside.0.1.0.up; unsteady = c.self.inside.0.1.0.unsteady; clean = c.self.inside.0.1.0.clean; begun = c.self.inside.0.1.0.begun; entries = c.self.inside.0.1.0.entries.items } })) same
+    (gone c.end.ensures.moments refl (subst (λ (e : Engine). record { host = c.self.inside.0.0; state = record { opened = c.take.new.self; up = c.self.inside.0.1.0.up; unsteady = c.self.inside.0.1.0.unsteady; clean = c.self.inside.0.1.0.clean; begun = c.self.inside.0.1.0.begun; entries = c.self.inside.0.1.0.entries.items } } ≡ record e { state = record e.state { opened = None } }) c.self.view_is
+    (λ i. record { host = c.self.inside.0.0; state = record { opened = c.take.ensures.after i; up = c.self.inside.0.1.0.up; unsteady = c.self.inside.0.1.0.unsteady; clean = c.self.inside.0.1.0.clean; begun = c.self.inside.0.1.0.begun; entries = c.self.inside.0.1.0.entries.items } })) c.in-Ok.ensures.answer c.in-Ok.ensures.end)
 
 pub returns-in-Err : goal.returns-in-Err
 returns-in-Err g c = λ o is.
     let v = c.args.self.now in
     let same = one_open v.state c.in-Some.store o (ap (λ (e : Engine). e.state.opened) (sym c.self.view_is) ∙ sym c.take.ensures.value ∙ c.in-Some.is) is in
-    subst (λ (x : Opened). HasClosed g.S.Shelf c.args.shelf.now c.end.new.shelf v x (refusing IoFault) (record { host = c.self.inside.0.0; state = record { opened = c.take.new.self; up = c.self.inside.0.1.0.up; clean = false; begun = c.self.inside.0.1.0.begun; entries = c.self.inside.0.1.0.entries.items } })) same
-    (torn c.end.ensures.moments refl (subst (λ (e : Engine). record { host = c.self.inside.0.0; state = record { opened = c.take.new.self; up = c.self.inside.0.1.0.up; clean = false; begun = c.self.inside.0.1.0.begun; entries = c.self.inside.0.1.0.entries.items } } ≡ record e { state = record e.state { opened = None; clean = false } }) c.self.view_is
-    (λ i. record { host = c.self.inside.0.0; state = record { opened = c.take.ensures.after i; up = c.self.inside.0.1.0.up; clean = false; begun = c.self.inside.0.1.0.begun; entries = c.self.inside.0.1.0.entries.items } })) c.in-Err.field-0 c.in-Err.ensures.answer)
+    subst (λ (x : Opened). HasClosed g.S.Shelf c.args.shelf.now c.end.new.shelf v x (refusing IoFault) (record { host = c.self.inside.0.0; state = record { opened = c.take.new.self; up = c.self.inside.0.1.0.up; unsteady = c.self.inside.0.1.0.unsteady; clean = false; begun = c.self.inside.0.1.0.begun; entries = c.self.inside.0.1.0.entries.items } })) same
+    (torn c.end.ensures.moments refl (subst (λ (e : Engine). record { host = c.self.inside.0.0; state = record { opened = c.take.new.self; up = c.self.inside.0.1.0.up; unsteady = c.self.inside.0.1.0.unsteady; clean = false; begun = c.self.inside.0.1.0.begun; entries = c.self.inside.0.1.0.entries.items } } ≡ record e { state = record e.state { opened = None; clean = false } }) c.self.view_is
+    (λ i. record { host = c.self.inside.0.0; state = record { opened = c.take.ensures.after i; up = c.self.inside.0.1.0.up; unsteady = c.self.inside.0.1.0.unsteady; clean = false; begun = c.self.inside.0.1.0.begun; entries = c.self.inside.0.1.0.entries.items } })) c.in-Err.field-0 c.in-Err.ensures.answer)

@@ -18,7 +18,7 @@ use Rattle.mdv_engine_law.specs.Replies.{IsLost}
 use Rattle.mdv_engine_law.specs.Commands.{MaySpend, blame_of}
 use Rattle.mdv_shelf.specs.Shelves.{DriveFailures}
 use Rattle.mdv_engine.proofs.Asked.{asked_goes, asked_replies, asked_then}
-use Rattle.mdv_engine.proofs.Counting.{calm_given, command_calls, command_most, done_told, replied_calls, then_told, done_then, fault_then, fault_told, halted_told, lost_told, mere_most, none_within, not_lost, quiet_answer, quiet_told, said_of, spent_told, told_lost, told_ok, told_refusal, unlooked_told, unwritten_told, wanting_told, whole_or_lost}
+use Rattle.mdv_engine.proofs.Counting.{calm_given, command_calls, command_most, done_told, replied_calls, then_told, done_then, fault_then, fault_told, halted_told, lost_told, mere_few, none_within, not_lost, quiet_answer, quiet_told, said_of, spent_told, told_lost, told_ok, told_refusal, unlooked_told, unwritten_told, wanting_told, whole_or_lost}
 use Rattle.mdv_engine.proofs.Ending.{leaves_more}
 use Rattle.mdv_engine.proofs.Losing.{site_more}
 use Rattle.mdv_engine.proofs.engine.Engine.exec.Goals as goal
@@ -135,7 +135,7 @@ returns-clause-counted g c =
     record {
       most = then_told g.B.Shelf _ _ _ c.tell.result _ _ (command_most g.B.Shelf _ _ host command before now answer by) c.tell.ensures.counted;
       few = elim c.carry_out-answer.ensures.answer.few [
-        | inl mere ↦ inl (then_told g.B.Shelf _ _ _ c.tell.result 1 0 (mere_most g.B.Shelf _ _ host command before now answer mere by) c.tell.ensures.counted)
+        | inl mere ↦ elim (mere_few g.B.Shelf _ _ host command before now answer mere by) [ inl one ↦ inl (then_told g.B.Shelf _ _ _ c.tell.result 1 0 one c.tell.ensures.counted) | inr few ↦ inr few ]
         | inr few ↦ inr few
       ];
       done = λ is. done_then g.B.Shelf _ _ _ host command before now calls all within (done_told g.B.Shelf _ _ host command before now _ answer piece (rw is at answers) by).exactly (c.tell.ensures.counted.once (λ lost. subst IsLost is lost));

@@ -1,6 +1,7 @@
-use Rattle.std.proofs.Common.{◌+◌, arith, refl, sym, ap, ◌∙◌}
+use Rattle.std.proofs.Common.{◌+◌, arith, sym, ap, ◌∙◌}
 use Rattle.mdv_engine.specs.declared.engine.Engine.{Engine}
-use Rattle.mdv_engine.proofs.Located.{no_volume, past_its_end, volume_on, within_it}
+use Rattle.mdv_engine.proofs.Located.{map_is, no_volume, past_its_end, within_it}
+use Rattle.mdv_engine.specs.Placed.{map_of_run}
 use Rattle.mdv_engine.proofs.engine.Engine.place_of.Goals as goal
 use Rattle.mdv_engine.proofs.engine.Engine.place_of.Goals.{then-at-run-via-then-at-run, then-at-run-via-else-at-run+then-count-run}
 
@@ -15,15 +16,14 @@ returns-then-at-run-clause-err c =
 
 pub returns-clause-ok : goal.returns-clause-ok
 returns-clause-ok c = record {
-  first = c.run_of-run.result.first;
-  blocks = c.run_of-run.result.count;
-  lies = volume_on c.args.self.now.host c.args.self.now.state c.requires.well c.in-Some.store (sym (ap (λ (e : Engine). e.state.opened) c.self.view_is) ∙ c.in-Some.is) c.table.result.now c.table.ensures c.args.volume c.in-Some-find.volume.now c.in-Some-find.ensures.value c.run_of-run.result.drive.0 c.run_of-run.result.first c.run_of-run.result.count c.run_of-run.ensures.lies;
+  o = c.in-Some.store;
+  opened = sym (ap (λ (e : Engine). e.state.opened) c.self.view_is) ∙ c.in-Some.is;
+  lies = map_is c.args.self.now.host c.args.self.now.state c.requires.well c.in-Some.store (sym (ap (λ (e : Engine). e.state.opened) c.self.view_is) ∙ c.in-Some.is) c.table.result.now c.table.ensures c.args.volume c.in-Some-find.volume.now c.in-Some-find.ensures.value (map_of_run c.run_of-run.result) c.run_of-run.ensures.lies;
   within = omega arith;
-  block_is = refl;
 }
 
 pub returns-clause-within : goal.returns-clause-within
-returns-clause-within c = record { room = omega arith; lies = c.run_of-run.ensures.within }
+returns-clause-within c = record { room = omega arith; run_in = c.run_of-run.ensures.within }
 
 pub returns-clause-free : goal.returns-clause-free
 returns-clause-free c =

@@ -3,12 +3,12 @@ use Rattle.mdv_engine_law.specs.Commands as came
 use Rattle.mdv_engine_law.specs.Line.{ToSee}
 use Rattle.mdv_words.specs.declared.command.Command.TheVariants as command
 use Rattle.mdv_shelf.specs.Shelves.{DriveFailures}
-use Rattle.mdv_engine.specs.Below.{key_of, values_reply}
+use Rattle.mdv_engine.specs.Below.{key_of}
 use Rattle.mdv_engine_law.specs.Answers.{telling}
 use Rattle.mdv_engine_law.specs.declared.answer.Outcome.TheVariants as outcome
 use Rattle.mdv_engine_law.proofs.Transfer.{saw}
 use Rattle.mdv_engine.proofs.Blocks.{moments_still, refused_carried, unread_line, unread_cause, unread_plain}
-use Rattle.mdv_engine.proofs.Counting.{exactly_most}
+use Rattle.mdv_engine.proofs.Counting.{exactly_most, in_most}
 use Rattle.mdv_engine.proofs.Ending.{command_ends, refused_answer}
 use Rattle.mdv_engine.proofs.engine.Engine.read.Goals as goal
 
@@ -19,8 +19,8 @@ pub returns-in-Ok-clause-end : goal.returns-in-Ok-clause-end
 returns-in-Ok-clause-end g c =
     let read = c.in-Ok.ensures.ok in
     command_ends _ c.args.self.now _ (command.Read c.args.volume c.args.at c.args.count) (outcome.Values c.in-Ok.text) c.args.self.now _ _
-    (λ t start. (t, c.values.ensures.same ∙ start, λ known. came.done read.allowed (read.calm, read.place, read.there, ap telling (read.as_told ∙ ap (values_reply c.args.at) (read.as_there t start)), record { memory = refl; content = λ drive block. refl })))
-    (λ t start. (t, c.values.ensures.same ∙ start, saw c.args.self.now.host (g.S.Shelf.sizes c.args.shelf.now) c.requires.ready c.args.self.now.state c.args.volume c.args.at c.args.count read.place (omega arith) read.there t c.in-Ok.text (read.as_told ∙ ap (values_reply c.args.at) (read.as_there t start))))
+    (λ t start. (t, c.values.ensures.same ∙ start, λ known. came.done read.allowed (read.calm, read.map, read.there, read.blocks, (read.as_there t start).0, (read.as_there t start).1, ap telling read.as_told, record { memory = refl; content = λ drive block. refl })))
+    (λ t start. (t, c.values.ensures.same ∙ start, saw c.args.self.now.host (g.S.Shelf.sizes c.args.shelf.now) c.requires.ready c.args.self.now.state c.args.volume c.args.at c.args.count read.map (omega arith) read.there t c.in-Ok.text read.blocks (read.as_there t start).0 (read.as_there t start).1 read.as_told))
     (λ on u. tt) (λ is u. tt)
 
 pub returns-in-Ok-clause-answer : goal.returns-in-Ok-clause-answer
@@ -54,4 +54,10 @@ returns-in-Err-clause-end g c =
     (λ on u. tt) (λ is u. tt)
 
 pub returns-in-Ok-clause-counted : goal.returns-in-Ok-clause-counted
-returns-in-Ok-clause-counted g c = record { exactly = c.in-Ok.ensures.counted; most = exactly_most g.S.Shelf _ _ c.args.self.now.host 1 0 c.in-Ok.ensures.counted; wrote = tt }
+returns-in-Ok-clause-counted g c =
+    let counted = c.in-Ok.ensures.counted in
+    let host = c.args.self.now.host in record {
+      exactly = counted.0;
+      most = in_most g.S.Shelf _ _ host c.args.volume c.args.at c.args.count c.args.self.now.state.opened counted.1 (exactly_most g.S.Shelf _ _ host _ 0 counted.0);
+      wrote = tt;
+    }
