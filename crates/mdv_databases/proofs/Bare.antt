@@ -5,7 +5,7 @@ use Rattle.mdv_places.proofs.Staying.{have_open}
 use Rattle.mdv_places.specs.Ending.{EndEnds, IsSole}
 use Rattle.mdv_places.specs.Moments.{IsFront, StandsOpen}
 use Rattle.mdv_places.specs.Asked.{KeepsFirst}
-use Rattle.mdv_record.specs.Parsing.{read_of}
+use Rattle.mdv_encoding.specs.Parsing.{read_of}
 use Rattle.mdv_replica.proofs.Leaving.{leaves_settled}
 use Rattle.mdv_replica.specs.Form.{shows}
 use Rattle.mdv_replica.specs.Images.{Wipes}
@@ -27,7 +27,7 @@ use Rattle.mdv_standing.specs.Matching.{spot_in, spots_of as lists_of_spots}
 use Rattle.mdv_store.specs.Seats.{replicas_of, spot_of}
 use Rattle.mdv_store.proofs.Sitting.{contains_first}
 use Rattle.mdv_survey.specs.Replica.{at_of}
-use Rattle.mdv_table.specs.Plan.{last_of, places_of}
+use Rattle.mdv_config.specs.Lists.{last_of, places_of}
 use Rattle.mdv_votes.proofs.Meeting.{same_is}
 use Rattle.mdv_databases.specs.Below.{Geometry, Image, IsImage, IsOpenedAt, Lists, One, Opened, Place, Replica, Seat, SliceAt, SliceLine, Spells, Tale, site_of, slice_at}
 use Rattle.mdv_databases.specs.Ending.{ShowsThere}

@@ -4,7 +4,7 @@ use Rattle.std.proofs.lemmas.Bool.{cases_Bool, false≢true}
 use Rattle.mdv_shelf.specs.Area.{nowhere}
 use Rattle.mdv_shelf.specs.Tale.{last}
 use Rattle.mdv_shelf.proofs.Everywhere.{everywhere_kept, last_image}
-use Rattle.mdv_record.specs.Parsing.{read_of}
+use Rattle.mdv_encoding.specs.Parsing.{read_of}
 use Rattle.mdv_shown.proofs.Sites.{site_is}
 use Rattle.mdv_shown.proofs.Slots.{reads_one}
 use Rattle.mdv_shown.specs.Choice.{Seen, spots_seen}

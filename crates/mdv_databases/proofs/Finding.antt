@@ -5,10 +5,10 @@ use Rattle.std.specs.Prelude.{count_by, nat_le}
 use Rattle.std.proofs.lemmas.Bool.{and_from, cases_Bool, cases_lt, cond-true, false≢true, le-leb, lt-ltb}
 use Rattle.std.proofs.lemmas.List.Folds.{list_any_at}
 use Rattle.mdv_name.specs.Sound.{IsSound}
-use Rattle.mdv_record.proofs.Lengths.{length-record_text}
-use Rattle.mdv_record.specs.Parsing.{read_of}
-use Rattle.mdv_record.specs.Record.{IsRecordOf}
-use Rattle.mdv_record.specs.Text.{record_text}
+use Rattle.mdv_encoding.proofs.Lengths.{length-record_text}
+use Rattle.mdv_encoding.specs.Parsing.{read_of}
+use Rattle.mdv_encoding.specs.Record.{IsRecordOf}
+use Rattle.mdv_encoding.specs.Text.{record_bytes}
 use Rattle.mdv_shelf.proofs.Everywhere.{last_image}
 use Rattle.mdv_shelf.proofs.Moments.{some_is}
 use Rattle.mdv_shelf.specs.Tale.{last}
@@ -57,10 +57,10 @@ use Rattle.mdv_survey.specs.Replica.{at_of}
 use Rattle.mdv_survey.specs.Survey.{IsSurvey, IsSurveyOf, answers_in}
 use Rattle.mdv_survey.specs.declared.replica.Newest.{Newest}
 use Rattle.mdv_survey.specs.declared.replica.Survey.{Survey}
-use Rattle.mdv_table.proofs.Testing.{same_place-true}
-use Rattle.mdv_table.specs.Plan.{first_of, last_of, places_of}
-use Rattle.mdv_table.specs.Table.{IsListsOf}
-use Rattle.mdv_table.specs.declared.plan.Lists.{Lists}
+use Rattle.mdv_config.proofs.Testing.{same_place-true}
+use Rattle.mdv_config.specs.Lists.{first_of, last_of, places_of}
+use Rattle.mdv_config.specs.Table.{IsListsOf}
+use Rattle.mdv_plan.specs.declared.lists.Lists.{Lists}
 use Rattle.mdv_base.specs.DriveSet.{Drives}
 use Rattle.mdv_base.specs.declared.drive.SliceName.{SliceName}
 use Rattle.mdv_store.specs.declared.seats.Need.TheVariants.{More}
@@ -180,7 +180,7 @@ module _ (g : Geometry) (all : List Database) (key : Key) (up : Drives) (survey 
     places = places_of newest.table.plan.lists
 
     abbrev text : ℕ
-    text = blocks_for (length (record_text newest.table))
+    text = blocks_for (record_bytes newest.table)
 
     abbrev seats : List Seat
     seats = seats_of rs identity text places
@@ -548,7 +548,7 @@ module _ (g : Geometry) (all : List Database) (key : Key) (up : Drives) (survey 
       unfolding is_current_one
       none_fail = fails_nowhere newest newest_is replica the is_current_one d_lives places_there most_read
 
-      none_full : (share : Share) → short_of More (seats_of rs (identity newest newest_is replica the) (blocks_for (length (record_text newest.table))) (places_of newest.table.plan.lists)) newest.table.plan.lists ≡ Some share → ⊥
+      none_full : (share : Share) → short_of More (seats_of rs (identity newest newest_is replica the) (blocks_for (record_bytes newest.table)) (places_of newest.table.plan.lists)) newest.table.plan.lists ≡ Some share → ⊥
       unfolding is_current_one
       none_full = has_room newest newest_is replica the is_current_one d_lives places_there most_read
 

@@ -26,8 +26,8 @@ use Rattle.mdv_store_law.specs.Log.{Version, is_firm}
 use Rattle.mdv_survey.specs.Replica.{IsFoundIn}
 use Rattle.mdv_votes.proofs.Quorums.{seats_itself, writes_meet_reads}
 use Rattle.mdv_votes.specs.Laws.{Shares}
-use Rattle.mdv_table.specs.Plan.{first_of}
-use Rattle.mdv_table.specs.declared.plan.Lists.{Lists}
+use Rattle.mdv_config.specs.Lists.{first_of}
+use Rattle.mdv_plan.specs.declared.lists.Lists.{Lists}
 use Rattle.mdv_store.proofs.Shares.{in_first}
 use Rattle.mdv_databases.specs.Below.{Core, Database, Geometry, Identity, Key, Log, One, Place, Two, Replica, SliceAt, Spells, Tale, current_of, last, log_of, site_of, slice_at}
 use Rattle.mdv_databases.specs.Meeting.{ListsLieOn, MayBeFound, is_on}

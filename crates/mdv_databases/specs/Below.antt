@@ -26,7 +26,7 @@ pub use Rattle.mdv_store.specs.Records.{Spells}
 pub use Rattle.mdv_store.specs.Seats.{spots_of}
 pub use Rattle.mdv_store.specs.declared.seats.Seat.{Seat}
 pub use Rattle.mdv_survey.specs.declared.replica.Replica.{Replica}
-pub use Rattle.mdv_table.specs.Table.{IsOfGeometry}
-pub use Rattle.mdv_table.specs.declared.plan.Lists.{Lists}
-pub use Rattle.mdv_table.specs.declared.plan.Lists.TheVariants.{One, Two}
-pub use Rattle.mdv_table.specs.declared.table.Table.{Table}
+pub use Rattle.mdv_config.specs.Table.{IsOfGeometry}
+pub use Rattle.mdv_plan.specs.declared.lists.Lists.{Lists}
+pub use Rattle.mdv_plan.specs.declared.lists.Lists.TheVariants.{One, Two}
+pub use Rattle.mdv_plan.specs.declared.table.Table.{Table}

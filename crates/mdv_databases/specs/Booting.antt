@@ -12,7 +12,7 @@ use Rattle.mdv_shown.specs.Choice.{Seen}
 use Rattle.mdv_standing.specs.Below.{Mark}
 use Rattle.mdv_standing.specs.Matching.{HasStaleVote}
 use Rattle.mdv_store_law.specs.Log.{Lives, Over, Version}
-use Rattle.mdv_table.specs.Plan.{first_of, last_of}
+use Rattle.mdv_config.specs.Lists.{first_of, last_of}
 use Rattle.mdv_survey.specs.declared.replica.Newest.{Newest}
 use Rattle.mdv_survey.specs.declared.replica.Survey.{Survey}
 use Rattle.mdv_databases.specs.Below.{Database, Geometry, Identity, Image, IsSound, Key, Lists, Opened, Place, SliceLine, Tale, last, log_of, site_of}

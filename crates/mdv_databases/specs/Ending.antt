@@ -9,7 +9,7 @@ use Rattle.mdv_replica.specs.declared.replica.Head.{Head}
 use Rattle.mdv_shelf.specs.Everywhere.{Everywhere}
 use Rattle.mdv_shown.specs.Found.{IsFound}
 use Rattle.mdv_store_law.specs.Log.{Clearing, EndAlone, Ends, Gone, Over}
-use Rattle.mdv_table.specs.Plan.{last_of}
+use Rattle.mdv_config.specs.Lists.{last_of}
 use Rattle.mdv_databases.specs.Below.{Database, Geometry, Key, Opened, SliceLine, Spells, Tale, site_of}
 use Rattle.mdv_databases.specs.Going.{GoOnBy, IsOpenIn, with_events}
 use Rattle.mdv_databases.specs.Lasting.{AreFreed, HasNoTable}

@@ -7,7 +7,7 @@ use Rattle.mdv_base.specs.DriveSet.{Drives}
 use Rattle.mdv_store.specs.Boot.{IsShort}
 use Rattle.mdv_survey.specs.Survey.{IsSurvey, IsSurveyOf, answers_in}
 use Rattle.mdv_survey.specs.declared.replica.Survey.{Survey}
-use Rattle.mdv_table.specs.Plan.{first_of, last_of}
+use Rattle.mdv_config.specs.Lists.{first_of, last_of}
 use Rattle.mdv_databases.specs.Below.{Database, Geometry, IsSound, Key, Place, Replica, SliceAt, Tale, last, log_of, site_of, slice_at}
 use Rattle.mdv_databases.specs.Standing.{Stand}
 

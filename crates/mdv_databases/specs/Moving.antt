@@ -6,7 +6,7 @@ use Rattle.mdv_places.specs.Going.{IsMoving}
 use Rattle.mdv_places.specs.Moments.{AreOfSite, IsChangeOf, IsFront, IsLogOf, MoveEnds, MoveMoment}
 use Rattle.mdv_places.specs.declared.changing.PlacesFault.TheVariants as unmoved
 use Rattle.mdv_store.specs.Commit.{AnyLog, IsCommittedTo}
-use Rattle.mdv_table.specs.Plan.{last_of}
+use Rattle.mdv_config.specs.Lists.{last_of}
 use Rattle.mdv_databases.specs.Below.{Change, Database, Geometry, IsOfGeometry, Key, Opened, Place, SliceLine, Tale, asks_of, site_of}
 use Rattle.mdv_databases.specs.Creating.{MayBeTakenAt}
 use Rattle.mdv_databases.specs.Going.{GoOnBy, IsOpenIn, with_events}

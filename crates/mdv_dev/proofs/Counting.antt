@@ -1,5 +1,6 @@
 -- How many turns a stretch of blocks takes, and on which drives it lies.
 use Rattle.std.proofs.Common.{◌≡◌, ◌⊎◌, inl, inr, ℕ, zero, suc, ◌+◌, ◌<◌, ◌≤◌, Bool, true, false, not, ◌==◌, nat_lt, refl, sym, ◌∙◌, ap, subst, arith}
+use Rattle.std.proofs.lemmas.Bool.{cases_lt}
 use Rattle.std.proofs.lemmas.Bool.Decides.{nat_tests}
 use Rattle.mdv_shelf.proofs.Blocks.{both_ways}
 use Rattle.mdv_map.proofs.Covering.{either_of, one_of}
@@ -10,7 +11,7 @@ use Rattle.mdv_dev.specs.Pieces.{count_to, drive_of, has_drive, is_new}
 pub same_number : (a b : ℕ) → a == b ≡ true → a ≡ b
 same_number a b is = grind (arith, nat_tests)
 
-number_test : (a b : ℕ) → a ≡ b → a == b ≡ true
+pub number_test : (a b : ℕ) → a ≡ b → a == b ≡ true
 number_test a b is = grind (arith, nat_tests)
 
 pub not_false : (a : Bool) → not a ≡ false → a ≡ true
@@ -25,7 +26,7 @@ true_not a is = rw is
 
 module _ (test : ℕ → Bool) where
   -- where none passes the test, the count stays
-  count_still : (from to : ℕ) → from ≤ to → ((j : ℕ) → from ≤ j → j < to → test j ≡ false) → count_to test to ≡ count_to test from
+  pub count_still : (from to : ℕ) → from ≤ to → ((j : ℕ) → from ≤ j → j < to → test j ≡ false) → count_to test to ≡ count_to test from
   unfolding count_to
   count_still from zero le none = let same : zero ≡ from = omega arith in ap (count_to test) same
   count_still from (suc n) le none = elim (both_ways (nat_lt n from)) [
@@ -45,7 +46,38 @@ module _ (test : ℕ → Bool) where
       let still = count_still (suc from) to (omega arith) (λ j above below. none j (omega arith) below) in
       still ∙ rw first refl
 
+-- one number that passes a test, and is below another, is counted there and not before
+pub count_below : (test : ℕ → Bool) (k n : ℕ) → k < n → test k ≡ true → count_to test k + 1 ≤ count_to test n
+unfolding count_to
+count_below test k zero lt is = absurd (omega (arith, lt))
+count_below test k (suc n) lt is = elim (cases_lt k n) [
+  | inl below ↦ let before = count_below test k n below is in omega (arith, before)
+  | inr last_one ↦
+      let same : n ≡ k = omega (arith, lt, last_one) in
+      let counted : count_to test n ≡ count_to test k = ap (count_to test) same in
+      let here : test n ≡ true = ap test same ∙ is in rw here (omega (arith, counted))
+]
+
+-- what passes one test where it passes another is counted no oftener
+pub count_fewer : (one other : ℕ → Bool) → ((k : ℕ) → one k ≡ true → other k ≡ true) → (n : ℕ) → count_to one n ≤ count_to other n
+unfolding count_to
+count_fewer one other within zero = omega arith
+count_fewer one other within (suc n) =
+    let before = count_fewer one other within n in
+    elim (both_ways (one n)) [
+      | inl does ↦ let there = within n does in rw (does, there) (omega (arith, before))
+      | inr not ↦ rw not (omega (arith, before))
+    ]
+
 module _ (v : Map) (at : ℕ) where
+  pub no_drive : (drive : ℕ) → has_drive v at 0 drive ≡ false
+  unfolding has_drive
+  no_drive drive = refl
+
+  pub first_is_new : is_new v at 0 ≡ true
+  unfolding has_drive
+  first_is_new = refl
+
   -- a drive that one of the blocks lies on
   pub has_at : (n j drive : ℕ) → j < n → drive_of (v.copies (at + j)) ≡ drive → has_drive v at n drive ≡ true
   unfolding has_drive
@@ -57,6 +89,19 @@ module _ (v : Map) (at : ℕ) where
             let le = le_of_test j n not_below in
             let same : n ≡ j = omega arith in inl (number_test (drive_of (v.copies (at + n))) drive (ap (λ (i : ℕ). drive_of (v.copies (at + i))) same ∙ is))
       ])
+
+  -- and the block
+  pub has_which : (n drive : ℕ) → has_drive v at n drive ≡ true → (j : ℕ) × (j < n) × (drive_of (v.copies (at + j)) ≡ drive)
+  unfolding has_drive
+  has_which zero drive has = absurd (cc (has))
+  has_which (suc n) drive has = elim (one_of (drive_of (v.copies (at + n)) == drive) (has_drive v at n drive) has) [
+    | inl last ↦ (n, omega arith, same_number (drive_of (v.copies (at + n))) drive last)
+    | inr earlier ↦ let there = has_which n drive earlier in (there.0, omega (arith, there.1), there.2)
+  ]
+
+  -- more blocks lie on it too
+  pub has_grows : (n m drive : ℕ) → n ≤ m → has_drive v at n drive ≡ true → has_drive v at m drive ≡ true
+  has_grows n m drive le has = let there = has_which n drive has in has_at m there.0 drive (omega (arith, le, there.1)) there.2
 
   -- blocks on other drives don't make it one of theirs
   pub has_same : (n more drive : ℕ) → ((j : ℕ) → j < more → drive_of (v.copies (at + (n + j))) == drive ≡ false) → has_drive v at (n + more) drive ≡ has_drive v at n drive

@@ -9,7 +9,7 @@ use Rattle.mdv_shelf.proofs.Blocks.{both_ways}
 use Rattle.mdv_dev.specs.Below.{AreCalm, FailedOn}
 use Rattle.mdv_dev.proofs.Counting.{same_number}
 
-differ : (a b : ℕ) → (a == b) ≡ false → a ≡ b → ⊥
+pub differ : (a b : ℕ) → (a == b) ≡ false → a ≡ b → ⊥
 differ a b is same = grind (arith, nat_tests)
 
 -- calls on one drive

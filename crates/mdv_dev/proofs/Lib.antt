@@ -8,5 +8,7 @@ pub mod Chaining
 pub mod Turning
 pub mod Slicing
 pub mod Finishing
+pub mod Syncs
 pub mod Requesting
+pub mod Writing
 pub mod Runs

@@ -100,5 +100,12 @@ module _ (v : Map) (at done count : ℕ) (piece : Piece) (is : IsPiece v (at + d
         ]
   ]
 
+-- up to the next drive no block is on a new one
+pub seen_until : (v : Map) (at done count : ℕ) (piece : Piece) → IsPiece v (at + done) (count - done) piece → (end : ℕ) → ((k : ℕ) → done + piece.count ≤ k → k < end → is_new v at k ≡ false) → (j : ℕ) → done < j → j < end → is_new v at j ≡ false
+seen_until v at done count piece is end behind j above below = elim (both_ways (nat_lt j (done + piece.count))) [
+  | inl does ↦ seen_in v at done count piece is j above (lt_of_test j (done + piece.count) does)
+  | inr not ↦ behind j (le_of_test j (done + piece.count) not) below
+]
+
 pub other_drive : (a b c : ℕ) → a ≡ b → (b ≡ c → ⊥) → a == c ≡ false
 other_drive a b c is not = grind (arith, nat_tests)

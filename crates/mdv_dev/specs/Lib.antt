@@ -4,3 +4,5 @@ pub mod Together
 pub mod OneCopy
 pub mod Drives
 pub mod Works
+pub mod Writing
+pub mod Syncs

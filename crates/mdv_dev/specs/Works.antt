@@ -1,9 +1,9 @@
 -- Requests for blocks of a device: what one has done by now, and what a turn of it does.
-use Rattle.std.specs.Prelude.{◌≡◌, ◌⊎◌, ℕ, ◌+◌, ◌-◌, ◌<◌, ◌≤◌, Bool, true, List, [], length, take, drop, Result, IfErr, OnOk, OnErr}
+use Rattle.std.specs.Prelude.{◌≡◌, ℕ, ◌+◌, ◌-◌, ◌<◌, ◌≤◌, Bool, true, List, [], length, take, drop, Result, IfErr, OnOk, OnErr}
 use Rattle.mdv_shelf.specs.Shelves.{AtEachTale, DriveFailures}
 use Rattle.mdv_shelf.specs.declared.shelf.Shelf.{Ghosts}
 use Rattle.mdv_dev.specs.Below.{AllOnDisk, AllRead, AreCalm, AreRead, DriveNo, FailedOn, IsSynced, Map, OnDrives, Outcomes, Rewriting, Tale, Took, TookBetween}
-use Rattle.mdv_dev.specs.Pieces.{count_to, drive_of, drives, has_drive, is_new, is_start, pieces}
+use Rattle.mdv_dev.specs.Pieces.{count_to, drive_of, has_drive, is_new, is_start, pieces}
 use Rattle.mdv_dev.specs.declared.work.Work.{Work}
 use Rattle.mdv_dev.specs.declared.work.WorkKind.{WorkKind}
 use Rattle.mdv_dev.specs.declared.work.WorkKind.TheVariants.{Read, Write, Flush}
@@ -148,9 +148,3 @@ pub record TakesReads {S T : Type 0} (shelf : Ghosts S) (before now : S) (v : Ma
   pub calm : OnOk result (AreCalm (DriveFailures shelf before now))
   pub done : OnOk result (Took shelf.calls shelf.written before now (pieces v at count) 0)
   pub failed : IfErr result (λ drive. StopsAt shelf before now v Read at count 0 0 drive.0)
-
--- a whole write: a call for each piece, and then one for each drive, up to the first that fails, on the drive that is told
-pub record TakesWrites {S T : Type 0} (shelf : Ghosts S) (before now : S) (v : Map) (at count : ℕ) (result : Result T DriveNo) : Type 0 where
-  pub calm : OnOk result (AreCalm (DriveFailures shelf before now))
-  pub done : OnOk result (Took shelf.calls shelf.written before now (pieces v at count + drives v at count) count)
-  pub failed : IfErr result (λ drive. StopsAt shelf before now v Write at count 0 count drive.0 ⊎ StopsAt shelf before now v Flush at count (pieces v at count) count drive.0)

@@ -6,6 +6,7 @@ mod piece;
 mod placed;
 mod request;
 mod run;
+mod syncing;
 mod work;
 
 pub use chain::Chain;

@@ -160,7 +160,7 @@ fn sync_drive<D: Placed, S: Shelf>(
 }
 
 // The first block from that one on that lies on another drive than each of the request's blocks before it, or the end.
-fn next_drive<D: Placed>(device: &D, at: u64, from: u64, count: u64) -> u64
+pub(crate) fn next_drive<D: Placed>(device: &D, at: u64, from: u64, count: u64) -> u64
     requires well { D.IsWell device.now }
     requires within { at + count ≤ (D.map device.now).blocks }
     requires some { from ≤ count }

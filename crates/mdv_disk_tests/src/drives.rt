@@ -1,9 +1,10 @@
 //! Tables of drives, slices and places from their texts.
 ghost use Rattle.std.specs.Prelude.{IfOk};
-ghost use Rattle.mdv_table.specs.Slices.{IsSound};
+ghost use Rattle.mdv_config.specs.Slices.{IsSound};
 
 use mdv_base::{Place, Places, SliceName};
-use mdv_name::{Geometry, parse_slice, read_geometries_are_sound};
+use mdv_name::{Geometry, parse_slice};
+use mdv_plan::read_geometries_are_sound;
 use std::alloc::Global;
 use std::test::Fail;
 

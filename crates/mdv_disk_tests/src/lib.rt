@@ -1,10 +1,8 @@
-//! Tests of the script, the drive in memory, a replica on it, the reply to a read, a database's table and its text, that of the whole table, stripes, and soft partitions.
+//! Tests of the script, the drive in memory, a replica on it, the reply to a read, a database's table and its text, stripes, and soft partitions.
 #![tactic(auto)]
 
 #[cfg(test)]
 mod drives;
-#[cfg(test)]
-mod encoding_tests;
 #[cfg(test)]
 mod port_tests;
 #[cfg(test)]

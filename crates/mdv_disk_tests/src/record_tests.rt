@@ -1,8 +1,11 @@
 use crate::drives::{both, lies, place, sound};
 use crate::table_tests::told;
 use mdv_base::Places;
-use mdv_record::*;
-use mdv_table::{Lists, Table};
+use mdv_config::settle;
+use mdv_encoding::{decode, encode, text_bytes};
+use mdv_fields::RecordError;
+use mdv_plan::{Lists, Table};
+use mdv_whole::TooLong;
 use std::alloc::Global;
 use std::test::Fail;
 
@@ -144,7 +147,7 @@ fn writes_and_reads_the_worked_bytes(rt: HostRuntime) -> Result<(), Fail> {
 fn writes_and_reads_two_lists(rt: HostRuntime) -> Result<(), Fail> {
     let table = changing(rt.alloc())?;
     assert!(rt; is_both_ways(rt.alloc(), &table, &CHANGING)?);
-    let changed = table.settle();
+    let changed = settle(table);
     assert!(rt; is_both_ways(rt.alloc(), &changed, &CHANGED)?);
     Ok(())
 }
@@ -189,7 +192,7 @@ const WRONG: &[(usize, &[(usize, u8)], &str)] = &[
     (136, &[(50, 1)], "a soft partition"),
     (136, &[(54, 7)], "a volume on a slice for replicas"),
     (136, &[(62, 1)], "a component from block 1 on"),
-    (136, &[(70, 0xe7)], "a component with a block less"),
+    (136, &[(70, 0xe9)], "a component with a block more"),
     (136, &[(71, 1)], "a component that isn't okay"),
     (136, &[(73, 1)], "a spare"),
     // d260 on c0t0d0s1, which has 991 blocks

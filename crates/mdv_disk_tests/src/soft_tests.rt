@@ -2,7 +2,7 @@ ghost use Rattle.std.specs.Prelude.{◌≡◌, [], ◌∷◌};
 ghost use Rattle.mdv_shelf.specs.MemShelf.{shelf_sizes};
 
 use crate::stripe_tests::{THREE, is_piece};
-use mdv_base::{DriveNo, ZERO_BLOCK};
+use mdv_base::{DriveNo, DriveSet, ZERO_BLOCK};
 use mdv_dev::{DriveRun, Placed, read_blocks, write_blocks};
 use mdv_extent::Run;
 use mdv_shelf::{MemShelf, Shelf};
@@ -184,7 +184,7 @@ fn round(shelf: &mut MemShelf) -> Result<bool, Fail>
     let stripe = Stripe::new(THREE, 16).map_err(|_| "a stripe")?;
     let soft = Soft::new(&stripe, PARTS).map_err(|_| "a soft partition")?;
     let mut blocks = [[1; 512], [2; 512], [3; 512], [4; 512], [5; 512]];
-    write_blocks(&soft, shelf, 2, &mut blocks)?;
+    write_blocks(&soft, shelf, 2, &mut blocks, &mut DriveSet::new())?;
     shelf.crash(&[]);
     let mut out = [ZERO_BLOCK; 5];
     read_blocks(&soft, shelf, 2, &mut out)?;

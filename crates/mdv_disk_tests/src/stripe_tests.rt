@@ -2,7 +2,7 @@ ghost use Rattle.std.specs.Prelude.{◌≡◌, ◌+◌, ◌<◌, ◌^◌, [], �
 ghost use Rattle.mdv_shelf.specs.MemShelf.{shelf_sizes};
 ghost use Rattle.std.specs.List.{All};
 
-use mdv_base::{DriveNo, ZERO_BLOCK};
+use mdv_base::{Block, DriveNo, DriveSet, ZERO_BLOCK};
 use mdv_dev::{Chain, DriveRun, Piece, Placed, read_blocks, write_blocks};
 use mdv_shelf::{MemShelf, Shelf};
 use mdv_stripe::{Leg, NoStripe, Stripe};
@@ -265,14 +265,23 @@ const PAIR: &[DriveRun] = &[
     },
 ];
 
-// Writes five blocks of a stripe, the first two of them in another unit than the others, and reads them again, from the stripe and from the drives.
-fn round(shelf: &mut MemShelf) -> Result<bool, Fail>
+// Writes five blocks of a stripe, from its block 14 on, the first two of them in another unit than the others: whether that was answered, and the drives
+// that failed.
+fn put(shelf: &mut MemShelf, blocks: &mut [Block; 5]) -> Result<(bool, DriveSet), Fail>
+    requires { shelf_sizes shelf.old ≡ 170 ∷ (79 ∷ []) }
+    ensures { shelf_sizes shelf.new ≡ shelf_sizes shelf.old }
+{
+    let stripe = Stripe::new(PAIR, 16).map_err(|_| "a stripe")?;
+    let mut failed = DriveSet::new();
+    let answer = write_blocks(&stripe, shelf, 14, blocks, &mut failed);
+    Ok((answer.is_ok(), failed))
+}
+
+// Whether these five blocks are read, from the stripe and from the drives.
+fn are_there(shelf: &mut MemShelf, blocks: &[Block; 5]) -> Result<bool, Fail>
     requires { shelf_sizes shelf.old ≡ 170 ∷ (79 ∷ []) }
 {
     let stripe = Stripe::new(PAIR, 16).map_err(|_| "a stripe")?;
-    let mut blocks = [[1; 512], [2; 512], [3; 512], [4; 512], [5; 512]];
-    write_blocks(&stripe, shelf, 14, &mut blocks)?;
-    shelf.crash(&[]);
     let mut out = [ZERO_BLOCK; 5];
     read_blocks(&stripe, shelf, 14, &mut out)?;
     let mut first = [ZERO_BLOCK; 3];
@@ -280,7 +289,7 @@ fn round(shelf: &mut MemShelf) -> Result<bool, Fail>
     let mut second = [ZERO_BLOCK; 4];
     shelf.read(DriveNo(1), 0, &mut second)?;
     Ok(
-        out == blocks
+        out == *blocks
             && first == [ZERO_BLOCK, blocks[0], blocks[1]]
             && second == [blocks[2], blocks[3], blocks[4], ZERO_BLOCK],
     )
@@ -289,29 +298,109 @@ fn round(shelf: &mut MemShelf) -> Result<bool, Fail>
 #[test]
 fn what_was_written_is_read(rt: HostRuntime) -> Result<(), Fail> {
     let mut shelf = MemShelf::new(rt.alloc(), &[170, 79])?;
-    assert!(rt; round(&mut shelf)?);
+    let mut blocks = [[1; 512], [2; 512], [3; 512], [4; 512], [5; 512]];
+    let (whole, _failed) = put(&mut shelf, &mut blocks)?;
+    assert!(rt; whole);
+    shelf.crash(&[]);
+    assert!(rt; are_there(&mut shelf, &blocks)?);
     Ok(())
 }
 
-// A call of a write, by its number, that fails, and the drive that the write tells.
-const FAILURES: &[(u64, u32)] = &[(0, 0), (1, 1), (2, 0), (3, 1)];
+// Calls of a write, by their numbers, that fail, and whether the first drive is told then, and the second one.
+struct Torn {
+    calls: &'static [u64],
+    first: bool,
+    second: bool,
+}
 
-// What a write of five blocks of a stripe answers, the first two of them in another unit than the others.
-fn put(shelf: &mut MemShelf) -> Result<Result<(), DriveNo>, Fail>
-    requires { shelf_sizes shelf.old ≡ 170 ∷ (79 ∷ []) }
+const TORN: &[Torn] = &[
+    Torn {
+        calls: &[],
+        first: false,
+        second: false,
+    },
+    Torn {
+        calls: &[0],
+        first: true,
+        second: false,
+    },
+    Torn {
+        calls: &[0, 1],
+        first: true,
+        second: true,
+    },
+    Torn {
+        calls: &[1],
+        first: false,
+        second: true,
+    },
+    Torn {
+        calls: &[1, 2],
+        first: true,
+        second: true,
+    },
+    Torn {
+        calls: &[2],
+        first: true,
+        second: false,
+    },
+    Torn {
+        calls: &[3],
+        first: false,
+        second: true,
+    },
+    Torn {
+        calls: &[2, 3],
+        first: true,
+        second: true,
+    },
+];
+
+// Lets the calls of these numbers fail.
+fn fail_calls(shelf: &mut MemShelf, calls: &[u64]) -> Result<(), Fail>
+    ensures { shelf_sizes shelf.new ≡ shelf_sizes shelf.old }
 {
-    let stripe = Stripe::new(PAIR, 16).map_err(|_| "a stripe")?;
-    let mut blocks = [[1; 512]; 5];
-    Ok(write_blocks(&stripe, shelf, 14, &mut blocks))
+    for call in calls {
+        shelf.fail_call(*call)?;
+    }
+    Ok(())
 }
 
 #[test]
-fn a_failed_write_tells_its_drive(rt: HostRuntime) -> Result<(), Fail> {
-    for (number, drive) in FAILURES {
+fn a_torn_write_tells_its_drives(rt: HostRuntime) -> Result<(), Fail> {
+    for torn in TORN {
         let mut shelf = MemShelf::new(rt.alloc(), &[170, 79])?;
-        shelf.fail_call(*number)?;
-        assert_eq!(rt; put(&mut shelf)?, Err(DriveNo(*drive)), "call {number}");
+        fail_calls(&mut shelf, torn.calls)?;
+        let (whole, failed) = put(&mut shelf, &mut [[1; 512]; 5])?;
+        assert_eq!(rt; whole, torn.calls.is_empty());
+        assert_eq!(rt; failed.contains(DriveNo(0)), torn.first);
+        assert_eq!(rt; failed.contains(DriveNo(1)), torn.second);
     }
+    Ok(())
+}
+
+// What a crash leaves of the first drive's first block of the write, and of the second drive's.
+fn left(shelf: &mut MemShelf) -> Result<[Block; 2], Fail>
+    requires { shelf_sizes shelf.old ≡ 170 ∷ (79 ∷ []) }
+{
+    shelf.crash(&[]);
+    let mut first = [ZERO_BLOCK; 1];
+    shelf.read(DriveNo(0), 114, &mut first)?;
+    let mut second = [ZERO_BLOCK; 1];
+    shelf.read(DriveNo(1), 0, &mut second)?;
+    Ok([first[0], second[0]])
+}
+
+#[test]
+fn a_torn_write_syncs_the_other_drive(rt: HostRuntime) -> Result<(), Fail> {
+    let mut shelf = MemShelf::new(rt.alloc(), &[170, 79])?;
+    shelf.fail_call(1)?;
+    put(&mut shelf, &mut [[1; 512]; 5])?;
+    assert_eq!(rt; left(&mut shelf)?, [[1; 512], ZERO_BLOCK]);
+    let mut shelf = MemShelf::new(rt.alloc(), &[170, 79])?;
+    shelf.fail_call(2)?;
+    put(&mut shelf, &mut [[1; 512]; 5])?;
+    assert_eq!(rt; left(&mut shelf)?, [ZERO_BLOCK, [1; 512]]);
     Ok(())
 }
 

@@ -1,8 +1,16 @@
-ghost use Rattle.std.specs.Prelude.{◌<◌};
+ghost use Rattle.std.specs.Prelude.{◌<◌, IfOk};
+ghost use Rattle.mdv_keeping.specs.Built.{IsBuilt};
 
 use crate::drives::{both, lies, place, slice, sound};
-use mdv_base::{Places, Refusal, VolId};
-use mdv_table::*;
+use mdv_base::{DriveNo, Places, Refusal, SliceName, VolId};
+use mdv_change::{ApplyFault, Change};
+use mdv_components::RowAsked;
+use mdv_config::{each_of, first_of, is_of_geometry, last_of, settle};
+use mdv_keeping::next_table;
+use mdv_plan::{
+    Base, Component, KindStatus, Listed, Lists, PartStatus, Row, State, Stripe, Table, Volume,
+    VolumeKind, VolumeStatus,
+};
 use std::alloc::Global;
 use std::test::Fail;
 
@@ -31,6 +39,28 @@ fn number(number: u16) -> VolId
     VolId(number % 8192)
 }
 
+// The drives of the database.
+const DATABASE: &[DriveNo] = &[DriveNo(0), DriveNo(1), DriveNo(2)];
+
+// A volume of one stripe of this slice.
+fn stripe_of(alloc: Global, volume: VolId, slice: SliceName) -> Result<Change, Fail>
+    requires { volume.0 < 8192 }
+    ensures { IfOk result IsBuilt }
+{
+    let mut components = Listed::new(alloc);
+    components.push(Base::Slice(slice))?;
+    let mut rows = Listed::new(alloc);
+    rows.push(RowAsked {
+        components,
+        interlace: None,
+    })?;
+    Ok(Change::MakeStripe {
+        volume,
+        rows,
+        spares: None,
+    })
+}
+
 // The number of the refusal, or 0 where the stripe was made.
 pub(crate) fn told(
     alloc: Global,
@@ -40,18 +70,20 @@ pub(crate) fn told(
     text: &[u8],
 ) -> Result<u8, Fail> {
     let geometry = sound(alloc, drives)?;
-    let change = Change::MakeStripe {
-        volume: number(volume),
-        slice: slice(text)?,
-    };
-    Ok(match table.after(alloc, &geometry, &change) {
-        Ok(next) => {
-            *table = next;
-            0
-        }
-        Err(ApplyFault::Refused(refusal)) => refusal.number(),
-        Err(ApplyFault::Memory) => Refusal::OutOfMemory.number(),
-    })
+    let change = stripe_of(alloc, number(volume), slice(text)?)?;
+    if !is_of_geometry(table, &geometry) {
+        return Err(Fail::from("a table of other drives"));
+    }
+    Ok(
+        match next_table(alloc, &geometry, DATABASE, table, &change) {
+            Ok(next) => {
+                *table = next;
+                0
+            }
+            Err(ApplyFault::Refused(refusal)) => refusal.number(),
+            Err(ApplyFault::Memory) => Refusal::OutOfMemory.number(),
+        },
+    )
 }
 
 type Line = (u16, &'static [u8], u8);
@@ -92,13 +124,30 @@ fn refuses_in_one_order(rt: HostRuntime) -> Result<(), Fail> {
 
 const KEPT: &[Line] = &[(8191, b"c0t0d0s0", 0), (0, b"c0t0d0s1", 0)];
 
+// Whether the volume is one stripe of all so many blocks of the slice.
+fn is_on(volume: &Volume, text: &[u8], blocks: u64) -> Result<bool, Fail> {
+    let VolumeKind::Stripe(stripe) = &volume.kind else {
+        return Ok(false);
+    };
+    let [row] = stripe.rows.as_slice() else {
+        return Ok(false);
+    };
+    let want = Component {
+        on: Base::Slice(slice(text)?),
+        start: 0,
+        blocks,
+    };
+    Ok(row.interlace == 32 && row.components.as_slice() == [want].as_slice())
+}
+
 // The stripes in the order of their numbers, and each found by its number.
 fn has_both(table: &Table) -> Result<bool, Fail> {
     let [first, second] = table.plan.volumes.as_slice() else {
         return Ok(false);
     };
-    let want = Volume::stripe_on(VolId(0), slice(b"c0t0d0s1")?, 990);
-    Ok(*first == want && table.plan.volumes.find(VolId(8191)) == Some(second))
+    let found = table.plan.volumes.find(8191).ok_or("no d8191")?;
+    let is_found = found.number == second.number && is_on(found, b"c0t0d0s0", 1000)?;
+    Ok(first.number == VolId(0) && is_on(first, b"c0t0d0s1", 990)? && is_found)
 }
 
 #[test]
@@ -112,7 +161,7 @@ fn keeps_volumes_in_order(rt: HostRuntime) -> Result<(), Fail> {
 
 fn is_of_drives(alloc: Global, table: &Table) -> Result<bool, Fail> {
     let geometry = sound(alloc, DRIVES)?;
-    Ok(table.is_of_geometry(&geometry))
+    Ok(is_of_geometry(table, &geometry))
 }
 
 // Where the place lies, where d2 lies beside d1 on slice 0, and whether the table is one of the drives.
@@ -147,12 +196,12 @@ fn tells_each_place_of_two_lists_once(rt: HostRuntime) -> Result<(), Fail> {
     let mut table = Table::empty(rt.alloc(), Places::new());
     table.plan.lists = Lists::Two(both(stays, goes), both(stays, comes));
     assert!(rt; is_of_drives(rt.alloc(), &table)?);
-    assert!(rt; table.plan.lists.first() == [stays, goes].as_slice());
-    assert!(rt; table.plan.lists.last() == [stays, comes].as_slice());
-    assert!(rt; table.plan.lists.each().as_slice() == [stays, goes, comes].as_slice());
-    let table = table.settle();
-    assert!(rt; table.plan.lists.first() == [stays, comes].as_slice());
-    assert!(rt; table.plan.lists.each().as_slice() == [stays, comes].as_slice());
+    assert!(rt; first_of(&table.plan.lists) == [stays, goes].as_slice());
+    assert!(rt; last_of(&table.plan.lists) == [stays, comes].as_slice());
+    assert!(rt; each_of(&table.plan.lists).as_slice() == [stays, goes, comes].as_slice());
+    let table = settle(table);
+    assert!(rt; first_of(&table.plan.lists) == [stays, comes].as_slice());
+    assert!(rt; each_of(&table.plan.lists).as_slice() == [stays, comes].as_slice());
     Ok(())
 }
 
@@ -162,13 +211,45 @@ type Lies = (&'static [u8], u32, u32);
 // d1 on slice 0 and d2 on so many blocks of another.
 fn two_stripes(alloc: Global, lies: Lies, text: &[u8], blocks: u64) -> Result<Table, Fail> {
     let mut table = Table::empty(alloc, place(lies.0, lies.1, lies.2)?);
-    let volumes = &mut table.plan.volumes;
-    volumes.push(Volume::stripe_on(VolId(1), slice(b"c0t0d0s0")?, 1000))?;
-    if !volumes.is_behind(VolId(2)) {
-        return Err(Fail::from("out of order"));
-    }
-    volumes.push(Volume::stripe_on(VolId(2), slice(text)?, blocks))?;
+    add_stripe(alloc, &mut table, VolId(1), slice(b"c0t0d0s0")?, 1000)?;
+    add_stripe(alloc, &mut table, VolId(2), slice(text)?, blocks)?;
     Ok(table)
+}
+
+// A stripe of one component, of which nothing failed, whatever else there is.
+fn add_stripe(
+    alloc: Global,
+    table: &mut Table,
+    number: VolId,
+    slice: SliceName,
+    blocks: u64,
+) -> Result<(), Fail>
+    requires { number.0 < 8192 }
+{
+    let kind = VolumeKind::Stripe(stripe_on(alloc, slice, blocks)?);
+    table.plan.volumes.put(Volume { number, kind })?;
+    let okay = PartStatus {
+        state: State::Okay,
+        spare: None,
+    };
+    let kind = KindStatus::Stripe(Listed::from_slice(alloc, &[okay])?);
+    table.status.volumes.put(VolumeStatus { number, kind })?;
+    Ok(())
+}
+
+fn stripe_on(alloc: Global, slice: SliceName, blocks: u64) -> Result<Stripe, Fail> {
+    let component = Component {
+        on: Base::Slice(slice),
+        start: 0,
+        blocks,
+    };
+    let row = Row {
+        interlace: 32,
+        components: Listed::from_slice(alloc, &[component])?,
+    };
+    let mut rows = Listed::new(alloc);
+    rows.push(row)?;
+    Ok(Stripe { rows, spares: None })
 }
 
 fn is_allowed(alloc: Global, lies: Lies, second: Option<(&[u8], u64)>) -> Result<bool, Fail> {

@@ -21,9 +21,9 @@ use Rattle.mdv_store.specs.Listing.{is_listed_in}
 use Rattle.mdv_store.specs.Opened.{AreSeatsOf}
 use Rattle.mdv_store.specs.Seats.{drive_of, drives_of}
 use Rattle.mdv_survey.specs.Replica.{at_of}
-use Rattle.mdv_table.specs.Plan.{last_of, places_of}
-use Rattle.mdv_table.specs.declared.plan.Lists.{Lists}
-use Rattle.mdv_table.specs.declared.plan.Lists.TheVariants.{One}
+use Rattle.mdv_config.specs.Lists.{last_of, places_of}
+use Rattle.mdv_plan.specs.declared.lists.Lists.{Lists}
+use Rattle.mdv_plan.specs.declared.lists.Lists.TheVariants.{One}
 use Rattle.mdv_volumes.proofs.Lists.{contains_first, first_or_behind}
 use Rattle.mdv_engine_law.specs.Below.{Place, PlaceAt}
 use Rattle.mdv_engine_law.specs.Moves.{places_under}

@@ -9,8 +9,8 @@ use Rattle.mdv_shelf.specs.declared.shelf.Shelf.{Ghosts}
 use Rattle.mdv_shelf.proofs.InTime.{in_time_more, is_part}
 use Rattle.mdv_shelf.proofs.Noted.{goes_on_more, keeps_more}
 use Rattle.mdv_dev.specs.Drives.{IsDriveOf}
-use Rattle.mdv_words.specs.declared.command.Command.TheVariants as command
-use Rattle.mdv_engine.specs.Below.{Command, AddListed, AddPlaces, DropPlaces, Host, KeptOnDrives, Map, Memory, Read, Write}
+use Rattle.mdv_words.specs.declared.command.Command.TheVariants.{Print}
+use Rattle.mdv_engine.specs.Below.{Command, AddListed, AddPlaces, Alter, DropPlaces, Host, KeptOnDrives, Map, Memory, Read, Write}
 use Rattle.mdv_engine.specs.Ends.{KeptAsAsked}
 
 no_replies : (drives : List DriveNo) → IsAmong drives OnReplies → ⊥
@@ -42,25 +42,25 @@ module _ {S : Type 0} (shelf : Ghosts S) (host : Host) (memory : Memory) where
   asked_goes a b (AddPlaces slices force count blocks) kept = kept.goes
   asked_goes a b (AddListed number force) kept = kept.goes
   asked_goes a b (DropPlaces slices force) kept = kept.goes
-  asked_goes a b (command.MakeStripe volume slice) kept = kept.goes
+  asked_goes a b (Alter alteration) kept = kept.goes
   asked_goes a b (Read volume at count) kept = kept.goes
-  asked_goes a b (Write volume at block) kept = kept.goes
-  asked_goes a b (command.Print names) kept = kept.goes
+  asked_goes a b (Write volume at what) kept = kept.goes
+  asked_goes a b (Print names) kept = kept.goes
 
   pub asked_replies : (a b : S) (command : Command) → KeptAsAsked shelf a b host memory command → shelf.faults b OnReplies ≡ shelf.faults a OnReplies
   asked_replies a b (AddPlaces slices force count blocks) kept = kept.others OnReplies (no_replies _)
   asked_replies a b (AddListed number force) kept = kept.others OnReplies (no_replies [])
   asked_replies a b (DropPlaces slices force) kept = kept.others OnReplies (no_replies _)
-  asked_replies a b (command.MakeStripe volume slice) kept = kept.others OnReplies (no_replies _)
+  asked_replies a b (Alter alteration) kept = kept.others OnReplies (no_replies _)
   asked_replies a b (Read volume at count) kept = kept.others OnReplies (no_reply _ _ _)
-  asked_replies a b (Write volume at block) kept = kept.others OnReplies (no_reply _ _ _)
-  asked_replies a b (command.Print names) kept = kept.others OnReplies (no_replies [])
+  asked_replies a b (Write volume at what) kept = kept.others OnReplies (no_reply _ _ _)
+  asked_replies a b (Print names) kept = kept.others OnReplies (no_replies [])
 
   pub asked_then : (a b c : S) (command : Command) → KeptAsAsked shelf a b host memory command → KeptOn shelf b c OnReplies → KeptInTime shelf a c
   asked_then a b c (AddPlaces slices force count blocks) kept replied = among_then_replied shelf a b c _ kept replied
   asked_then a b c (AddListed number force) kept replied = among_then_replied shelf a b c _ kept replied
   asked_then a b c (DropPlaces slices force) kept replied = among_then_replied shelf a b c _ kept replied
-  asked_then a b c (command.MakeStripe volume slice) kept replied = among_then_replied shelf a b c _ kept replied
+  asked_then a b c (Alter alteration) kept replied = among_then_replied shelf a b c _ kept replied
   asked_then a b c (Read volume at count) kept replied = on_then_replied shelf a b c _ _ _ kept replied
-  asked_then a b c (Write volume at block) kept replied = on_then_replied shelf a b c _ _ _ kept replied
-  asked_then a b c (command.Print names) kept replied = among_then_replied shelf a b c _ kept replied
+  asked_then a b c (Write volume at what) kept replied = on_then_replied shelf a b c _ _ _ kept replied
+  asked_then a b c (Print names) kept replied = among_then_replied shelf a b c _ kept replied

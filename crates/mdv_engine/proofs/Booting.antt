@@ -25,8 +25,8 @@ use Rattle.mdv_store.specs.Records.{Spells}
 use Rattle.mdv_store.specs.Seats.{drive_of}
 use Rattle.mdv_name.specs.declared.geometry.Geometry.{Geometry}
 use Rattle.mdv_store_law.specs.Log.{HasOneList}
-use Rattle.mdv_table.specs.Table.{IsListsOf}
-use Rattle.mdv_table.specs.Plan.{last_of, places_of}
+use Rattle.mdv_config.specs.Table.{IsListsOf}
+use Rattle.mdv_config.specs.Lists.{last_of, places_of}
 use Rattle.mdv_store.specs.declared.booting.BootEnd.TheVariants as end
 use Rattle.mdv_store.specs.declared.booting.Booted.{Booted}
 use Rattle.mdv_store.proofs.Told.{adopted_count, adopted_each, adopted_enough, found_read, lost_read, lost_short}
@@ -41,8 +41,8 @@ use Rattle.mdv_survey.specs.declared.choosing.Choice.{Choice}
 use Rattle.mdv_survey.specs.declared.choosing.Choice.TheVariants as chosen
 use Rattle.mdv_survey.specs.declared.replica.Newest.{Newest}
 use Rattle.mdv_survey.specs.declared.replica.Survey.{Survey}
-use Rattle.mdv_table.specs.declared.plan.Lists.{Lists}
-use Rattle.mdv_table.specs.declared.plan.Lists.TheVariants.{One}
+use Rattle.mdv_plan.specs.declared.lists.Lists.{Lists}
+use Rattle.mdv_plan.specs.declared.lists.Lists.TheVariants.{One}
 use Rattle.mdv_engine_law.specs.Answers.{accepted}
 use Rattle.mdv_engine_law.specs.Replies.{HasEndCause}
 use Rattle.mdv_engine_law.specs.declared.answer.Answer.TheVariants.{Over}
@@ -59,7 +59,7 @@ use Rattle.mdv_engine.specs.Engine.{FailedOnSite, IsAnsweredBy, IsEndedBy, IsFit
 use Rattle.mdv_store.specs.Shares.{short_of}
 use Rattle.mdv_store.specs.declared.seats.Share.{Share}
 use Rattle.mdv_store.proofs.Shares.{half_less as half_less_of, more_less}
-use Rattle.mdv_table.proofs.Listed.{listed_some}
+use Rattle.mdv_config.proofs.Listed.{listed_some}
 
 -- one list has at most fifty places
 one_few : (g : Geometry) (lists : Lists) (list : List Place) → lists ≡ One list → IsListsOf g lists → length (places_of lists) ≤ 50

@@ -1,89 +1,33 @@
 -- A table that has another list beside its own is one of the table of drives.
-use Rattle.std.proofs.Common.{◌≡◌, inl, inr, ◌+◌, ◌<◌, ◌≤◌, ◌&&◌, not, ℕ, Bool, true, List, [], ◌∷◌, ◌++◌, All, Contains, IsTrue, arith, ap, get_or, length, length-append, subst, sym, ◌∙◌}
+use Rattle.std.proofs.Common.{◌≡◌, inl, inr, ◌≤◌, ◌&&◌, not, Bool, true, List, ◌++◌, Contains, IsTrue, arith, ap, get_or, length, length-append, subst, sym}
 use Rattle.std.specs.Prelude.{◌==◌, ◌-◌, ◌%◌, AllPairs, nat_le}
-use Rattle.std.specs.List.{list_all, list_any}
-use Rattle.std.proofs.lemmas.Bool.{and_from, and_parts, cases_Bool, false≢true, not_from_false, or_left}
+use Rattle.std.specs.List.{list_all}
+use Rattle.std.proofs.lemmas.Bool.{and_from, and_parts, cases_Bool, not_from_false, or_left}
 use Rattle.std.proofs.lemmas.Bool.Decides.{nat_tests}
-use Rattle.std.proofs.lemmas.List.Elements.{All-append, All-cons, All-contains, All-head, All-nil, All-tail, Contains-append_cases, Contains-get_or}
+use Rattle.std.proofs.lemmas.List.Elements.{All-append, All-contains, Contains-append_cases, Contains-get_or}
 use Rattle.std.proofs.lemmas.List.Sums.{list_all-from_AllPass}
-use Rattle.mdv_fields.specs.Sets.{agrees, is_spaced, starts_well}
+use Rattle.mdv_fields.specs.Sets.{agrees, are_spaced, is_spaced, starts_well}
+use Rattle.mdv_keeping.proofs.Keeping.{tables_stay}
 use Rattle.mdv_name.proofs.Finding.{same_slice-equal}
 use Rattle.mdv_name.specs.SliceIndex.{same_slice}
-use Rattle.mdv_places.proofs.Fronting.{one_of_all, others_apart}
+use Rattle.mdv_places.proofs.Fronting.{one_of_all}
 use Rattle.mdv_places.proofs.Lists.{pairs_append}
-use Rattle.mdv_shelf.specs.Area.{range}
-use Rattle.mdv_table.specs.Below.{TwoLists, are_spaced}
-use Rattle.mdv_table.specs.Plan.{beside, component_slices, last_of, same_place}
-use Rattle.mdv_table.specs.Slices.{Overlaps}
-use Rattle.mdv_table.specs.Table.{IsComponentOn, IsListsOf, IsPlaceOf, IsPlacesOf}
-use Rattle.mdv_table.specs.Volume.{base_slices, kind_slices}
-use Rattle.mdv_table.specs.declared.plan.Lists.{Lists}
-use Rattle.mdv_table.specs.declared.plan.Lists.TheVariants.{One, Two}
-use Rattle.mdv_table.specs.declared.volume.Component.{Component}
-use Rattle.mdv_volumes.proofs.Lists.{in_filter}
-use Rattle.mdv_engine_law.specs.Below.{IsSound, Place, SliceAt}
-use Rattle.mdv_engine.specs.Below.{Base, DriveNo, Geometry, HasSlice, IsKindOf, IsOfGeometry, IsWholeSlice, Key, Slice, SliceName, Stripe, Table, Volume, VolumeKind, site_of}
+use Rattle.mdv_plan.specs.declared.lists.Lists.{Lists}
+use Rattle.mdv_plan.specs.declared.lists.Lists.TheVariants.{One, Two}
+use Rattle.mdv_plan.specs.declared.lists.Lists.TheVariants.{Two as TwoLists}
+use Rattle.mdv_config.specs.Lists.{last_of, with_lists}
+use Rattle.mdv_config.specs.Table.{IsListsOf, IsPlaceOf, IsPlacesOf}
+use Rattle.mdv_engine_law.specs.Below.{IsSound, Place}
+use Rattle.mdv_engine.specs.Below.{Geometry, IsOfGeometry, Table}
 
 -- the list that comes, or is there alone
 pub last_placed : (g : Geometry) (lists : Lists) → IsListsOf g lists → IsPlacesOf g (last_of lists)
 last_placed g (One places) are = are
 last_placed g (Two old new) are = are.1
 
--- The place lies on a slice where a boot of the key looks for replicas.
-pub record IsSited (g : Geometry) (key : Key) (p : Place) : Type 0 where
-  pub is : IsPlaceOf g p
-  pub line : Contains (site_of g key).lines (record { name = p.slice; at = is.at })
-
-module _ (g : Geometry) (sound : IsSound g) (key : Key) where
-  in_area : (at : SliceAt) (block : ℕ) → at.start ≤ block → block < at.start + at.blocks → range at.drive.0 at.start at.blocks at.drive.0 block ≡ true
-  in_area at block from to = grind (arith, nat_tests, from, to)
-
-  -- it shares no block with the slice of a component
-  apart : (p : Place) → IsSited g key p → (c : Component) (slice : SliceName) → IsWholeSlice g c slice → Overlaps g.slices p.slice slice → ⊥
-  apart p on c slice whole over =
-      others_apart g sound key (record { name = p.slice; at = on.is.at }) on.line slice whole.at whole.has whole.clear differ over.first.drive.0 over.overlap.block
-      (subst (λ (x : SliceAt). range x.drive.0 x.start x.blocks over.first.drive.0 over.overlap.block ≡ true) first (in_area over.first over.overlap.block over.overlap.in_first.first over.overlap.in_first.last))
-      (subst (λ (x : SliceAt). range x.drive.0 x.start x.blocks over.first.drive.0 over.overlap.block ≡ true) second
-      (subst (λ (d : DriveNo). range over.second.drive.0 over.second.start over.second.blocks d.0 over.overlap.block ≡ true) (sym over.overlap.drive) (in_area over.second over.overlap.block over.overlap.in_second.first over.overlap.in_second.last)))
-    where
-      first : over.first ≡ on.is.at
-      first = sound.once p.slice over.first on.is.at over.has_first on.is.has
-
-      second : over.second ≡ whole.at
-      second = sound.once slice over.second whole.at over.has_second whole.has
-
-      differ : p.slice ≡ slice → ⊥
-      differ same =
-          let one : on.is.at ≡ whole.at = sound.once slice on.is.at whole.at (subst (λ (n : SliceName). HasSlice g.slices n on.is.at) same on.is.has) whole.has in
-          false≢true (sym whole.whole.plain ∙ ap (λ (x : SliceAt). x.db) (sym one) ∙ on.is.lies.db)
-
-  module _ (places : List Place) (each : (p : Place) → Contains places p → IsSited g key p) where
-    abbrev Clear : SliceName → Type 0
-    Clear n = All (λ (p : Place). Overlaps g.slices p.slice n → ⊥) places
-
-    of_base : (c : Component) (b : Base) → IsComponentOn g c b → All Clear (base_slices b)
-    of_base c (Slice n) whole = All-cons Clear n [] (λ k d within over. apart (get_or places k d) (each (get_or places k d) (Contains-get_or places k d within)) c n whole over) (All-nil Clear)
-
-    of_kind : (k : VolumeKind) → IsKindOf g k → All Clear (kind_slices k)
-    of_kind (Stripe s) is = of_base s.component s.component.on is.component
-
-    -- nor with those of all volumes
-    volumes_clear : (vs : List Volume) → All (λ (v : Volume). IsKindOf g v.kind) vs → All Clear (component_slices vs)
-    volumes_clear [] kinds = All-nil Clear
-    volumes_clear (v ∷ vs) kinds = All-append Clear (kind_slices v.kind) (component_slices vs) (of_kind v.kind (All-head (λ (x : Volume). IsKindOf g x.kind) v vs kinds)) (volumes_clear vs (All-tail (λ (x : Volume). IsKindOf g x.kind) v vs kinds))
-
-  -- so a list may come beside that of a table, whose places are spaced with its own
-  pub both_fit : (t : Table) (lists next : List Place) → t.plan.lists ≡ One lists → IsOfGeometry g t → IsPlacesOf g next → IsTrue (are_spaced (TwoLists lists next)) → ((p : Place) → Contains lists p → IsSited g key p) → ((p : Place) → Contains next p → IsSited g key p)
-      → IsOfGeometry g (record t { plan = record t.plan { lists = Two lists next } })
-  both_fit t lists next one is coming spaced old new = record {
-    lists = (subst (λ (l : Lists). IsListsOf g l) one is.lists, coming, spaced);
-    numbers = is.numbers;
-    kinds = is.kinds;
-    apart = record { components = is.apart.components; replicas = volumes_clear (lists ++ beside lists next) each t.plan.volumes is.kinds };
-  }
-    where
-      each : (p : Place) → Contains (lists ++ beside lists next) p → IsSited g key p
-      each p has = elim (Contains-append_cases lists (beside lists next) p has) [ inl here ↦ old p here | inr there ↦ new p (in_filter (λ (q : Place). not (list_any (same_place q) lists)) next p there).0 ]
+-- A list may come beside that of a table, whose places are spaced with its own.
+pub both_fit : (g : Geometry) → IsSound g → (t : Table) (lists next : List Place) → t.plan.lists ≡ One lists → IsOfGeometry g t → IsPlacesOf g next → IsTrue (are_spaced (TwoLists lists next)) → IsOfGeometry g (with_lists t (Two lists next))
+both_fit g sound t lists next one is coming spaced = tables_stay.moved_kept g t (Two lists next) sound is (subst (λ (l : Lists). IsListsOf g l) one is.lists, coming, spaced)
 
 -- How two lists are spaced.
 pub record Fits (all : List Place) (p : Place) : Type 0 where

@@ -1,5 +1,5 @@
 -- How the calls of a command add up, and what a refusal says of them.
-use Rattle.std.proofs.Common.{◌≡◌, ◌≢◌, ◌⊎◌, ◌≤◌, inl, inr, ◌+◌, ◌*◌, ℕ, min, Bool, true, false, if◌then◌else◌, List, Option, Some, None, refl, sym, subst, ap, arith}
+use Rattle.std.proofs.Common.{◌≡◌, ◌≢◌, ◌⊎◌, ◌≤◌, inl, inr, ◌+◌, ◌*◌, ℕ, min, Bool, true, false, if◌then◌else◌, List, length, Option, Some, None, refl, sym, subst, ap, arith}
 use Rattle.std.proofs.Math.Nat.{min-eq_left}
 use Rattle.mdv_shelf.specs.Calls.{OnReplies, Part}
 use Rattle.mdv_shelf.specs.Made.{and_more, made_of}
@@ -8,8 +8,10 @@ use Rattle.mdv_shelf.specs.declared.shelf.Shelf.{Ghosts}
 use Rattle.mdv_shelf.proofs.Between.{between_none, between_of, between_then, between_wider}
 use Rattle.mdv_shelf.proofs.Made.{with_more}
 use Rattle.mdv_acts.specs.Asked.{blanked_asked}
-use Rattle.mdv_words.specs.declared.command.Command.TheVariants.{MakeStripe, Print}
-use Rattle.mdv_engine.specs.Below.{Answer, Command, AddListed, AddPlaces, DropPlaces, Ended, Host, IoFault, Memory, Opened, OutOfMemory, Outcomes, Read, Refusal, VolId, Write, drives_in, lines_asked, pieces_in}
+use Rattle.mdv_words.specs.Line as words
+use Rattle.mdv_words.specs.declared.command.Command.TheVariants.{Alter, Print}
+use Rattle.mdv_words.specs.declared.written.Written.{Written}
+use Rattle.mdv_engine.specs.Below.{Answer, Command, AddListed, AddPlaces, DropPlaces, Ended, Host, IoFault, Memory, Opened, OutOfMemory, Outcomes, Read, Refusal, VolId, Write, lines_asked, pieces_in, write_calls_in}
 use Rattle.mdv_engine_law.specs.Answers.{IsMereRefusal, IsSaid, refusing}
 use Rattle.mdv_engine_law.specs.Efforts.{CommandCalls, FaultCalls, LossCalls, MadeCallsOf, places_on, replied_to, wanting_calls}
 use Rattle.mdv_engine_law.specs.Refusals.{blocks_refusal}
@@ -26,14 +28,14 @@ use Rattle.mdv_places.specs.Changing.{both_of}
 use Rattle.mdv_places.specs.Counts.{dropped_count, first_count, last_count, move_blocks, move_calls}
 use Rattle.mdv_store.specs.Text.{blocks_for}
 use Rattle.mdv_store.specs.Writing.{text_size}
-use Rattle.mdv_table.specs.Plan.{settled}
+use Rattle.mdv_config.specs.Lists.{settled}
 use Rattle.mdv_engine_law.specs.Efforts.{deletion_blocks, deletion_calls}
 use Rattle.mdv_engine_law.specs.Places.{are_all}
 use Rattle.mdv_engine_law.proofs.Efforts.{command_too, done_too, fault_too, too_itself}
 use Rattle.mdv_engine_law.proofs.Widening.{AreWithin}
 use Rattle.mdv_engine.specs.Counts.{DoneCalls, HasHalted, HasTriedAll, IsCommandCounted, IsQuietRefusal, IsUnlooked, blocks_of, calls_of}
 use Rattle.mdv_engine.specs.Ends.{IsFew}
-use Rattle.mdv_engine.specs.Engine.{HasBlocksCause}
+use Rattle.mdv_engine.specs.Engine.{FailedBlocks, HasBlocksCause}
 
 -- what is only said has a reply
 said_on : (this : Outcome) → IsLost (reply_to this) → ⊥
@@ -190,9 +192,9 @@ module _ {S : Type 0} (shelf : Ghosts S) where
     refused_counted command OutOfMemory before now fault same = (none_within old new (wanting_calls host before command) 0 same, ap shelf.tale same)
     refused_counted command other before now fault same = same
 
-    -- blocks that aren't read or written
-    pub blocks_counted : (command : Command) (outcomes : Outcomes) (memory : Memory) (volume : VolId) (at n : ℕ) (refusal : Refusal) (before now : Option Opened) → HasBlocksCause outcomes host memory volume at n refusal
-        → (blocks_refusal memory.opened volume (at + n) ≡ Some refusal → new ≡ old) → (refusal ≡ IoFault → Faulted command before now) → IsCommandCounted shelf old new host command (refusing refusal) before now
+    -- blocks that aren't read
+    pub blocks_counted : (command : Command) (outcomes : Outcomes) (memory : Memory) (volume : VolId) (at n : ℕ) (refusal : Refusal) (before now : Option Opened) → HasBlocksCause FailedBlocks outcomes host memory volume at n refusal
+        → (blocks_refusal host memory.opened volume (at + n) ≡ Some refusal → new ≡ old) → (refusal ≡ IoFault → Faulted command before now) → IsCommandCounted shelf old new host command (refusing refusal) before now
     blocks_counted command outcomes memory volume at n refusal before now (inl is) none took = refused_counted command refusal before now took (none is.1)
     blocks_counted command outcomes memory volume at n refusal before now (inr (of, free, fault)) none took = subst (λ (x : Refusal). IsCommandCounted shelf old new host command (refusing x) before now) (sym fault) (took fault)
 
@@ -236,8 +238,13 @@ module _ {S : Type 0} (shelf : Ghosts S) where
     pub read_fault : (volume : VolId) (at count : ℕ) (before now : Option Opened) → count ≤ 1024 → FaultCalls (made_of shelf old new) (Read volume at count) host before → Faulted (Read volume at count) before now
     read_fault volume at count before now few took = (let k = pieces_in host before volume at count in (took, in_most volume at count before few (wider 1 k 0 k 0 (omega arith) (omega arith) took), tt))
 
-    pub write_fault : (volume : VolId) (at : ℕ) (block : List ℕ) (before now : Option Opened) → FaultCalls (made_of shelf old new) (Write volume at block) host before → Faulted (Write volume at block) before now
-    write_fault volume at block before now took = (let k = pieces_in host before volume at 1 + drives_in host before volume at 1 in (took, wider 1 k 1 k 1 (omega arith) (omega arith) took, tt))
+    -- as many blocks as are written at once
+    pub write_most : (volume : VolId) (at : ℕ) (what : Written) (before : Option Opened) → length (words.blocks_of what) ≤ 1024 → (made_of shelf old new).within 0 (write_calls_in host before volume at (length (words.blocks_of what))) (length (words.blocks_of what))
+        → (made_of shelf old new).within 0 (calls_of host before (Write volume at what)) (blocks_of host before (Write volume at what))
+    write_most volume at what before few took = subst (λ (n : ℕ). (made_of shelf old new).within 0 (write_calls_in host before volume at n) (length (words.blocks_of what))) (sym (min-eq_left few)) took
+
+    pub write_fault : (volume : VolId) (at : ℕ) (what : Written) (before now : Option Opened) → length (words.blocks_of what) ≤ 1024 → FaultCalls (made_of shelf old new) (Write volume at what) host before → Faulted (Write volume at what) before now
+    write_fault volume at what before now few took = (let n = length (words.blocks_of what) in let k = write_calls_in host before volume at n in (took, write_most volume at what before few (wider 1 k n k n (omega arith) (omega arith) took), tt))
 
     drop_most : (o : Opened) (slices : List _) (all : Bool) → (made_of shelf old new).within 0 (move_calls o (if all then KeepsFirst else Drops slices)) (move_blocks o (if all then KeepsFirst else Drops slices))
         → (made_of shelf old new).within 0 (if all then deletion_calls o else move_calls o (Drops slices)) (if all then deletion_blocks o else move_blocks o (Drops slices))
@@ -252,19 +259,19 @@ module _ {S : Type 0} (shelf : Ghosts S) where
     loss_most (AddListed number force) before took = absurd took
     loss_most (DropPlaces slices force) None took = absurd took
     loss_most (DropPlaces slices force) (Some o) took = drop_most o slices (are_all o slices) took
-    loss_most (MakeStripe volume slice) (Some o) took = wider 1 (calls_of host (Some o) (MakeStripe volume slice)) (blocks_of host (Some o) (MakeStripe volume slice)) _ _ (omega arith) (omega arith) took
-    loss_most (MakeStripe volume slice) None took = absurd took
+    loss_most (Alter alteration) (Some o) took = wider 1 (calls_of host (Some o) (Alter alteration)) (blocks_of host (Some o) (Alter alteration)) _ _ (omega arith) (omega arith) took
+    loss_most (Alter alteration) None took = absurd took
     loss_most (Read volume at count) before took = absurd took
-    loss_most (Write volume at block) before took = absurd took
+    loss_most (Write volume at what) before took = absurd took
     loss_most (Print names) before took = absurd took
 
     wanting_most : (command : Command) (before : Option Opened) (blocks : ℕ) → (made_of shelf old new).within 0 (wanting_calls host before command) 0 → (made_of shelf old new).within 0 (calls_of host before command) blocks
     wanting_most (AddPlaces slices force count blocks) before written took = wider 0 0 0 _ written (omega arith) (omega arith) took
     wanting_most (AddListed number force) before written took = wider 0 0 0 0 written (omega arith) (omega arith) took
     wanting_most (DropPlaces slices force) before written took = wider 0 0 0 _ written (omega arith) (omega arith) took
-    wanting_most (MakeStripe volume slice) before written took = wider 0 0 0 _ written (omega arith) (omega arith) took
+    wanting_most (Alter alteration) before written took = wider 0 0 0 _ written (omega arith) (omega arith) took
     wanting_most (Read volume at count) before written took = (let k = pieces_in host before volume at (min count 1024) in wider 0 k 0 k written (omega arith) (omega arith) took)
-    wanting_most (Write volume at block) before written took = wider 0 0 0 _ written (omega arith) (omega arith) took
+    wanting_most (Write volume at what) before written took = wider 0 0 0 _ written (omega arith) (omega arith) took
     wanting_most (Print names) before written took = wider 0 0 0 0 written (omega arith) (omega arith) took
 
     -- a command that asks places makes no call where memory is wanting
@@ -272,9 +279,9 @@ module _ {S : Type 0} (shelf : Ghosts S) where
     wanting_few (AddPlaces slices force count blocks) before took = inl (wider 0 0 0 1 0 (omega arith) (omega arith) took)
     wanting_few (AddListed number force) before took = inr tt
     wanting_few (DropPlaces slices force) before took = inr tt
-    wanting_few (MakeStripe volume slice) before took = inr tt
+    wanting_few (Alter alteration) before took = inr tt
     wanting_few (Read volume at count) before took = inr tt
-    wanting_few (Write volume at block) before took = inr tt
+    wanting_few (Write volume at what) before took = inr tt
     wanting_few (Print names) before took = inr tt
 
   module _ (old new : S) (host : Host) (command : Command) (before now : Option Opened) where

@@ -58,7 +58,7 @@ use Rattle.mdv_engine_law.proofs.Making as making
 use Rattle.mdv_engine_law.proofs.Places.{asked_kept}
 use Rattle.mdv_engine_law.proofs.Placing.{asked, asked_on_site, asked_placed, asked_within}
 use Rattle.mdv_engine_law.proofs.Refusing.{refused_still}
-use Rattle.mdv_engine.specs.Below.{AreCalm, AreLaid, CameTo, CarriedTo, CarryMoment, AddPlaces, Changed, Created, Deed, DriveNo, Ends, Host, Identity, IoFault, IsAllowed, IsOfGeometry, IsOpenedAt, IsReady, Key, KeptOutside, Knows, Memory, OnDrive, Opened, OutOfMemory, Outcomes, Replica, Replicas, Seat, Site, SliceLine, SliceName, Tale, identity_of, kept_at, key_of, lines_asked, opened_area, places_area, record_text, replicas_of, site_area}
+use Rattle.mdv_engine.specs.Below.{AreCalm, AreLaid, CameTo, CarriedTo, CarryMoment, AddPlaces, Changed, Created, Deed, DriveNo, Ends, Host, Identity, IoFault, IsAllowed, IsOfGeometry, IsOpenedAt, IsReady, Key, KeptOutside, Knows, Memory, OnDrive, Opened, OutOfMemory, Outcomes, Replica, Replicas, Seat, Site, SliceLine, SliceName, Tale, identity_of, kept_at, key_of, lines_asked, opened_area, places_area, record_bytes, replicas_of, site_area}
 use Rattle.mdv_engine.specs.Ends.{AsksPlaces, by_entry, by_slices, made_at}
 use Rattle.mdv_engine.specs.declared.engine.Engine.{Engine}
 use Rattle.mdv_engine.specs.Engine.{IsHeldBy, IsLostOnSite, LiesOn}
@@ -184,7 +184,7 @@ module _ (host : Host) (sizes : List ℕ) (ready : IsReady host sizes) (memory :
   lost_on failed active listed lost =
       let all = asked_length key identity count blocks lines in
       let each = asked_active key identity count blocks lines in
-      lost_on_site failed host (TakesSlot first_mark (length (record_text (table_of seats)))) seats lost.now (table_of seats).plan.lists lost.tried (half_none seats (map (λ (s : Seat). s.place) seats) refl (omega (arith, all, each)))
+      lost_on_site failed host (TakesSlot first_mark (record_bytes (table_of seats))) seats lost.now (table_of seats).plan.lists lost.tried (half_none seats (map (λ (s : Seat). s.place) seats) refl (omega (arith, all, each)))
       (λ r has. let is = replica_is key identity count blocks lines r has in subst (λ (x : Replica). Contains host.site.lines x.line) (sym is.is) (on_site is.line is.among))
       active listed lost.few
 
@@ -193,13 +193,13 @@ module _ (host : Host) (sizes : List ℕ) (ready : IsReady host sizes) (memory :
   made_held failed o made laid = record {
     its = ap (λ (x : Opened). x.key) made.is;
     some =
-        let counted = left_count failed (TakesSlot first_mark (length (record_text (table_of seats)))) seats o.seats made.tried in
+        let counted = left_count failed (TakesSlot first_mark (record_bytes (table_of seats))) seats o.seats made.tried in
         let all = asked_length key identity count blocks lines in
         let each = few_of (length lines) count are_asked.some in
         let least = are_asked.more in
         omega (arith, counted, all, each, least);
     few =
-        let counted = left_count failed (TakesSlot first_mark (length (record_text (table_of seats)))) seats o.seats made.tried in
+        let counted = left_count failed (TakesSlot first_mark (record_bytes (table_of seats))) seats o.seats made.tried in
         let all = asked_length key identity count blocks lines in
         let most = are_asked.few in
         omega (arith, counted, all, most);
@@ -207,7 +207,7 @@ module _ (host : Host) (sizes : List ℕ) (ready : IsReady host sizes) (memory :
     half = made.half;
     of_geometry = subst (λ (t : _). IsOfGeometry host.drives t) (sym (ap (λ (x : Opened). x.table) made.is)) placed;
     laid = subst (λ (s : List ℕ). AreLaid s o.seats) (sym ready.on_shelf.sizes_are) laid;
-    seated = seated failed (length (record_text (table_of seats))) o.seats made.tried;
+    seated = seated failed (record_bytes (table_of seats)) o.seats made.tried;
   }
 
   module _ (t m : Tale) (moment : CreateMoment key identity lines count blocks t m) where
@@ -277,7 +277,7 @@ module _ (host : Host) (sizes : List ℕ) (ready : IsReady host sizes) (memory :
         let end = moments_end (λ (v m : Tale). StayFormed key identity lines count blocks m) (shelf.tale f.formed) (shelf.tale b) (f.stay t told) mid.0 mid.1 in
         (end.0, end.1, end.2 host.drives may_form)
 
-    tried : AreLeft (DriveFailures shelf a b) (TakesSlot first_mark (length (record_text (table_of seats)))) seats f.now
+    tried : AreLeft (DriveFailures shelf a b) (TakesSlot first_mark (record_bytes (table_of seats))) seats f.now
     tried = f.tried
 
     abbrev IsShort : ℕ → ℕ → Type 0

@@ -5,7 +5,7 @@ use Rattle.mdv_engine_law.specs.Moves.{drop_of}
 use Rattle.std.proofs.Common.{◌≡◌, None, Some, ◌⊎◌, ◌≤◌, ◌+◌, ℕ, zero, suc, [], ◌∷◌, Option, Contains, refl, sym, subst, arith}
 use Rattle.mdv_shelf.proofs.Moments.{ends_both}
 use Rattle.mdv_words.specs.declared.command.Command.{Command}
-use Rattle.mdv_words.specs.declared.command.Command.TheVariants.{AddListed, AddPlaces, DropPlaces, MakeStripe, Print, Read, Write}
+use Rattle.mdv_words.specs.declared.command.Command.TheVariants.{AddListed, AddPlaces, Alter, DropPlaces, Print, Read, Write}
 use Rattle.mdv_engine_law.proofs.Widening.{AreWithin, beside_more, left_more, lost_records_more}
 use Rattle.mdv_shelf.specs.Made.{Made}
 use Rattle.mdv_engine.specs.Below.{Outcomes, Key, Refusal, Ends, IoFault, Tale, Deed, Created, Answer, Host, Memory, Opened, lines_asked, kept_at, unbooted, CameTo, IsRebooted, IsPlain, CarriedTo, CarryEnd, Knows}
@@ -74,9 +74,9 @@ leaves_more failed more within host memory (AddPlaces slices force count blocks)
   by (Some o) both = record { lost = record { new = both.lost.new; calm = beside_more failed more within _ both.lost.calm; lost = lost_records_more failed more within host.drives o both.lost.new (Adds (lines_asked host slices) count blocks) _ both.lost.lost }; left = both.left; formed = both.formed }
 leaves_more failed more within host memory (AddListed number force) active listed u leaves = tt
 leaves_more failed more within host memory (DropPlaces slices force) active listed u (o, is, both) = (o, is, record { lost = record { new = both.lost.new; calm = beside_more failed more within _ both.lost.calm; lost = lost_records_more failed more within host.drives o both.lost.new (drop_of o slices) _ both.lost.lost }; left = both.left; formed = both.formed })
-leaves_more failed more within host memory (MakeStripe volume slice) active listed u leaves = tt
+leaves_more failed more within host memory (Alter alteration) active listed u leaves = tt
 leaves_more failed more within host memory (Read volume at count) active listed u leaves = tt
-leaves_more failed more within host memory (Write volume at block) active listed u leaves = tt
+leaves_more failed more within host memory (Write volume at what) active listed u leaves = tt
 leaves_more failed more within host memory (Print names) active listed u leaves = tt
 
 -- a refusal before anything was done

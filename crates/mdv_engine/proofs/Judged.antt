@@ -1,24 +1,19 @@
 -- What a refusal says that comes before anything is done: nothing of a failed call, and nothing of want of memory.
-use Rattle.std.proofs.Common.{◌≡◌, inl, inr, ◌+◌, ◌*◌, ◌++◌, ◌&&◌, ◌||◌, not, ℕ, Bool, true, false, List, [], length, Option, Some, None, All, sym, subst, ◌∙◌}
+use Rattle.std.proofs.Common.{◌≡◌, ◌+◌, ◌*◌, ◌++◌, ◌&&◌, ◌||◌, not, ℕ, Bool, true, false, List, [], length, Option, Some, None, All, subst}
 use Rattle.std.proofs.lemmas.List.Elements.{All-append, All-cons, All-nil}
-use Rattle.std.specs.List.{find, list_any}
-use Rattle.std.specs.Prelude.{nat_lt, is_some, is_none}
+use Rattle.std.specs.List.{list_any}
+use Rattle.std.specs.Prelude.{nat_lt, is_some}
 use Rattle.mdv_base.specs.Order.{order, where_so}
-use Rattle.mdv_base.specs.declared.refusal.Refusal.TheVariants.{NameTaken, NeedForce, NoDatabase, NoSuchSlice, NoSuchVolume, OutOfRange, ReplicaFull, SliceInUse, TooMany, TooSmall, WrongKind, WrongState}
+use Rattle.mdv_base.specs.declared.refusal.Refusal.TheVariants.{NeedForce, NoDatabase, NoSuchSlice, NoSuchVolume, OutOfRange, ReplicaFull, SliceInUse, TooMany, TooSmall, WrongKind, WrongState}
 use Rattle.mdv_base.proofs.Order.{first_holds}
 use Rattle.mdv_name.specs.SliceIndex.{slice_at}
-use Rattle.mdv_table.specs.Change.{is_db}
-use Rattle.mdv_plan.specs.Slices.{meets_db}
-use Rattle.mdv_table.specs.Plan.{is_in_use, used_slices}
-use Rattle.mdv_table.specs.Volumes.{has_volume}
-use Rattle.mdv_engine_law.specs.Below.{Down, Place, StateWord}
+use Rattle.mdv_engine_law.specs.Below.{Down, Place, StateWord, map_of}
 use Rattle.mdv_engine_law.specs.Places.{are_all, bytes_with, list_more, list_of, room_with}
 use Rattle.mdv_engine_law.specs.Answers.{IsMereRefusal, refusing}
-use Rattle.mdv_engine_law.specs.Refusals.{Case, held_of_drop, held_of_less, held_of_lists, held_of_others, in_state, rest_of, state_of_less, blocks_refusal, bytes_after, change_refusal, has_number, held_of_blocks, held_of_change, held_of_creation, held_of_read, held_of_replicas, held_past, is_doubled, is_missing, is_plain, is_short, is_taken, places_open, read_refusal, refusal_of, size_of}
+use Rattle.mdv_engine_law.specs.Refusals.{Case, held_of_drop, held_of_less, held_of_lists, held_of_others, in_state, rest_of, state_of_less, blocks_refusal, held_of_blocks, held_of_creation, held_of_replicas, held_of_transfer, held_past, is_doubled, is_missing, is_plain, is_short, is_taken, places_open, refusal_of, transfer_refusal}
 use Rattle.mdv_engine_law.specs.Commands.{blame_of, blame_of_places}
 use Rattle.mdv_engine_law.specs.Replies.{Blame, HasAnswerCause}
-use Rattle.mdv_engine.specs.Below.{AreCalm, Outcomes, lines_asked, SliceName, VolId, Refusal, IoFault, OutOfMemory, PlanChange, MakeStripe, Host, Memory, Opened, Volume, record_room, AddPlaces, DropPlaces}
-use Rattle.mdv_engine.specs.Engine.{HasChangeCause}
+use Rattle.mdv_engine.specs.Below.{AreCalm, Outcomes, lines_asked, SliceName, VolId, Refusal, IoFault, OutOfMemory, Host, Map, Memory, Opened, AddPlaces, DropPlaces}
 
 -- a refusal that tells of no failed call and of no want of memory
 abbrev pub IsJudged : Refusal → Type 0
@@ -32,28 +27,30 @@ judged_mere IoFault judged = absurd judged
 judged_mere OutOfMemory judged = absurd judged
 judged_mere other judged = tt
 
+-- and no failed call
+pub judged_no_fault : (r : Refusal) → IsJudged r → r ≡ IoFault → ⊥
+judged_no_fault r judged fault = subst IsJudged fault judged
+
 pub where_judged : (holds : Bool) (r : Refusal) → IsJudged r → All IsJudged (where_so holds r)
 where_judged true r judged = All-cons IsJudged r [] judged (All-nil IsJudged)
 where_judged false r judged = All-nil IsJudged
 
 -- what blocks are refused for is such a one
-past_judged : (volume : Option Volume) (end : ℕ) → All IsJudged (held_past volume end)
+past_judged : (v : Option Map) (end : ℕ) → All IsJudged (held_past v end)
 past_judged None end = All-cons IsJudged NoSuchVolume [] tt (All-nil IsJudged)
-past_judged (Some volume) end = by (nat_lt (size_of volume.kind) end) where
-  by : (past : Bool) → All IsJudged (where_so past OutOfRange)
-  by true = All-cons IsJudged OutOfRange [] tt (All-nil IsJudged)
-  by false = All-nil IsJudged
+past_judged (Some v) end = where_judged (nat_lt v.blocks end) OutOfRange tt
 
-blocks_held : (opened : Option Opened) (volume : VolId) (end : ℕ) → All IsJudged (held_of_blocks opened volume end)
-blocks_held None volume end = All-cons IsJudged NoDatabase [] tt (All-nil IsJudged)
-blocks_held (Some o) volume end = past_judged (find (has_number volume) o.table.plan.volumes) end
+blocks_held : (host : Host) (opened : Option Opened) (volume : VolId) (end : ℕ) → All IsJudged (held_of_blocks host opened volume end)
+blocks_held host None volume end = All-cons IsJudged NoDatabase [] tt (All-nil IsJudged)
+blocks_held host (Some o) volume end = past_judged (map_of host.drives o.table volume) end
 
-pub blocks_judged : (opened : Option Opened) (volume : VolId) (end : ℕ) (r : Refusal) → blocks_refusal opened volume end ≡ Some r → IsJudged r
-blocks_judged opened volume end r is = first_holds IsJudged order (held_of_blocks opened volume end) r (blocks_held opened volume end) is
+pub blocks_judged : (host : Host) (opened : Option Opened) (volume : VolId) (end : ℕ) (r : Refusal) → blocks_refusal host opened volume end ≡ Some r → IsJudged r
+blocks_judged host opened volume end r is = first_holds IsJudged order (held_of_blocks host opened volume end) r (blocks_held host opened volume end) is
 
-pub read_judged : (opened : Option Opened) (volume : VolId) (at count : ℕ) (r : Refusal) → read_refusal opened volume at count ≡ Some r → IsJudged r
-read_judged opened volume at count r is =
-    first_holds IsJudged order (held_of_read opened volume at count) r (All-append IsJudged (held_of_blocks opened volume (at + count)) (where_so (nat_lt 1024 count) TooMany) (blocks_held opened volume (at + count)) (where_judged (nat_lt 1024 count) TooMany tt)) is
+pub transfer_judged : (host : Host) (opened : Option Opened) (volume : VolId) (at count : ℕ) (r : Refusal) → transfer_refusal host opened volume at count ≡ Some r → IsJudged r
+transfer_judged host opened volume at count r is =
+    first_holds IsJudged order (held_of_transfer host opened volume at count) r
+    (All-append IsJudged (held_of_blocks host opened volume (at + count)) (where_so (nat_lt 1024 count) TooMany) (blocks_held host opened volume (at + count)) (where_judged (nat_lt 1024 count) TooMany tt)) is
 
 -- and what a creation is refused for
 and_judged : (holds : Bool) (r : Refusal) (rest : List Refusal) → IsJudged r → All IsJudged rest → All IsJudged (where_so holds r ++ rest)
@@ -106,44 +103,11 @@ drop_held case (Some o) slices force = All-append IsJudged (held_of_less case o 
 pub drop_judged : (case : Case) (slices : List SliceName) (force : Bool) (r : Refusal) → refusal_of case (DropPlaces slices force) ≡ Some r → IsJudged r
 drop_judged case slices force r is = first_holds IsJudged order (held_of_drop case case.memory.opened slices force) r (drop_held case case.memory.opened slices force) is
 
--- and a change
-change_held_so : (gone taken set_aside used long : Bool) (full : Refusal) → IsJudged full
-    → All IsJudged ((((where_so gone NoSuchSlice ++ where_so taken NameTaken) ++ where_so set_aside WrongKind) ++ where_so used SliceInUse) ++ where_so long full)
-change_held_so gone taken set_aside used long full judged =
-    let named = where_so gone NoSuchSlice ++ where_so taken NameTaken in
-    let kept = named ++ where_so set_aside WrongKind in
-    All-append IsJudged (kept ++ where_so used SliceInUse) (where_so long full)
-    (All-append IsJudged kept (where_so used SliceInUse)
-    (All-append IsJudged named (where_so set_aside WrongKind) (All-append IsJudged (where_so gone NoSuchSlice) (where_so taken NameTaken) (where_judged gone NoSuchSlice tt) (where_judged taken NameTaken tt)) (where_judged set_aside WrongKind tt))
-    (where_judged used SliceInUse tt))
-    (where_judged long full judged)
-
-change_held : (host : Host) (opened : Option Opened) (volume : VolId) (slice : SliceName) → All IsJudged (held_of_change host opened (MakeStripe volume slice))
-change_held host None volume slice = All-cons IsJudged NoDatabase [] tt (All-nil IsJudged)
-change_held host (Some o) volume slice =
-    let g = host.drives in
-    let p = o.table.plan in
-    let change = MakeStripe volume slice in
-    change_held_so (is_none (slice_at g.slices slice)) (has_volume p.volumes volume) (is_db (slice_at g.slices slice)) (is_in_use g.slices (used_slices p) slice || meets_db g slice)
-    (nat_lt (record_room o) (bytes_after host o change)) (ReplicaFull (bytes_after host o change) (record_room o)) tt
-
-pub change_judged : (host : Host) (opened : Option Opened) (change : PlanChange) (r : Refusal) → change_refusal host opened change ≡ Some r → IsJudged r
-change_judged host opened (MakeStripe volume slice) r is = first_holds IsJudged order (held_of_change host opened (MakeStripe volume slice)) r (change_held host opened volume slice) is
-
 -- such a refusal comes where no call failed
 pub judged_said : (blame : Blame) (spends : Type 0) (r : Refusal) → IsJudged r → blame.none → HasAnswerCause blame spends (refusing r)
 judged_said blame spends IoFault judged calm = absurd judged
 judged_said blame spends OutOfMemory judged calm = absurd judged
 judged_said blame spends other judged calm = calm
-
-pub change_cause : (host : Host) (memory : Memory) (change : PlanChange) (blame : Blame) (spends : Type 0) → blame.none → (r : Refusal) → HasChangeCause host memory change r → HasAnswerCause blame spends (refusing r)
-change_cause host memory change blame spends calm r (inl is) = judged_said blame spends r (change_judged host memory.opened change r is) calm
-change_cause host memory change blame spends calm r (inr (some, want)) = subst (λ (x : Refusal). HasAnswerCause blame spends (refusing x)) (sym want) calm
-
--- and is no failed call
-pub change_no_fault : (host : Host) (memory : Memory) (change : PlanChange) (r : Refusal) → HasChangeCause host memory change r → r ≡ IoFault → ⊥
-change_no_fault host memory change r (inl is) fault = subst IsJudged fault (change_judged host memory.opened change r is)
-change_no_fault host memory change r (inr (some, want)) fault = absurd (cc (sym want ∙ fault))
 
 -- no call failed where places are asked that are refused, whatever is open
 pub places_calm : (calls : Outcomes) (host : Host) (memory : Memory) (slices : List SliceName) (force : Bool) (count blocks : ℕ) → AreCalm calls → (blame_of calls host memory (AddPlaces slices force count blocks)).none

@@ -1,4 +1,6 @@
 pub mod ReadJudging
+pub mod Altering
+pub mod Altered
 pub mod Asked
 pub mod Booting
 pub mod Creating
@@ -8,6 +10,7 @@ pub mod Committing
 pub mod Commits
 pub mod Located
 pub mod Requested
+pub mod Written
 pub mod Blocks
 pub mod Counted
 pub mod Counting

@@ -6,7 +6,7 @@ use Rattle.mdv_store.proofs.Shares.{half_less, short_fewer}
 use Rattle.mdv_store.specs.Seats.{AreLeft}
 use Rattle.mdv_store.specs.Shares.{short_of}
 use Rattle.mdv_store.specs.declared.seats.Need.TheVariants.{Half}
-use Rattle.mdv_table.specs.declared.plan.Lists.{Lists}
+use Rattle.mdv_plan.specs.declared.lists.Lists.{Lists}
 use Rattle.mdv_engine.specs.Below.{Host, Outcomes, Replica, Seat, replicas_of}
 use Rattle.mdv_engine.specs.Engine.{IsLostOnSite}
 

@@ -7,8 +7,8 @@ use Rattle.mdv_name.specs.SliceIndex.{same_slice}
 use Rattle.mdv_places.proofs.Coming.{keeps, lacks}
 use Rattle.mdv_places.specs.Asked.{KeepsFirst, dropped}
 use Rattle.mdv_shelf.proofs.Blocks.{both_ways}
-use Rattle.mdv_table.proofs.Beside.{among-true}
-use Rattle.mdv_table.specs.Plan.{beside, same_place}
+use Rattle.mdv_config.proofs.Beside.{among-true}
+use Rattle.mdv_config.specs.Lists.{beside, same_place}
 use Rattle.mdv_volumes.proofs.Lists.{contains_behind, contains_first, first_or_behind}
 use Rattle.mdv_engine_law.specs.Below.{DriveNo, Place, SliceAt}
 

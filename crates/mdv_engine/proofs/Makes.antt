@@ -25,7 +25,7 @@ use Rattle.mdv_engine_law.specs.declared.answer.Ended.TheVariants as ended
 use Rattle.mdv_engine_law.specs.declared.answer.Outcome.TheVariants as outcome
 use Rattle.mdv_engine_law.proofs.Allowed.{allowed_few}
 use Rattle.mdv_engine_law.proofs.Plain.{fault_plain, memory_plain}
-use Rattle.mdv_engine.specs.Below.{Answer, AreInForm, AreLaid, CameTo, CarriedTo, CarryMoment, AddPlaces, CreateFault, Identity, IoFault, IsAllowed, IsOpenedAt, IsReady, Key, Knows, Memory, Opened, OutOfMemory, Seat, SliceLine, SliceName, Table, Tale, active_of, identity_of, kept_at, key_of, lines_asked, OnDrive, record_text}
+use Rattle.mdv_engine.specs.Below.{Answer, AreInForm, AreLaid, CameTo, CarriedTo, CarryMoment, AddPlaces, CreateFault, Identity, IoFault, IsAllowed, IsOpenedAt, IsReady, Key, Knows, Memory, Opened, OutOfMemory, Seat, SliceLine, SliceName, Table, Tale, active_of, identity_of, kept_at, key_of, lines_asked, OnDrive, record_bytes}
 use Rattle.mdv_engine.specs.Counts.{IsCommandCounted, WereMadeInTurn, WereTried}
 use Rattle.mdv_places.specs.Asked.{Adds}
 use Rattle.mdv_engine_law.specs.Standing.{LeavesFormed}
@@ -230,7 +230,7 @@ module _ {S : Type 0} (shelf : Ghosts S) (a b : S) (v : Engine) (ready : IsReady
       → WereTried shelf a b (WereMadeInTurn shelf a b key identity lines count blocks) (seats_asked key identity lines count blocks) (table_of (seats_asked key identity lines count blocks)).plan.lists active listed
   tried active listed (formed, few) = record {
     now = formed.now;
-    left = left_as (DriveFailures shelf a b) (DriveFailures shelf a b) (TakesSlot first_mark (length (record_text (table_of (seats_asked key identity lines count blocks))))) (λ r n. Unit {0}) (seats_asked key identity lines count blocks) formed.now
+    left = left_as (DriveFailures shelf a b) (DriveFailures shelf a b) (TakesSlot first_mark (record_bytes (table_of (seats_asked key identity lines count blocks)))) (λ r n. Unit {0}) (seats_asked key identity lines count blocks) formed.now
         (λ r has some. some) (λ r has none. none) (λ r n took. tt) formed.tried;
     few = few;
     steps = in_turn formed;

@@ -4,16 +4,16 @@ use Rattle.std.specs.Prelude.{◌==◌, AllPairs, is_some, slice_index_or}
 use Rattle.std.proofs.lemmas.Bool.{false≢true}
 use Rattle.std.proofs.lemmas.Bool.Decides.{nat_tests}
 use Rattle.std.proofs.lemmas.List.{length-map}
-use Rattle.std.proofs.lemmas.List.Elements.{All-contains, Contains-append_cases}
+use Rattle.std.proofs.lemmas.List.Elements.{All-contains}
 use Rattle.std.proofs.lemmas.List.Filters.{length-filter_both}
 use Rattle.std.proofs.lemmas.List.Kept.{AllPairs-filter}
 use Rattle.mdv_acts.specs.Asked.{AreAsked}
 use Rattle.mdv_acts.specs.Wipes.{AreLaidOn, place_in}
-use Rattle.mdv_table.specs.Below.{TwoLists, are_spaced}
+use Rattle.mdv_plan.specs.declared.lists.Lists.TheVariants.{Two as TwoLists}
+use Rattle.mdv_fields.specs.Sets.{are_spaced}
 use Rattle.mdv_name.proofs.Finding.{same_slice-refl, slice_at-some}
 use Rattle.mdv_plan.specs.Slices.{meets_db}
 use Rattle.mdv_places.proofs.Adding.{added_slice, asked_places}
-use Rattle.mdv_places.proofs.Fronting.{its_slice}
 use Rattle.mdv_places.specs.Asked.{Adds, AreAskedOn, Asks, Drops, KeepsFirst, is_on, list_after, names_of, places_asked}
 use Rattle.mdv_places.specs.Changing.{AreFree, IsEnough, MayMove, both_of}
 use Rattle.mdv_places.specs.Moments.{AreOfSite, IsFront, MayShow}
@@ -24,10 +24,10 @@ use Rattle.mdv_store.specs.Create.{seats_asked}
 use Rattle.mdv_store.specs.Shares.{short_in}
 use Rattle.mdv_store.specs.declared.seats.Need.TheVariants.{Half}
 use Rattle.mdv_store_law.specs.Changes.{places_on}
-use Rattle.mdv_table.specs.Plan.{last_of}
-use Rattle.mdv_table.specs.Table.{IsPlaceOf, IsPlacesOf}
-use Rattle.mdv_table.specs.declared.plan.Lists.{Lists}
-use Rattle.mdv_table.specs.declared.plan.Lists.TheVariants.{One}
+use Rattle.mdv_config.specs.Lists.{last_of}
+use Rattle.mdv_config.specs.Table.{IsPlaceOf, IsPlacesOf}
+use Rattle.mdv_plan.specs.declared.lists.Lists.{Lists}
+use Rattle.mdv_plan.specs.declared.lists.Lists.TheVariants.{One}
 use Rattle.mdv_volumes.proofs.Lists.{contains_behind, contains_first, first_or_behind, in_filter}
 use Rattle.mdv_words.specs.Line.{IsCount, IsLength}
 use Rattle.mdv_engine_law.specs.Below.{Place}
@@ -38,9 +38,9 @@ use Rattle.mdv_engine_law.proofs.Allowed.{allowed_apart, allowed_beside, allowed
 use Rattle.mdv_engine_law.proofs.Places.{asked_length, asked_line, asked_sites}
 use Rattle.mdv_engine_law.proofs.Placing.{asked as line_asked, asked_on_site, asked_placed}
 use Rattle.mdv_engine_law.proofs.Refusing.{opened_has}
-use Rattle.mdv_engine.specs.Below.{AddPlaces, AreLaid, DropPlaces, Geometry, HasSlice, Host, IsAllowed, IsOfGeometry, IsOpenedAt, IsReady, Memory, Opened, Seat, Site, SliceAt, SliceLine, SliceName, Tale, identity_of, key_of, lines_asked, same_slice, site_of, slice_at}
+use Rattle.mdv_engine.specs.Below.{AddPlaces, AreLaid, DropPlaces, Geometry, Host, IsAllowed, IsOfGeometry, IsOpenedAt, IsReady, Memory, Opened, Seat, Site, SliceAt, SliceLine, SliceName, Tale, identity_of, key_of, lines_asked, same_slice, site_of, slice_at}
 use Rattle.mdv_engine.specs.Engine.{IsHeldBy, IsWell}
-use Rattle.mdv_engine.proofs.Both.{IsSited, both_fit, last_placed, more_placed, more_spaced, part_placed, part_spaced, starts_late}
+use Rattle.mdv_engine.proofs.Both.{both_fit, last_placed, more_placed, more_spaced, part_placed, part_spaced, starts_late}
 
 module _ (host : Host) (sizes : List ℕ) (ready : IsReady host sizes) (memory : Memory) (well : IsWell host memory) (o : Opened) (opened : memory.opened ≡ Some o) where
   abbrev case : Case
@@ -130,15 +130,9 @@ module _ (host : Host) (sizes : List ℕ) (ready : IsReady host sizes) (memory :
     enough = enough;
   }
 
-  site : host.site ≡ site_of g (key_of host)
-  site = ready.site
-
-  sited : (p : Place) → Contains places p → IsSited g (key_of host) p
-  sited p has = (let there = on_line p has in record { is = there.is; line = subst (λ (s : Site). Contains s.lines (record { name = p.slice; at = there.is.at })) site there.line })
-
   -- the table with both lists is one of the table of drives
-  fitting : (asked : Asks) → IsPlacesOf g (list_after asked places) → are_spaced (TwoLists places (list_after asked places)) ≡ true → ((p : Place) → Contains (list_after asked places) p → IsSited g (key_of host) p) → IsOfGeometry g (both_of o asked).table
-  fitting asked coming spaced each = both_fit g ready.sound (key_of host) o.table places (list_after asked places) one held.of_geometry coming spaced sited each
+  fitting : (asked : Asks) → IsPlacesOf g (list_after asked places) → are_spaced (TwoLists places (list_after asked places)) ≡ true → IsOfGeometry g (both_of o asked).table
+  fitting asked coming spaced = both_fit g ready.sound o.table places (list_after asked places) one held.of_geometry coming spaced
 
   pub may_show : (asked : Asks) → IsOfGeometry g (both_of o asked).table → AreOfSite g o asked → IsFront asked places → (t : Tale) → IsOpenedAt g o t → MayShow g o asked t
   may_show asked fit sites front t is = record { opened = is; of_geometry = fit; sites = sites; front = front }
@@ -194,19 +188,7 @@ module _ (host : Host) (sizes : List ℕ) (ready : IsReady host sizes) (memory :
         may adding are_asked free_of (omega (arith, first, both)) few tt
 
     pub add_fits : IsOfGeometry g (both_of o adding).table
-    add_fits = fitting adding (more_placed g places was new coming few beside_those) (more_spaced g places was new coming few beside_those) each
-      where
-        come : (p : Place) → Contains new p → IsSited g (key_of host) p
-        come p has =
-            let on = added_slice count blocks lines p has in
-            let is : IsPlaceOf g p = All-contains (IsPlaceOf g) new p coming.each has in
-            let line : Contains (site_of g (key_of host)).lines on.0 = subst (λ (s : Site). Contains s.lines on.0) site (on_site on.0 on.1) in
-            let has_it : HasSlice g.slices on.0.name on.0.at = its_slice g ready.sound (key_of host) on.0 line in
-            let one : on.0.at ≡ is.at = ready.sound.once p.slice on.0.at is.at (subst (λ (n : SliceName). HasSlice g.slices n on.0.at) (sym on.2) has_it) is.has in
-            record { is = is; line = subst (λ (l : SliceLine). Contains (site_of g (key_of host)).lines l) (λ i. record { name = sym on.2 i; at = one i }) line }
-
-        each : (p : Place) → Contains (places ++ new) p → IsSited g (key_of host) p
-        each p has = elim (Contains-append_cases places new p has) [ inl here ↦ sited p here | inr there ↦ come p there ]
+    add_fits = fitting adding (more_placed g places was new coming few beside_those) (more_spaced g places was new coming few beside_those)
 
     pub add_sites : AreOfSite g o adding
     add_sites line has =
@@ -267,7 +249,7 @@ module _ (host : Host) (sizes : List ℕ) (ready : IsReady host sizes) (memory :
       may_drop = may (Drops slices) tt tt some_left few_left drop_enough
 
       pub drop_fits : IsOfGeometry g (both_of o (Drops slices)).table
-      drop_fits = fitting (Drops slices) (part_placed g places was rest some_left few_left differ_left of_rest) (part_spaced g places was rest some_left few_left differ_left of_rest) (λ p has. sited p (of_rest p has))
+      drop_fits = fitting (Drops slices) (part_placed g places was rest some_left few_left differ_left of_rest) (part_spaced g places was rest some_left few_left differ_left of_rest)
 
       pub drop_room : bytes_with o rest ≤ room_with o rest
       drop_room = subst (λ (ps : List Place). bytes_with o ps ≤ room_with o ps) still (dropped_fits case o opened slices force free)
@@ -308,7 +290,7 @@ module _ (host : Host) (sizes : List ℕ) (ready : IsReady host sizes) (memory :
       may_keep = may KeepsFirst tt tt some_first few_first keep_enough
 
       pub keep_fits : IsOfGeometry g (both_of o KeepsFirst).table
-      keep_fits = fitting KeepsFirst (part_placed g places was first some_first few_first differ_first of_first) (part_spaced g places was first some_first few_first differ_first of_first) (λ p has. sited p (of_first p has))
+      keep_fits = fitting KeepsFirst (part_placed g places was first some_first few_first differ_first of_first) (part_spaced g places was first some_first few_first differ_first of_first)
 
       pub keep_front : IsFront KeepsFirst places
       keep_front = by places (dropped_front case o opened slices force free all) where

@@ -23,10 +23,10 @@ use Rattle.mdv_store.specs.declared.store.CommitFault.TheVariants as unwritten
 use Rattle.mdv_store.specs.declared.seats.Share.{Share}
 use Rattle.mdv_places.proofs.Coming.{passes}
 use Rattle.mdv_store_law.specs.Changes.{Change}
-use Rattle.mdv_table.proofs.Settled.{settled_of}
-use Rattle.mdv_table.specs.Plan.{first_of}
-use Rattle.mdv_table.specs.declared.plan.Lists.{Lists}
-use Rattle.mdv_table.specs.declared.plan.Lists.TheVariants.{One, Two}
+use Rattle.mdv_config.proofs.Settled.{settled_of}
+use Rattle.mdv_config.specs.Lists.{first_of}
+use Rattle.mdv_plan.specs.declared.lists.Lists.{Lists}
+use Rattle.mdv_plan.specs.declared.lists.Lists.TheVariants.{One, Two}
 use Rattle.mdv_engine_law.specs.Below.{Mark, Place}
 use Rattle.mdv_engine_law.specs.Answers.{accepted, refusing}
 use Rattle.mdv_engine_law.specs.Line.{AreCalmBeside, Ask, deeds}

@@ -29,8 +29,8 @@ use Rattle.mdv_store.specs.declared.store.CommitFault.TheVariants as unwritten
 use Rattle.mdv_store_law.specs.Changes.{Change}
 use Rattle.mdv_store_law.specs.Changes as changes
 use Rattle.mdv_name.proofs.Finding.{slice_at-some}
-use Rattle.mdv_table.specs.declared.plan.Lists.{Lists}
-use Rattle.mdv_table.specs.declared.plan.Lists.TheVariants.{One}
+use Rattle.mdv_plan.specs.declared.lists.Lists.{Lists}
+use Rattle.mdv_plan.specs.declared.lists.Lists.TheVariants.{One}
 use Rattle.mdv_volumes.proofs.Lists.{contains_behind, contains_first, first_or_behind}
 use Rattle.mdv_words.specs.Line.{IsCount, IsLength}
 use Rattle.mdv_engine_law.specs.Below.{Place}
@@ -48,7 +48,7 @@ use Rattle.std.proofs.lemmas.List.{length-map}
 use Rattle.mdv_places.specs.Asked.{claims}
 use Rattle.mdv_store.proofs.Spotting.{asked_length}
 use Rattle.mdv_store.specs.Opened.{AreSeatsOf}
-use Rattle.mdv_table.specs.Plan.{last_of, places_of}
+use Rattle.mdv_config.specs.Lists.{last_of, places_of}
 use Rattle.mdv_engine_law.specs.Refusals.{places_open}
 use Rattle.mdv_engine_law.proofs.Places.{asked_length as lines_length}
 use Rattle.mdv_engine_law.proofs.Allowed.{allowed_beside, allowed_few, allowed_slice}

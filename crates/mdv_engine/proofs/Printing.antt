@@ -1,12 +1,9 @@
 -- What the printing of a table comes to, and what it leads to.
-use Rattle.std.proofs.Common.{◌≡◌, inl, inr, if◌then◌else◌, not, ℕ, Bool, true, false, List, [], ◌++◌, ◌+◌, ◌≤◌, Option, Some, None, All, refl, sym, ap, subst, ◌∙◌, arith}
+use Rattle.std.proofs.Common.{◌≡◌, inl, inr, ℕ, List, [], ◌+◌, ◌≤◌, Option, Some, None, All, refl, sym, ap, subst, ◌∙◌, arith}
 use Rattle.std.proofs.lemmas.List.Elements.{All-append, All-cons, All-nil}
 use Rattle.std.specs.List.{list_any}
-use Rattle.std.specs.Prelude.{IfNone, IfSome, is_some}
 use Rattle.mdv_base.specs.Order.{first_refusal, order, where_so}
 use Rattle.mdv_base.specs.declared.name.Named.{Named}
-use Rattle.mdv_base.specs.declared.name.Named.TheVariants as named
-use Rattle.mdv_base.specs.declared.name.VolId.{VolId}
 use Rattle.mdv_base.specs.declared.refusal.Refusal.TheVariants.{NoDatabase, NoSuchPool, NoSuchVolume}
 use Rattle.mdv_base.proofs.Order.{first_holds}
 use Rattle.mdv_listing.specs.Listing.{listing_of}
@@ -24,10 +21,7 @@ use Rattle.mdv_engine_law.specs.declared.answer.Outcome.{Outcome}
 use Rattle.mdv_engine_law.specs.declared.answer.Outcome.TheVariants as outcome
 use Rattle.mdv_engine_law.proofs.Plain.{memory_plain, refusal_plain}
 use Rattle.mdv_engine_law.proofs.Turning.{entered_none, refused_none}
-use Rattle.mdv_table.proofs.Deciding.{has_volume-false, has_volume-true}
-use Rattle.mdv_table.specs.Volumes.{HasNoVolume, HasVolume}
-use Rattle.mdv_table.specs.declared.plan.Plan.{Plan}
-use Rattle.mdv_table.specs.declared.volume.Volume.{Volume}
+use Rattle.mdv_plan.specs.declared.plan.Plan.{Plan}
 use Rattle.mdv_engine.specs.Below.{AreCalm, CameTo, CarriedTo, Ends, Host, Memory, Opened, Outcomes, OutOfMemory, Refusal, Tale, kept_at}
 use Rattle.mdv_engine.specs.Counts.{IsCommandCounted}
 use Rattle.mdv_engine.specs.Ends.{CommandEnd, HasAnswered}
@@ -42,38 +36,18 @@ use Rattle.mdv_engine.proofs.Judged.{IsJudged, judged_said, where_judged}
 print_held : (opened : Option Opened) (names : List Named) → All IsJudged (held_of_print opened names)
 print_held None names = All-cons IsJudged NoDatabase [] tt (All-nil IsJudged)
 print_held (Some database) names =
-    let missing = list_any (names_no_volume database.table.plan.volumes) names in
+    let missing = list_any (names_no_volume database.table.plan) names in
     let pools = list_any names_pool names in
     All-append IsJudged (where_so missing NoSuchVolume) (where_so pools NoSuchPool) (where_judged missing NoSuchVolume tt) (where_judged pools NoSuchPool tt)
 
 pub print_judged : (opened : Option Opened) (names : List Named) (r : Refusal) → print_refusal opened names ≡ Some r → IsJudged r
 print_judged opened names r is = first_holds IsJudged order (held_of_print opened names) r (print_held opened names) is
 
--- by whether a volume of that number is found
-pub names_by : {X : Type 0} (value : X → Volume) (volumes : List Volume) (number : VolId) (found : Option X) (b : Bool) → is_some found ≡ not b → IfSome found (λ v. HasVolume volumes number (value v)) → IfNone found (HasNoVolume volumes number)
-    → b ≡ names_no_volume volumes (named.Volume number)
-names_by value volumes number None true is some none = sym (ap not (has_volume-false volumes number none))
-names_by value volumes number None false is some none = absurd (cc (is))
-names_by value volumes number (Some v) true is some none = absurd (cc (is))
-names_by value volumes number (Some v) false is some none = sym (ap not ((has_volume-true volumes number).1 (value v, some)))
-
--- the first of the two causes
-pub first_of_names : (missing pools : Bool) → first_refusal (where_so missing NoSuchVolume ++ where_so pools NoSuchPool) ≡ (if missing then Some NoSuchVolume else (if pools then Some NoSuchPool else None))
-first_of_names true true = refl
-first_of_names true false = refl
-first_of_names false true = refl
-first_of_names false false = refl
-
-pub told_of_names : (volumes : List Volume) (names : List Named) (missing pools : Bool) → list_any (names_no_volume volumes) names ≡ missing → list_any names_pool names ≡ pools
-    → (if missing then Some NoSuchVolume else (if pools then Some NoSuchPool else None)) ≡ first_refusal (held_of_names volumes names)
-told_of_names volumes names missing pools one two =
-    sym (first_of_names missing pools) ∙ sym (λ i. first_refusal (where_so (one i) NoSuchVolume ++ where_so (two i) NoSuchPool))
-
 -- what is open is printed, or what has these names of it
-pub turned_down_open : (memory : Memory) (database : Opened) (names : List Named) (r : Refusal) → memory.opened ≡ Some database → Some r ≡ first_refusal (held_of_names database.table.plan.volumes names) → HasPrinted memory names (outcome.Refused r)
+pub turned_down_open : (memory : Memory) (database : Opened) (names : List Named) (r : Refusal) → memory.opened ≡ Some database → Some r ≡ first_refusal (held_of_names database.table.plan names) → HasPrinted memory names (outcome.Refused r)
 turned_down_open memory database names r opened is = turned_down r (ap (λ (o : Option Opened). print_refusal o names) opened ∙ sym is) refl
 
-pub printed_open : (memory : Memory) (database : Opened) (names : List Named) (this : Outcome) → memory.opened ≡ Some database → None ≡ first_refusal (held_of_names database.table.plan.volumes names) → IsPrint database.table.plan names this → HasPrinted memory names this
+pub printed_open : (memory : Memory) (database : Opened) (names : List Named) (this : Outcome) → memory.opened ≡ Some database → None ≡ first_refusal (held_of_names database.table.plan names) → IsPrint database.table.plan names this → HasPrinted memory names this
 printed_open memory database names this opened is print = printed database opened (ap (λ (o : Option Opened). print_refusal o names) opened ∙ sym is) print
 
 pub printed_shut : (memory : Memory) (names : List Named) → memory.opened ≡ None → HasPrinted memory names (outcome.Refused NoDatabase)

@@ -11,17 +11,17 @@ use Rattle.mdv_shelf.specs.declared.shelf.Shelf.{Ghosts}
 use Rattle.mdv_map.specs.Below.{Among}
 use Rattle.mdv_map.specs.Maps.{readings}
 use Rattle.mdv_map.specs.Requests.{AllRead}
-use Rattle.mdv_dev.proofs.Copies.{drive_is, has_place, reads_there}
+use Rattle.mdv_dev.proofs.Copies.{reads_there}
 use Rattle.mdv_dev.proofs.Counting.{has_at}
 use Rattle.mdv_dev.specs.Pieces.{IsOneCopy, count_to, drives, pieces}
-use Rattle.mdv_dev.specs.Works.{FailedAt, StopsAt, TakesReads, TakesWrites, is_turn, turns}
+use Rattle.mdv_dev.specs.Works.{StopsAt, TakesReads, is_turn, turns}
+use Rattle.mdv_dev.specs.Writing.{HaveFailed}
 use Rattle.mdv_dev.specs.declared.work.WorkKind.{WorkKind}
-use Rattle.mdv_dev.specs.declared.work.WorkKind.TheVariants.{Flush, Read, Write}
+use Rattle.mdv_dev.specs.declared.work.WorkKind.TheVariants.{Read}
 use Rattle.mdv_engine_law.specs.Efforts.{map_or_none}
-use Rattle.mdv_engine_law.proofs.Ready.{own_drives_lie}
-use Rattle.mdv_engine.specs.Below.{AreSeen, DriveNo, Ends, FailedOn, HasBlocks, Host, IsOn, IsReady, KeptOnDrives, Map, Memory, Opened, Tale, VolId, drives_in, last, lies_on, map_open, pieces_in}
+use Rattle.mdv_engine.specs.Below.{AreSeen, DriveNo, Ends, FailedOn, HasBlocks, Host, KeptOnDrives, Map, Memory, Opened, Tale, VolId, last, lies_on, map_open, pieces_in, write_calls_in}
 use Rattle.mdv_engine.specs.Ends.{KeptOnBlocks}
-use Rattle.mdv_engine.specs.Engine.{FailedBlocks}
+use Rattle.mdv_engine.specs.Engine.{FailedBlocks, FailedWrite}
 
 -- one number that passes a test, and is below another, is counted there and not before
 count_below : (test : ℕ → Bool) (k n : ℕ) → k < n → test k ≡ true → count_to test k + 1 ≤ count_to test n
@@ -77,31 +77,9 @@ module _ {S : Type 0} (shelf : Ghosts S) (old new : S) (v : Map) (at count : ℕ
         made = between_wider shelf.calls shelf.written old new (earlier + turns v kind at k + 1) (earlier + turns v kind at k + 1) written 1 most written (omega arith) (omega (arith, few, below)) (omega arith) stops.2;
       }
 
-  -- the drive is one of the shelf's
-  failed_known : (host : Host) (sizes : List ℕ) → IsReady host sizes → IsOn sizes v → IsOneCopy v → at + count ≤ v.blocks → (kind : WorkKind) (k drive : ℕ) → FailedAt (DriveFailures shelf old new) v kind at count k drive → drive < 256
-  failed_known host sizes ready on one within kind k drive is =
-      let below = is.below in
-      let lt : at + k < v.blocks = omega (arith, within, below) in
-      let place = one (at + k) lt in
-      let known = (on (at + k) place.0 place.1 lt (has_place v (at + k) place.0 place.1 place.2)).0 in
-      let same : drive ≡ place.0 = is.on ∙ drive_is v (at + k) place.0 place.1 place.2 in
-      let few = (own_drives_lie host sizes ready).few in omega (arith, known, same, few)
-
   module _ {T : Type 0} (drive : DriveNo) where
     pub read_stopped : TakesReads {T = T} shelf old new v at count (Err drive) → HasStopped drive.0 (pieces v at count) 0
     read_stopped took = stopped Read 0 (pieces v at count) 0 drive.0 (let all : turns v Read at count ≡ pieces v at count = refl in omega (arith, all)) took.failed
-
-    pub write_stopped : TakesWrites {T = T} shelf old new v at count (Err drive) → HasStopped drive.0 (pieces v at count + drives v at count) count
-    write_stopped took = elim took.failed [
-      | inl writing ↦ stopped Write 0 (pieces v at count + drives v at count) count drive.0 (let all : turns v Write at count ≡ pieces v at count = refl in omega (arith, all)) writing
-      | inr syncing ↦ stopped Flush (pieces v at count) (pieces v at count + drives v at count) count drive.0 (let all : turns v Flush at count ≡ drives v at count = refl in omega (arith, all)) syncing
-    ]
-
-    pub write_known : (host : Host) (sizes : List ℕ) → IsReady host sizes → IsOn sizes v → IsOneCopy v → at + count ≤ v.blocks → TakesWrites {T = T} shelf old new v at count (Err drive) → drive.0 < 256
-    write_known host sizes ready on one within took = elim took.failed [
-      | inl writing ↦ failed_known host sizes ready on one within Write writing.0 drive.0 writing.1
-      | inr syncing ↦ failed_known host sizes ready on one within Flush syncing.0 drive.0 syncing.1
-    ]
 
 -- blocks of a volume of the open database
 module _ (host : Host) (memory : Memory) (volume : VolId) (at count : ℕ) (v : Map) (there : HasBlocks host memory volume at count v) where
@@ -112,7 +90,8 @@ module _ (host : Host) (memory : Memory) (volume : VolId) (at count : ℕ) (v : 
   pub pieces_are : (n : ℕ) → n ≡ count → pieces_in host memory.opened volume at n ≡ pieces v at count
   pieces_are n same = ap (λ (w : Map). pieces w at n) map_is ∙ ap (pieces v at) same
 
-  pub write_are : pieces_in host memory.opened volume at count + drives_in host memory.opened volume at count ≡ pieces v at count + drives v at count
+  -- how many calls a write of them makes
+  pub write_are : write_calls_in host memory.opened volume at count ≡ pieces v at count + drives v at count
   write_are = ap (λ (w : Map). pieces w at count + drives w at count) map_is
 
   module _ {S : Type 0} (shelf : Ghosts S) (old new : S) where
@@ -123,3 +102,7 @@ module _ (host : Host) (memory : Memory) (volume : VolId) (at count : ℕ) (v : 
     -- and one of them failed
     pub failed_blocks : (n : ℕ) → n ≡ count → (drive calls written : ℕ) → HasStopped shelf old new v at count drive calls written → FailedBlocks (DriveFailures shelf old new) host memory volume at n
     failed_blocks n same drive calls written stop = subst (λ (m : ℕ). FailedBlocks (DriveFailures shelf old new) host memory volume at m) (sym same) (record { map = v; there = there; drive = drive; on = stop.on; failed = stop.failed })
+
+    -- of a write on some of their drives, and on no other
+    pub failed_write : (failing : ℕ → Bool) → HaveFailed shelf old new v at count failing → FailedWrite (DriveFailures shelf old new) host memory volume at count
+    failed_write failing have = record { map = v; there = there; failing = failing; some = have.some; on = have.on; failed = have.failed; calm = have.calm }

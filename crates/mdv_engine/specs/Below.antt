@@ -15,7 +15,7 @@ pub use Rattle.mdv_dev.specs.Drives.{KeptOnDrives}
 pub use Rattle.mdv_dev.specs.Pieces.{IsOn, has_drive as lies_on}
 pub use Rattle.mdv_dev.specs.Works.{AreOnDisk}
 pub use Rattle.mdv_engine_law.specs.Commands.{CameTo, IsAllowed}
-pub use Rattle.mdv_engine_law.specs.Efforts.{drives_in, map_open, pieces_in}
+pub use Rattle.mdv_engine_law.specs.Efforts.{drives_in, map_open, pieces_in, write_calls_in}
 pub use Rattle.mdv_engine_law.specs.Hosts.{IsReady, StaysHome, identity_of, key_of, lines_asked, opened_area, places_area}
 pub use Rattle.mdv_engine_law.specs.Line.{AreSeen, HasBlocks, HasUnsettled, IsUpBy, answered_by, booted_with, opened_by}
 pub use Rattle.mdv_engine_law.specs.Line.{IsRebooted, IsTurnedDown, Kept, Memory, asked_by, kept_at, record_room, unbooted}
@@ -25,14 +25,14 @@ pub use Rattle.mdv_engine_law.specs.declared.answer.Answer.{Answer}
 pub use Rattle.mdv_engine_law.specs.declared.answer.Ended.{Ended}
 pub use Rattle.mdv_engine_law.specs.declared.host.Host.{Host}
 pub use Rattle.mdv_layout_law.specs.Laid.{plain_area}
-pub use Rattle.mdv_map.specs.Maps.{Map, run_map}
+pub use Rattle.mdv_map.specs.Maps.{HasDriveBlock, Map}
 pub use Rattle.mdv_map.specs.Requests.{Rewriting}
 pub use Rattle.mdv_name.specs.SliceIndex.{HasNoSlice, HasSlice, same_slice, slice_at}
 pub use Rattle.mdv_name.specs.declared.geometry.Geometry.{Geometry}
 pub use Rattle.mdv_name.specs.declared.slice_lines.SliceAt.{SliceAt}
 pub use Rattle.mdv_name.specs.declared.slice_lines.SliceLine.{SliceLine}
-pub use Rattle.mdv_record.specs.Text.{record_text}
-pub use Rattle.mdv_record.specs.declared.record.TooLong.{TooLong}
+pub use Rattle.mdv_encoding.specs.Text.{record_bytes, record_text}
+pub use Rattle.mdv_whole.specs.declared.encoding.TooLong.{TooLong}
 pub use Rattle.mdv_shelf.specs.Area.{KeptOutside, nowhere}
 pub use Rattle.mdv_shelf.specs.Calls.{OnDrive, OnReplies}
 pub use Rattle.mdv_shelf.specs.Failing.{AreCalm, FailedOn, Outcomes}
@@ -52,18 +52,14 @@ pub use Rattle.mdv_store.specs.declared.seats.Seat.{Seat}
 pub use Rattle.mdv_store.specs.declared.store.CommitFault.{CommitFault}
 pub use Rattle.mdv_store_law.specs.Changes.{OfPlan}
 pub use Rattle.mdv_survey.specs.declared.replica.Replica.{Replica}
-pub use Rattle.mdv_table.specs.Table.{IsComponentOn, IsKindOf, IsOfGeometry, IsStripeOf, IsWholeSlice}
-pub use Rattle.mdv_table.specs.Volumes.{HasNoVolume, HasVolume}
-pub use Rattle.mdv_table.specs.declared.change.Change.{Change as PlanChange}
-pub use Rattle.mdv_table.specs.declared.change.Change.TheVariants.{MakeStripe}
-pub use Rattle.mdv_table.specs.declared.table.Table.{Table}
-pub use Rattle.mdv_table.specs.declared.volume.Base.{Base}
-pub use Rattle.mdv_table.specs.declared.volume.Base.TheVariants.{Slice}
-pub use Rattle.mdv_table.specs.declared.volume.Volume.{Volume}
-pub use Rattle.mdv_table.specs.declared.volume.VolumeKind.{VolumeKind}
-pub use Rattle.mdv_table.specs.declared.volume.VolumeKind.TheVariants.{Stripe}
+pub use Rattle.mdv_config.specs.Table.{IsKindOf, IsOfGeometry}
+pub use Rattle.mdv_change.specs.declared.change.Change.{Change as PlanChange}
+pub use Rattle.mdv_plan.specs.declared.table.Table.{Table}
+pub use Rattle.mdv_plan.specs.declared.volume.Volume.{Volume}
 pub use Rattle.mdv_volumes.specs.History.{Changed, Created, Deed, Saw, Wrote}
 pub use Rattle.mdv_volumes.specs.Tables.{IsMapOf}
+pub use Rattle.mdv_words.specs.Line.{blocks_of}
+pub use Rattle.mdv_words.specs.declared.command.Alteration.{Alteration}
 pub use Rattle.mdv_words.specs.declared.command.Command.{Command}
-pub use Rattle.mdv_words.specs.declared.command.Command.TheVariants.{AddListed, AddPlaces, DropPlaces, Read, Write}
+pub use Rattle.mdv_words.specs.declared.command.Command.TheVariants.{AddListed, AddPlaces, Alter, DropPlaces, Read, Write}
 pub use Rattle.mdv_words.specs.Listed.{AreInForm, Replicas, listed_by, meant}

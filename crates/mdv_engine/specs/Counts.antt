@@ -9,6 +9,7 @@ use Rattle.mdv_shelf.specs.Made.{Made, made_of}
 use Rattle.mdv_shelf.specs.Shelves.{DriveFailures, MadeCalls}
 use Rattle.mdv_shelf.specs.Tale.{Tale, last}
 use Rattle.mdv_shelf.specs.declared.shelf.Shelf.{Ghosts}
+use Rattle.mdv_words.specs.Line as words
 use Rattle.mdv_words.specs.declared.command.Command.{Command}
 use Rattle.mdv_words.specs.declared.command.Command.TheVariants as command
 use Rattle.mdv_store.specs.BootCounts.{IsAnewCounted, most_blocks, most_calls, most_reads}
@@ -22,7 +23,6 @@ use Rattle.mdv_store.specs.Seats.{AreLeft}
 use Rattle.mdv_store.specs.Writing.{AreWrittenBy}
 use Rattle.mdv_standing.specs.Creating.{first_mark}
 use Rattle.mdv_survey.specs.Counts.{AreLinesBy}
-use Rattle.mdv_table.specs.Change.{table_after}
 use Rattle.mdv_engine_law.specs.Line.{answered_by, opened_by}
 use Rattle.mdv_engine_law.specs.Efforts.{FaultCalls, LossCalls, MadeCallsOf, deletion_blocks, deletion_calls, places_on, wanting_calls}
 use Rattle.mdv_engine_law.specs.Places.{are_all}
@@ -35,13 +35,14 @@ use Rattle.mdv_engine_law.specs.declared.answer.Answer.{Answer}
 use Rattle.mdv_engine_law.specs.declared.answer.Answer.TheVariants.{Said, Over}
 use Rattle.mdv_engine_law.specs.declared.answer.Ended.TheVariants as ended
 use Rattle.mdv_engine_law.specs.declared.answer.Outcome.TheVariants as outcome
+use Rattle.mdv_engine_law.specs.Altering.{table_by}
 use Rattle.mdv_engine_law.specs.Answers.{accepted, refusing}
 use Rattle.mdv_engine_law.specs.declared.answer.Reply.{Reply}
 use Rattle.mdv_engine_law.specs.declared.answer.Reply.TheVariants as reply
-use Rattle.mdv_engine.specs.Below.{AddListed, AddPlaces, DropPlaces, Geometry, Host, Identity, Key, MakeStripe, Memory, Opened, Read, Seat, SliceLine, Write, active_of, drives_in, key_of, lines_asked, pieces_in}
+use Rattle.mdv_engine.specs.Below.{AddListed, AddPlaces, DropPlaces, Geometry, Host, Identity, Key, Memory, Opened, Read, Seat, SliceLine, Write, active_of, key_of, lines_asked, pieces_in, write_calls_in}
 use Rattle.mdv_store.specs.Shares.{short_of}
 use Rattle.mdv_store.specs.declared.seats.Need.TheVariants.{Half}
-use Rattle.mdv_table.specs.declared.plan.Lists.{Lists}
+use Rattle.mdv_plan.specs.declared.lists.Lists.{Lists}
 
 -- the most calls that a command makes, and the most blocks that it writes
 abbrev pub calls_of : Host → Option Opened → Command → ℕ
@@ -50,10 +51,10 @@ calls_of host None (AddPlaces slices force count blocks) = 2 * blanked_asked (li
 calls_of host opened (AddListed number force) = 0
 calls_of host (Some o) (DropPlaces slices force) = if are_all o slices then deletion_calls o else move_calls o (Drops slices)
 calls_of host None (DropPlaces slices force) = 0
-calls_of host None (command.MakeStripe volume slice) = 0
-calls_of host (Some o) (command.MakeStripe volume slice) = 6 * active_of o.seats
+calls_of host None (command.Alter alteration) = 0
+calls_of host (Some o) (command.Alter alteration) = 6 * active_of o.seats
 calls_of host opened (Read volume at count) = pieces_in host opened volume at (min count 1024)
-calls_of host opened (Write volume at block) = pieces_in host opened volume at 1 + drives_in host opened volume at 1
+calls_of host opened (Write volume at what) = write_calls_in host opened volume at (min (length (words.blocks_of what)) 1024)
 calls_of host opened (command.Print names) = 0
 
 abbrev pub blocks_of : Host → Option Opened → Command → ℕ
@@ -62,10 +63,10 @@ blocks_of host None (AddPlaces slices force count blocks) = blanked_asked (lines
 blocks_of host opened (AddListed number force) = 0
 blocks_of host (Some o) (DropPlaces slices force) = if are_all o slices then deletion_blocks o else move_blocks o (Drops slices)
 blocks_of host None (DropPlaces slices force) = 0
-blocks_of host None (command.MakeStripe volume slice) = 0
-blocks_of host (Some o) (command.MakeStripe volume slice) = 4096 * active_of o.seats
+blocks_of host None (command.Alter alteration) = 0
+blocks_of host (Some o) (command.Alter alteration) = 4096 * active_of o.seats
 blocks_of host opened (Read volume at count) = 0
-blocks_of host opened (Write volume at block) = 1
+blocks_of host opened (Write volume at what) = length (words.blocks_of what)
 blocks_of host opened (command.Print names) = 0
 
 -- Places were formatted, and behind that their first table was written at each of them in turn.
@@ -85,7 +86,7 @@ pub record WasDeleted {S : Type 0} (shelf : Ghosts S) (old new : S) (g : Geometr
 -- its formats; and a change of places behind its formats twice, with both lists at the places of both, and with the new one alone at those of them that it has. Behind these it tried each wipe.
 abbrev pub HasWrittenAll : {S : Type 0} → Ghosts S → S → S → Host → Command → Option Opened → Option Opened → Type 0
 HasWrittenAll shelf old new host (AddPlaces slices force count blocks) None (Some now) = WereMadeInTurn shelf old new now.key now.identity (lines_asked host slices) count blocks now.seats
-HasWrittenAll shelf old new host (command.MakeStripe volume slice) (Some before) (Some now) = AreWrittenBy shelf now.mark now.table old new before.seats now.seats
+HasWrittenAll shelf old new host (command.Alter alteration) (Some before) (Some now) = AreWrittenBy shelf now.mark now.table old new before.seats now.seats
 HasWrittenAll shelf old new host (AddPlaces slices force count blocks) (Some before) (Some now) = (clean : Bool) × WereMoved shelf old new host.drives before now (Adds (lines_asked host slices) count blocks) clean
 HasWrittenAll shelf old new host (DropPlaces slices force) (Some before) (Some now) = (clean : Bool) × WereMoved shelf old new host.drives before now (Drops slices) clean
 HasWrittenAll shelf old new host (DropPlaces slices force) (Some before) None = WasDeleted shelf old new host.drives before (Ok tt)
@@ -109,8 +110,8 @@ abbrev pub HasTriedAll : {S : Type 0} → Ghosts S → S → S → Host → Comm
 HasTriedAll shelf old new host (AddPlaces slices force count blocks) None active listed =
     (identity : Identity) × WereTried shelf old new (WereMadeInTurn shelf old new (key_of host) identity (lines_asked host slices) count blocks) (seats_asked (key_of host) identity (lines_asked host slices) count blocks)
     (table_of (seats_asked (key_of host) identity (lines_asked host slices) count blocks)).plan.lists active listed
-HasTriedAll shelf old new host (command.MakeStripe volume slice) (Some o) active listed =
-    WereTried shelf old new (AreWrittenBy shelf (next_mark o.mark) (table_after host.drives (MakeStripe volume slice) o.table) old new o.seats) o.seats o.table.plan.lists active listed
+HasTriedAll shelf old new host (command.Alter alteration) (Some o) active listed =
+    WereTried shelf old new (AreWrittenBy shelf (next_mark o.mark) (table_by host.drives alteration o.table) old new o.seats) o.seats o.table.plan.lists active listed
 HasTriedAll shelf old new host (AddPlaces slices force count blocks) (Some o) active listed = (now : Opened) × WasLost shelf old new host.drives o now (Adds (lines_asked host slices) count blocks) (record { active = active; listed = listed })
 HasTriedAll shelf old new host (DropPlaces slices force) (Some o) active listed = (now : Opened) × WasLost shelf old new host.drives o now (drop_of o slices) (record { active = active; listed = listed })
 HasTriedAll shelf old new host other before active listed = Unit {0}

@@ -1,5 +1,5 @@
 -- What the calls of an engine say of their answers, and of the drives in the end.
-use Rattle.std.specs.Prelude.{◌≡◌, ◌≢◌, ◌⊎◌, ◌≤◌, ◌+◌, ◌*◌, ℕ, Bool, true, false, List, [], Option, Some, None, Result, Ok, Err, IfOk, IfErr, OnOk, MatchOption, Contains, length}
+use Rattle.std.specs.Prelude.{◌≡◌, ◌≢◌, ◌⊎◌, ◌≤◌, ◌+◌, ◌*◌, ℕ, Bool, not, true, false, List, [], Option, Some, None, Result, Ok, Err, IfOk, IfErr, OnOk, MatchOption, Contains, length}
 use Rattle.mdv_acts.specs.Asked.{drives_asked}
 use Rattle.mdv_shelf.specs.Drives.{KeptAmong}
 use Rattle.mdv_shelf.specs.Shelves.{AtEachMoment, AtEachTale, AtEnd, DriveFailures, EndsTold, GivingFailed, GivingFailures, MadeCalls, RestsOnceTold}
@@ -11,19 +11,21 @@ use Rattle.mdv_store.specs.Seats.{AreTheirs}
 use Rattle.mdv_words.specs.declared.command.Command.{Command}
 use Rattle.mdv_words.specs.declared.command.Command.TheVariants as command
 use Rattle.mdv_words.specs.Line as words
-use Rattle.mdv_engine.specs.Below.{Answer, AreCalm, BootedTo, CameTo, CarryEnd, CarryMoment, OfPlan, PlanChange, Changed, Created, DriveNo, Ended, Executed, FailedOn, Host, IoFault, IsAllowed, IsOpenedAt, IsPlainAnswer, IsRebooted, IsSynced, Kept, KeptOutside, Knows, MakeStripe, MayLeave, Memory, Opened, OutOfMemory, Outcomes, Read, Refusal, Seat, SliceLine, SliceName, Table, Tale, TellMoment, TellsFront, TurnMoment, Turned, VolId, Write, asked_by, has_drive, identity_of, kept_at, key_of, last, lines_asked, nowhere, text_of, unbooted, AddListed, AddPlaces, DropPlaces, listed_by, meant, AreOnDisk, AreSeen, HasBlocks, HasUnsettled, KeptOnDrives, Map, Rewriting, drives_in, lies_on, map_open, pieces_in}
+use Rattle.mdv_engine.specs.Below.{Answer, AreCalm, BootedTo, CameTo, CarryEnd, CarryMoment, Created, DriveNo, Ended, Executed, Host, IoFault, IsAllowed, IsOpenedAt, IsPlainAnswer, IsRebooted, IsSynced, Kept, KeptOutside, Knows, MayLeave, Memory, Opened, OutOfMemory, Outcomes, Read, Refusal, Seat, SliceLine, SliceName, Table, Tale, TellMoment, TellsFront, TurnMoment, Turned, VolId, Write, asked_by, has_drive, identity_of, kept_at, key_of, last, lines_asked, nowhere, text_of, unbooted, AddListed, AddPlaces, DropPlaces, listed_by, meant, AreOnDisk, AreSeen, HasBlocks, HasUnsettled, KeptOnDrives, Map, Rewriting, map_open, pieces_in, Alteration, blocks_of, write_calls_in}
 use Rattle.mdv_shelf.specs.Made.{Made, and_more, made_of}
 use Rattle.mdv_engine_law.specs.declared.answer.Answer.TheVariants.{Over}
 use Rattle.mdv_engine_law.specs.declared.answer.Ended.TheVariants as ended
-use Rattle.mdv_engine_law.specs.Line.{Ask, ToDo, ToDrop, ToMake, ToMakeListed, contents, deeds}
+use Rattle.mdv_engine_law.specs.Line.{Ask, ToDrop, ToMake, ToMakeListed, contents, deeds}
 use Rattle.mdv_engine_law.specs.Moves.{IsLostChange, drop_of}
+use Rattle.mdv_dev.specs.Writing.{HaveFailed}
+use Rattle.mdv_map.specs.Requests.{OnDrives}
 use Rattle.mdv_places.specs.Asked.{Adds, Asks, seats_added}
 use Rattle.mdv_places.specs.Changing.{drives_moved}
 use Rattle.mdv_store.specs.Commit.{next_mark}
 use Rattle.mdv_engine_law.specs.Answers.{IsMereRefusal, IsSaid, accepted, refusing}
 use Rattle.mdv_engine_law.specs.Commands.{MaySpend, blame_of}
 use Rattle.mdv_engine_law.specs.Efforts.{BootCalls, FaultCalls, LossCalls, MadeCallsOf, wanting_calls}
-use Rattle.mdv_engine_law.specs.Refusals.{blocks_refusal, read_refusal}
+use Rattle.mdv_engine_law.specs.Refusals.{blocks_refusal, transfer_refusal}
 use Rattle.mdv_engine_law.specs.declared.answer.Outcome.{Outcome}
 use Rattle.mdv_engine_law.specs.declared.answer.Reply.{Reply}
 use Rattle.mdv_engine_law.specs.declared.answer.Reply.TheVariants as reply
@@ -38,9 +40,9 @@ use Rattle.mdv_engine.specs.Engine.{HasBootCause, IsLostOnSite, IsNextTable, IsW
 abbrev pub CreationMoments : {S : Type 0} → Ghosts S → S → S → Engine → List SliceName → ℕ → ℕ → Type 0
 CreationMoments shelf from to old slices count blocks = AtEachTale shelf (CarryMoment old.host (ToMake (key_of old.host) (lines_asked old.host slices) count blocks) old.state) from to
 
--- each moment of a change
-abbrev pub ChangeMoments : {S : Type 0} → Ghosts S → S → S → Engine → PlanChange → Type 0
-ChangeMoments shelf from to old change = AtEachTale shelf (CarryMoment old.host (ToDo (Changed (key_of old.host) (OfPlan change))) old.state) from to
+-- each moment of a change of volumes
+abbrev pub AlterMoments : {S : Type 0} → Ghosts S → S → S → Engine → Alteration → Type 0
+AlterMoments shelf from to old alteration = AtEachTale shelf (CarryMoment old.host (asked_by old.host (command.Alter alteration)) old.state) from to
 
 -- the database that a creation leaves open at these places
 abbrev pub made_at : Host → ℕ → List SliceLine → ℕ → ℕ → List Seat → Opened
@@ -86,17 +88,13 @@ CommandEnd calls old command answer new t u = CarriedOut calls old.host (asked_b
 abbrev pub NamedEnd : Outcomes → Engine → Command → Answer → Engine → Tale → Tale → Type 0
 NamedEnd calls old command answer new t u = CarriedOut calls old.host (asked_by old.host command) (meant old.state.entries command) old.state answer new.state t u
 
--- the table that the change makes of the engine's
-abbrev pub IsNext : Engine → PlanChange → Table → Type 0
-IsNext engine change next = IsNextTable engine.host engine.state change next
+-- the table that the alteration makes of the engine's
+abbrev pub IsNext : Engine → Alteration → Table → Type 0
+IsNext engine alteration next = IsNextTable engine.host engine.state alteration next
 
--- so of a stripe
-abbrev pub IsStriped : Engine → VolId → SliceName → Table → Type 0
-IsStriped engine volume slice next = IsNext engine (MakeStripe volume slice) next
-
--- the end of a stripe's making
-abbrev pub StripeEnds : {S : Type 0} → Ghosts S → S → S → Engine → VolId → SliceName → Answer → Engine → Type 0
-StripeEnds shelf from to old volume slice answer new = AtEnd shelf (CommandEnd (DriveFailures shelf from to) old (command.MakeStripe volume slice) answer new) from to
+-- the end of a change of volumes
+abbrev pub AlterEnds : {S : Type 0} → Ghosts S → S → S → Engine → Alteration → Answer → Engine → Type 0
+AlterEnds shelf from to old alteration answer new = AtEnd shelf (CommandEnd (DriveFailures shelf from to) old (command.Alter alteration) answer new) from to
 
 -- the end of a creation of so many replicas of so many blocks on each of these slices
 abbrev pub CreationEnds : {S : Type 0} → Ghosts S → S → S → Engine → List SliceName → Bool → ℕ → ℕ → Answer → Engine → Type 0
@@ -119,13 +117,13 @@ pub record HasAnswered (calls : Outcomes) (command : Command) (old : Engine) (an
   pub well : IsSaid answer → IsWell old.host new.state
   pub begun : new.state.begun ≤ old.state.begun + 1
 
--- the answer to a stripe's making
-abbrev pub StripeAnswered : {S : Type 0} → Ghosts S → S → S → Engine → VolId → SliceName → Answer → Engine → Type 0
-StripeAnswered shelf from to old volume slice answer new = HasAnswered (DriveFailures shelf from to) (command.MakeStripe volume slice) old answer new
+-- the answer to a change of volumes
+abbrev pub AlterAnswered : {S : Type 0} → Ghosts S → S → S → Engine → Alteration → Answer → Engine → Type 0
+AlterAnswered shelf from to old alteration answer new = HasAnswered (DriveFailures shelf from to) (command.Alter alteration) old answer new
 
 -- and its calls
-abbrev pub IsStripeCounted : {S : Type 0} → Ghosts S → S → S → Engine → VolId → SliceName → Answer → Engine → Type 0
-IsStripeCounted shelf from to old volume slice answer new = counts.IsCommandCounted shelf from to old.host (command.MakeStripe volume slice) answer old.state.opened new.state.opened
+abbrev pub IsAlterCounted : {S : Type 0} → Ghosts S → S → S → Engine → Alteration → Answer → Engine → Type 0
+IsAlterCounted shelf from to old alteration answer new = counts.IsCommandCounted shelf from to old.host (command.Alter alteration) answer old.state.opened new.state.opened
 
 -- Each moment of a line: how the drive stands, what was told of its reply by then, and that from the first byte of that on the drives are at rest.
 pub record LineMoments {S : Type 0} (shelf : Ghosts S) (host : Host) (ask : Ask) (old : Memory) (Comes : Outcomes → Kept → Answer → Kept → Type 0) (from to : S) : Type 0 where
@@ -243,7 +241,7 @@ pub record HasRebooted (calls : Outcomes) (old : Engine) (result : Result (Unit 
 pub record AreRead {S : Type 0} (shelf : Ghosts S) (old new : S) (engine : Engine) (volume : VolId) (at count : ℕ) (IsTold : List (List ℕ) → Type 0) : Type 0 where
   pub map : Map
   pub there : HasBlocks engine.host engine.state volume at count map
-  pub allowed : read_refusal engine.state.opened volume at count ≡ None
+  pub allowed : transfer_refusal engine.host engine.state.opened volume at count ≡ None
   pub blocks : List (List ℕ)
   pub as_told : IsTold blocks
   pub calm : AreCalm (DriveFailures shelf old new)
@@ -253,17 +251,21 @@ pub record AreRead {S : Type 0} (shelf : Ghosts S) (old new : S) (engine : Engin
 pub record ArePutting {S : Type 0} (shelf : Ghosts S) (old new : S) (engine : Engine) (volume : VolId) (at : ℕ) (blocks : List (List ℕ)) : Type 0 where
   pub map : Map
   pub there : HasBlocks engine.host engine.state volume at (length blocks) map
-  pub allowed : blocks_refusal engine.state.opened volume (at + length blocks) ≡ None
+  pub allowed : blocks_refusal engine.host engine.state.opened volume (at + length blocks) ≡ None
   pub moments : AtEachTale shelf (Rewriting map at blocks) old new
 
--- a call failed on a drive that one of them lies on, which is unsteady from then on
+-- of the copies of these blocks on the other drives a crash leaves only what a read gives
+abbrev pub OnSteady : (ℕ → Bool) → Map → ℕ → ℕ → Tale → Type 0
+OnSteady failing v at count t = OnDrives v (λ drive. not (failing drive)) at count t
+
+-- Calls failed on drives that they lie on, which are unsteady from then on; each other one has each block as a read gives it, whatever a crash leaves.
 pub record AreTorn {S : Type 0} (shelf : Ghosts S) (old new : S) (engine : Engine) (volume : VolId) (at : ℕ) (blocks : List (List ℕ)) (after : Engine) : Type 0 where
   pub putting : ArePutting shelf old new engine volume at blocks
-  pub drive : ℕ
-  pub on : lies_on putting.map at (length blocks) drive ≡ true
-  pub failed : FailedOn drive (DriveFailures shelf old new)
+  pub failing : ℕ → Bool
+  pub have : HaveFailed shelf old new putting.map at (length blocks) failing
+  pub others : AtEnd shelf (λ _ u. OnSteady failing putting.map at (length blocks) u) old new
   pub host : after.host ≡ engine.host
-  pub unsettled : HasUnsettled drive engine.state after.state
+  pub unsettled : HasUnsettled failing engine.state after.state
 
 -- they are on the disk in the end, and no call failed
 pub record ArePut {S : Type 0} (shelf : Ghosts S) (old new : S) (engine : Engine) (volume : VolId) (at : ℕ) (blocks : List (List ℕ)) (after : Engine) : Type 0 where
@@ -283,14 +285,14 @@ abbrev pub read_calls : Engine → VolId → ℕ → ℕ → ℕ
 read_calls engine volume at count = pieces_in engine.host engine.state.opened volume at count
 
 abbrev pub write_calls : Engine → VolId → ℕ → ℕ → ℕ
-write_calls engine volume at count = pieces_in engine.host engine.state.opened volume at count + drives_in engine.host engine.state.opened volume at count
+write_calls engine volume at count = write_calls_in engine.host engine.state.opened volume at count
 
 -- the calls of a read or a write of blocks: just so many where it was done, one at least and no more where a call failed, and none where it was refused for
 -- another cause
 pub record AreBlocksCounted {S : Type 0} (shelf : Ghosts S) (old new : S) (calls written : ℕ) (engine : Engine) (volume : VolId) (at count : ℕ) (result : Result (Unit {0}) Refusal) : Type 0 where
   pub done : OnOk result (MadeCalls shelf old new calls written)
   pub failed : result ≡ Err IoFault → (made_of shelf old new).within 1 calls written
-  pub refused : IfErr result (λ refusal. blocks_refusal engine.state.opened volume (at + count) ≡ Some refusal → new ≡ old)
+  pub refused : IfErr result (λ refusal. blocks_refusal engine.host engine.state.opened volume (at + count) ≡ Some refusal → new ≡ old)
 
 -- All calls that changed something or failed are on the drives of these blocks of a volume, and none changed something behind a failed one.
 abbrev pub KeptOnBlocks : {S : Type 0} → Ghosts S → S → S → Host → Memory → VolId → ℕ → ℕ → Type 0
@@ -310,9 +312,9 @@ abbrev pub KeptAsAsked : {S : Type 0} → Ghosts S → S → S → Host → Memo
 KeptAsAsked shelf old new host memory (AddPlaces slices force count blocks) = KeptAmong shelf old new (drives_more host memory.opened (lines_asked host slices) count blocks)
 KeptAsAsked shelf old new host memory (AddListed number force) = KeptAmong shelf old new []
 KeptAsAsked shelf old new host memory (DropPlaces slices force) = KeptAmong shelf old new (drives_less host memory.opened slices)
-KeptAsAsked shelf old new host memory (command.MakeStripe volume slice) = KeptAmong shelf old new (drives_open memory.opened)
+KeptAsAsked shelf old new host memory (command.Alter alteration) = KeptAmong shelf old new (drives_open memory.opened)
 KeptAsAsked shelf old new host memory (Read volume at count) = KeptOnBlocks shelf old new host memory volume at count
-KeptAsAsked shelf old new host memory (Write volume at block) = KeptOnBlocks shelf old new host memory volume at 1
+KeptAsAsked shelf old new host memory (Write volume at what) = KeptOnBlocks shelf old new host memory volume at (length (blocks_of what))
 KeptAsAsked shelf old new host memory (command.Print names) = KeptAmong shelf old new []
 
 -- What is said of a command that was carried out for a line that asks this: of each moment and the end, of its answer, of its calls, and of the drives on which they were made.

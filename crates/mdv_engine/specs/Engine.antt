@@ -1,12 +1,14 @@
 -- What an engine keeps, what its boots answer, and why blocks and changes are refused.
 use Rattle.std.specs.Prelude.{◌≡◌, ◌⊎◌, ◌+◌, ◌*◌, ◌<◌, ◌≤◌, ℕ, Bool, true, List, [], length, Contains, Option, Some, None, IfSome, Result, Ok, Err}
-use Rattle.mdv_engine.specs.Below.{Answer, AreCalm, AreLaid, BootEnd, PlanChange, CommitFault, CreateFault, DriveNo, Drives, Geometry, Host, IoFault, IsOfGeometry, IsUpBy, Memory, Opened, OutOfMemory, Outcomes, Refusal, Replica, ReplicaFull, Site, SliceLine, Table, VolId, answered_by, drives_of, has_drive, key_of, opened_by, replicas_of, shortage, AreInForm}
-pub use Rattle.mdv_engine_law.specs.Commands.{FailedBlocks}
+use Rattle.mdv_engine.specs.Below.{Alteration, Answer, AreCalm, AreLaid, BootEnd, PlanChange, CommitFault, CreateFault, DriveNo, Drives, Geometry, Host, IoFault, IsOfGeometry, IsUpBy, Memory, Opened, OutOfMemory, Outcomes, Refusal, Replica, ReplicaFull, Site, SliceLine, Table, VolId, answered_by, drives_of, has_drive, key_of, opened_by, replicas_of, shortage, AreInForm}
+pub use Rattle.mdv_engine_law.specs.Commands.{FailedBlocks, FailedWrite}
+use Rattle.mdv_base.specs.Order.{first_refusal}
+use Rattle.mdv_keeping.specs.Keeping.{IsStepOf}
+use Rattle.mdv_store_law.specs.Changes.{IsAsked}
 use Rattle.mdv_store_law.specs.Log.{HasOneList}
-use Rattle.mdv_table.specs.Change.{table_after}
-use Rattle.mdv_table.specs.Change as table
+use Rattle.mdv_engine_law.specs.Altering.{Alters, change_of, table_by}
 use Rattle.mdv_engine_law.specs.Answers.{accepted, refusing}
-use Rattle.mdv_engine_law.specs.Refusals.{Case, IsUnopposed, blocks_refusal, change_refusal, read_refusal}
+use Rattle.mdv_engine_law.specs.Refusals.{Case, blocks_refusal, held_of_alteration, told_by_table, transfer_refusal}
 use Rattle.mdv_engine_law.specs.Replies.{HasEndCause}
 use Rattle.mdv_engine_law.specs.declared.answer.Answer.TheVariants.{Over}
 use Rattle.mdv_engine_law.specs.declared.answer.Ended.{Ended}
@@ -97,28 +99,32 @@ pub record IsCount (count : ℕ) : Type 0 where
   pub least : 1 ≤ count
   pub most : count ≤ 1024
 
--- why blocks aren't read or written: the first cause that refuses them; or nothing does, the volume has them, and a call on a drive of theirs failed
-abbrev pub HasBlocksCause : Outcomes → Host → Memory → VolId → ℕ → ℕ → Refusal → Type 0
-HasBlocksCause calls host memory volume at count refusal =
-    (AreCalm calls × (blocks_refusal memory.opened volume (at + count) ≡ Some refusal)) ⊎ (FailedBlocks calls host memory volume at count × (blocks_refusal memory.opened volume (at + count) ≡ None) × (refusal ≡ IoFault))
+-- why blocks aren't read or written: the first cause that refuses them; or nothing does, the volume has them, and calls on drives of theirs failed in that way
+abbrev pub HasBlocksCause : (Outcomes → Host → Memory → VolId → ℕ → ℕ → Type 0) → Outcomes → Host → Memory → VolId → ℕ → ℕ → Refusal → Type 0
+HasBlocksCause Failed calls host memory volume at count refusal =
+    (AreCalm calls × (blocks_refusal host memory.opened volume (at + count) ≡ Some refusal)) ⊎ (Failed calls host memory volume at count × (blocks_refusal host memory.opened volume (at + count) ≡ None) × (refusal ≡ IoFault))
 
 -- why a read isn't told: the first cause that refuses it; or nothing does, and a call on a drive of its blocks failed, or memory was wanting
 abbrev pub HasReadCause : Outcomes → Host → Memory → VolId → ℕ → ℕ → Refusal → Type 0
 HasReadCause calls host memory volume at count refusal =
-    (AreCalm calls × (read_refusal memory.opened volume at count ≡ Some refusal))
-    ⊎ ((FailedBlocks calls host memory volume at count × (read_refusal memory.opened volume at count ≡ None) × (refusal ≡ IoFault)) ⊎ (AreCalm calls × (read_refusal memory.opened volume at count ≡ None) × (refusal ≡ OutOfMemory)))
+    (AreCalm calls × (transfer_refusal host memory.opened volume at count ≡ Some refusal))
+    ⊎ ((FailedBlocks calls host memory volume at count × (transfer_refusal host memory.opened volume at count ≡ None) × (refusal ≡ IoFault)) ⊎ (AreCalm calls × (transfer_refusal host memory.opened volume at count ≡ None) × (refusal ≡ OutOfMemory)))
 
--- the table that the change makes of the open one, which says nothing against it
-pub record IsNextTable (host : Host) (memory : Memory) (change : PlanChange) (next : Table) : Type 0 where
+-- the table that the alteration makes of the open one, which says nothing against it
+pub record IsNextTable (host : Host) (memory : Memory) (alteration : Alteration) (next : Table) : Type 0 where
   pub o : Opened
   pub opened : memory.opened ≡ Some o
-  pub allowed : table.refusal_of host.drives o.table.plan change ≡ None
-  pub is : next ≡ table_after host.drives change o.table
-  pub of_geometry : IsOfGeometry host.drives next
+  pub change : PlanChange
+  pub asks : Alters alteration change
+  pub asked : IsAsked change
+  pub allowed : told_by_table host o change ≡ None
+  pub is : next ≡ table_by host.drives alteration o.table
+  pub step : IsStepOf host.drives change o.table next
 
--- why there is none: the first cause that refuses the change; or memory was wanting, where the open table says nothing against it
-abbrev pub HasChangeCause : Host → Memory → PlanChange → Refusal → Type 0
-HasChangeCause host memory change refusal = (change_refusal host memory.opened change ≡ Some refusal) ⊎ (IsUnopposed host memory change × (refusal ≡ OutOfMemory))
+-- Why there is none: the first cause that refuses it, be it that the record would be too long or not; or memory was wanting.
+abbrev pub HasChangeCause : Host → Memory → Alteration → Refusal → Type 0
+HasChangeCause host memory alteration refusal =
+    (first_refusal (held_of_alteration host memory.opened (change_of alteration)) ≡ Some refusal) ⊎ ((o : Opened) × (memory.opened ≡ Some o) × (refusal ≡ OutOfMemory))
 
 -- a table that may be committed to the open database: one of the host's table of drives, with the lists that it has
 pub record IsCommittable (host : Host) (o : Opened) (next : Table) : Type 0 where

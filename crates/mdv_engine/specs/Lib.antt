@@ -4,6 +4,7 @@ pub mod Engine
 pub mod Placed
 pub mod Counts
 pub mod Ends
+pub mod Writing
 pub mod Printing
 pub mod Tab
 pub mod Listed

@@ -1,17 +1,13 @@
 -- Where a volume lies whose blocks are read and written: within the drives.
-use Rattle.std.specs.Prelude.{ℕ, ◌+◌, ◌≤◌, ◌^◌, List}
-use Rattle.mdv_dev.specs.declared.run.DriveRun.{DriveRun}
-use Rattle.mdv_engine.specs.Below.{Host, IsOn, IsReady, Map, run_map}
+use Rattle.std.specs.Prelude.{ℕ, ◌+◌, ◌≤◌, List}
+use Rattle.mdv_layout.specs.Layouts.{IsLayout, layout_map}
+use Rattle.mdv_layout.specs.declared.layout.Layout.{Layout}
+use Rattle.mdv_map.specs.Maps.{IsDisjoint}
+use Rattle.mdv_engine.specs.Below.{Host, IsOn, IsReady}
 
-abbrev pub map_of_run : DriveRun → Map
-map_of_run run = run_map run.drive.0 run.first run.count
-
--- its blocks lie on the drives of a host that is ready, none of which has more than 2 ^ 40
-pub record IsRunIn (host : Host) (run : DriveRun) : Type 0 where
-  pub lies : (sizes : List ℕ) → IsReady host sizes → IsOn sizes (map_of_run run)
-  pub small : run.first + run.count ≤ 2 ^ 40
-
--- so many blocks of it, from that one on, are its own
-pub record IsPlacedIn (host : Host) (at count : ℕ) (run : DriveRun) : Type 0 where
-  pub room : at + count ≤ run.count
-  pub run_in : IsRunIn host run
+-- so many blocks of it, from that one on, are its own; no two share a block of a drive, and each lies on the drives of a host that is ready
+pub record IsPlacedIn (host : Host) (at count : ℕ) (layout : Layout) : Type 0 where
+  pub well : IsLayout layout
+  pub room : at + count ≤ (layout_map layout).blocks
+  pub apart : IsDisjoint (layout_map layout)
+  pub lies : (sizes : List ℕ) → IsReady host sizes → IsOn sizes (layout_map layout)

@@ -8,7 +8,7 @@ use Rattle.mdv_engine_law.specs.Refusals.{print_refusal}
 use Rattle.mdv_engine_law.specs.declared.answer.Outcome.{Outcome}
 use Rattle.mdv_engine_law.specs.declared.answer.Outcome.TheVariants as outcome
 use Rattle.mdv_engine.specs.Below.{Opened, Refusal, OutOfMemory}
-use Rattle.mdv_table.specs.declared.plan.Plan.{Plan}
+use Rattle.mdv_plan.specs.declared.plan.Plan.{Plan}
 
 -- its text, or memory was wanting
 abbrev pub IsPrint : Plan → List Named → Outcome → Type 0

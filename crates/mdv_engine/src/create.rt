@@ -5,7 +5,7 @@ ghost use Rattle.mdv_words.specs.declared.command.Command.TheVariants.{AddPlaces
 ghost use Rattle.mdv_words.specs.Line.{IsCount, IsInForm, IsLength};
 ghost use Rattle.mdv_words.specs.Listed.{AreInForm};
 ghost use Rattle.mdv_shelf.specs.Shelves.{DriveFailures};
-ghost use Rattle.mdv_table.specs.Slices.{IsSound};
+ghost use Rattle.mdv_config.specs.Slices.{IsSound};
 ghost use Rattle.mdv_engine_law.specs.Commands.{IsAllowed};
 ghost use Rattle.mdv_engine_law.specs.Hosts.{IsReady, lines_asked as spec_lines_asked};
 ghost use Rattle.mdv_engine_law.specs.Refusals.{is_doubled as spec_is_doubled, is_missing as spec_is_missing, is_plain as spec_is_plain, is_short as spec_is_short, is_taken as spec_is_taken, places_open as spec_places_open, refusal_of, told_of_others};

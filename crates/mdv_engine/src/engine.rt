@@ -12,10 +12,11 @@ ghost use Rattle.mdv_engine_law.specs.Standing.{BootMoment, CarryMoment, OnlyRep
 ghost use Rattle.mdv_engine.specs.Counts.{IsBootedCounted, IsCommandCounted};
 ghost use Rattle.mdv_engine.specs.Ends.{BootEndsAs, CarriesOut, HasAnswered, HasBooted, HasBootedFrom, HasOnlyReplied, HasRebooted, HasReplied, IsReplyCounted, IsTurnCounted, KeptAsAsked, LineMoments, NamedEnd, OnlyAnswers, RefusalMoments, TurnEnds, kept_by, left_by};
 ghost use Rattle.mdv_engine.specs.Engine.{IsFitting, IsWell, boot_answer};
-ghost use Rattle.mdv_table.specs.Slices.{IsSound};
+ghost use Rattle.mdv_config.specs.Slices.{IsSound};
 
 use crate::state::State;
 use mdv_base::Refusal;
+use mdv_config::is_of_geometry;
 use mdv_engine_law::{Answer, Ended, Host, Outcome, Reply, tell};
 use mdv_shelf::{Bench, Shelf};
 use mdv_store::{BootEnd, Booted, Store, boot};
@@ -132,11 +133,9 @@ impl Engine {
             Command::DropPlaces { slices, force } => {
                 self.drop_places(shelf, alloc, slices.as_slice(), *force)
             }
-            Command::MakeStripe { volume, slice } => self.make_stripe(
-                shelf, alloc, *volume, *slice,
-            ),
+            Command::Alter { alteration } => self.alter(shelf, alloc, alteration),
             Command::Read { volume, at, count } => self.read(shelf, alloc, *volume, *at, *count),
-            Command::Write { volume, at, block } => self.write(shelf, *volume, *at, block),
+            Command::Write { volume, at, what } => self.write(shelf, alloc, *volume, *at, what),
             Command::Print { names } => Answer::Said(self.print(alloc, names.as_slice())),
         }
     }
@@ -176,7 +175,7 @@ fn fitting(host: &Host, store: Store) -> Option<Store>
     requires { IsSound host.now.drives }
     ensures { IsFitting host.now.drives store result }
 {
-    if store.table().is_of_geometry(&host.drives) {
+    if is_of_geometry(store.table(), &host.drives) {
         Some(store)
     } else {
         None

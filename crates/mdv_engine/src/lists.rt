@@ -3,6 +3,7 @@ ghost use Rattle.std.specs.Prelude.{◌≡◌, ◌≤◌, ◌+◌, ◌*◌, leng
 ghost use Rattle.mdv_engine_law.specs.Places.{list_left as spec_list_left, list_more as spec_list_more, list_of as spec_list_of};
 
 use mdv_base::{Place, Places, SliceName};
+use mdv_config::last_of;
 use mdv_places::{add_places, copy_of, list_first, list_less};
 use mdv_store::Store;
 
@@ -10,7 +11,7 @@ pub(crate) fn list_of(store: &Store) -> &[Place]
     ensures value { result.now ≡ spec_list_of store.now }
     ensures few { length result.now ≤ 50 }
 {
-    store.table().plan.lists.last()
+    last_of(&store.table().plan.lists)
 }
 
 // So many places more on each of these slices, behind the others.

@@ -14,7 +14,7 @@ pub struct State {
     pub database: Option<Store>,
     /// The drives that the last boot brought up.
     pub up: DriveSet,
-    /// Those of them on which a write of blocks failed since.
+    /// Drives on which a write of blocks failed since.
     pub unsteady: DriveSet,
     /// No call failed in the last boot, nor in the blanking of a last replica since.
     pub clean: bool,

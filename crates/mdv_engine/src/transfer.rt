@@ -1,33 +1,35 @@
-ghost use Rattle.std.specs.Prelude.{◌≡◌, ◌≤◌, ◌+◌, [], ◌∷◌, length, None, Some, IfOk, IfErr, OnOk};
+ghost use Rattle.std.specs.Prelude.{◌≡◌, ◌≤◌, ◌+◌, length, replicate, None, Some, IfOk, IfErr, OnOk};
 ghost use Rattle.mdv_status.specs.Values.{values_reply};
-ghost use Rattle.mdv_table.specs.declared.volume.Base.TheVariants.{Slice};
-ghost use Rattle.mdv_table.specs.declared.volume.VolumeKind.TheVariants.{Stripe as AnyStripe};
-ghost use Rattle.mdv_table.specs.Slices.{IsSound};
-ghost use Rattle.mdv_table.specs.Table.{IsKindOf};
+ghost use Rattle.mdv_config.specs.Slices.{IsSound};
+ghost use Rattle.mdv_layout.specs.Layouts.{layout_map};
+ghost use Rattle.mdv_words.specs.Line.{blocks_of};
 ghost use Rattle.mdv_words.specs.declared.command.Command.TheVariants.{Read, Write};
+ghost use Rattle.mdv_words.specs.declared.written.Written.TheVariants.{Filled};
 ghost use Rattle.mdv_volumes.specs.History.{Wrote};
-ghost use Rattle.mdv_volumes.specs.Tables.{kind_map};
 ghost use Rattle.mdv_engine.specs.Counts.{HasReadCounts, IsCommandCounted};
-ghost use Rattle.mdv_engine.specs.Placed.{IsPlacedIn, IsRunIn, map_of_run};
+ghost use Rattle.mdv_engine.specs.Writing.{HasWriteCause, HasWriteCounts, IsFree};
+ghost use Rattle.mdv_engine.specs.Placed.{IsPlacedIn};
 ghost use Rattle.mdv_engine.specs.Engine.{HasBlocksCause, HasReadCause, IsCount, IsWell};
 ghost use Rattle.mdv_shelf.specs.Shelves.{AtEachTale, AtEnd, DriveFailures};
+ghost use Rattle.mdv_engine_law.specs.Commands.{FailedBlocks, FailedWrite};
 ghost use Rattle.mdv_engine_law.specs.Hosts.{IsReady, key_of};
 ghost use Rattle.mdv_engine_law.specs.Line.{HasBlocks, ToDo, ToSee};
-ghost use Rattle.mdv_engine_law.specs.Refusals.{blocks_refusal, read_refusal, size_of};
+ghost use Rattle.mdv_engine_law.specs.Refusals.{blocks_refusal, transfer_refusal};
 ghost use Rattle.mdv_engine_law.specs.Standing.{CarryMoment};
 ghost use Rattle.mdv_engine.specs.Ends.{AreBlocksCounted, AreRead, AreWritten, CommandEnd, HasAnswered, KeptOnBlocks, read_calls, write_calls};
 
 use crate::engine::Engine;
-use mdv_base::{Block, DriveNo, Refusal, SliceName, VolId, ZERO_BLOCK};
-use mdv_dev::DriveRun;
+use mdv_base::{BLOCK_BYTES, Block, Failed, Refusal, VolId, ZERO_BLOCK};
+use mdv_dev::Placed;
 use mdv_engine_law::{Answer, Outcome};
+use mdv_layout::{Layout, lay_out};
 use mdv_shelf::Shelf;
 use mdv_status::ValueText;
-use mdv_table::{Base, Component, Stripe, Volume, VolumeKind};
+use mdv_words::Written;
 use std::alloc::Global;
 
-// The most blocks that one line reads.
-const MAX_READ: u64 = 1024;
+// The most blocks that one line reads or writes.
+const MOST_BLOCKS: u64 = 1024;
 
 impl Engine {
     /// Reads blocks of a volume, from block `at` of it on: 1 to 1024 of them, with one call for each piece that lies
@@ -44,7 +46,7 @@ impl Engine {
         requires well { IsWell self.now.host self.now.state }
         requires count { IsCount (length out.old) }
         ensures ok { OnOk result (AreRead S.Shelf shelf.old shelf.new self.now volume at (length out.new) (λ blocks. out.new ≡ blocks)) }
-        ensures err { IfErr result (HasBlocksCause (DriveFailures S.Shelf shelf.old shelf.new) self.now.host self.now.state volume at (length out.new)) }
+        ensures err { IfErr result (HasBlocksCause FailedBlocks (DriveFailures S.Shelf shelf.old shelf.new) self.now.host self.now.state volume at (length out.new)) }
         ensures same { S.tale shelf.new ≡ S.tale shelf.old }
         ensures counted { AreBlocksCounted S.Shelf shelf.old shelf.new (read_calls self.now volume at (length out.new)) 0 self.now volume at (length out.new) result }
         ensures kept { KeptOnBlocks S.Shelf shelf.old shelf.new self.now.host self.now.state volume at (length out.new) }
@@ -58,8 +60,8 @@ impl Engine {
 
     /// Writes blocks of a volume, from block `at` of it on: 1 to 1024 of them, with one write for each piece
     /// that lies together on a drive, and one sync of each drive. No memory is taken. Where a call failed, each of the
-    /// blocks may be old or new, also behind a crash: the drive that failed is unsteady till the next boot. The buffer
-    /// stays as it is.
+    /// blocks may be old or new, and so may a crash leave those on drives that failed, which are unsteady till the next
+    /// boot; the other drives are synced. The buffer stays as it is.
     #[tactic(auto, using(crate::proofs::Requested::drives_none))]
     pub fn write_blocks<S: Shelf>(
         &mut self,
@@ -72,18 +74,15 @@ impl Engine {
         requires well { IsWell self.old.host self.old.state }
         requires count { IsCount (length from.old) }
         ensures put { AreWritten S.Shelf shelf.old shelf.new self.old volume at from.old result self.new }
-        ensures err { IfErr result (HasBlocksCause (DriveFailures S.Shelf shelf.old shelf.new) self.old.host self.old.state volume at (length from.old)) }
+        ensures err { IfErr result (HasBlocksCause FailedWrite (DriveFailures S.Shelf shelf.old shelf.new) self.old.host self.old.state volume at (length from.old)) }
         ensures left { from.new ≡ from.old }
         ensures counted { AreBlocksCounted S.Shelf shelf.old shelf.new (write_calls self.old volume at (length from.old)) (length from.old) self.old volume at (length from.old) result }
         ensures kept { KeptOnBlocks S.Shelf shelf.old shelf.new self.old.host self.old.state volume at (length from.old) }
     {
         let device = self.place_of(volume, at, from.len() as u64)?;
-        match mdv_dev::write_blocks(&device, shelf, at, from) {
+        match mdv_dev::write_blocks(&device, shelf, at, from, &mut self.state.unsteady) {
             Ok(()) => Ok(()),
-            Err(drive) => {
-                self.state.unsteady.insert(drive);
-                Err(Refusal::IoFault)
-            }
+            Err(Failed) => Err(Refusal::IoFault),
         }
     }
 
@@ -129,8 +128,8 @@ impl Engine {
         ensures counted { HasReadCounts S.Shelf shelf.old shelf.new self.now.host volume at count result self.now.state.opened }
         ensures kept { KeptOnBlocks S.Shelf shelf.old shelf.new self.now.host self.now.state volume at count }
     {
-        let _place = self.read_place(volume, at, count)?;
-        let mut blocks = buffer(alloc, count)?;
+        let _place = self.transfer_place(volume, at, count)?;
+        let mut blocks = buffer(alloc, count, ZERO_BLOCK)?;
         match self.read_blocks(shelf, volume, at, blocks.as_mut_slice()) {
             Ok(()) => {}
             Err(refusal) => return Err(refusal),
@@ -141,40 +140,90 @@ impl Engine {
         }
     }
 
-    // `write dN AT HEX`.
+    // `write dN AT HEX` and `fill dN AT COUNT BYTE`.
     pub(crate) fn write<S: Shelf>(
         &mut self,
         shelf: &mut S,
+        alloc: Global,
         volume: VolId,
         at: u64,
-        block: &Block,
+        what: &Written,
     ) -> Answer
         requires ready { IsReady self.old.host (S.sizes shelf.old) }
         requires well { IsWell self.old.host self.old.state }
-        ensures moments { AtEachTale S.Shelf (CarryMoment self.old.host (ToDo (Wrote (key_of self.old.host) volume at (block.now ∷ []))) self.old.state) shelf.old shelf.new }
-        ensures end { AtEnd S.Shelf (CommandEnd (DriveFailures S.Shelf shelf.old shelf.new) self.old (Write volume at block.now) result self.new) shelf.old shelf.new }
-        ensures answer { HasAnswered (DriveFailures S.Shelf shelf.old shelf.new) (Write volume at block.now) self.old result self.new }
-        ensures counted { IsCommandCounted S.Shelf shelf.old shelf.new self.old.host (Write volume at block.now) result self.old.state.opened self.new.state.opened }
-        ensures kept { KeptOnBlocks S.Shelf shelf.old shelf.new self.old.host self.old.state volume at 1 }
+        requires some { 1 ≤ length (blocks_of what.now) }
+        ensures moments { AtEachTale S.Shelf (CarryMoment self.old.host (ToDo (Wrote (key_of self.old.host) volume at (blocks_of what.now))) self.old.state) shelf.old shelf.new }
+        ensures end { AtEnd S.Shelf (CommandEnd (DriveFailures S.Shelf shelf.old shelf.new) self.old (Write volume at what.now) result self.new) shelf.old shelf.new }
+        ensures answer { HasAnswered (DriveFailures S.Shelf shelf.old shelf.new) (Write volume at what.now) self.old result self.new }
+        ensures counted { IsCommandCounted S.Shelf shelf.old shelf.new self.old.host (Write volume at what.now) result self.old.state.opened self.new.state.opened }
+        ensures kept { KeptOnBlocks S.Shelf shelf.old shelf.new self.old.host self.old.state volume at (length (blocks_of what.now)) }
     {
-        let mut blocks = [*block];
-        match self.write_blocks(shelf, volume, at, &mut blocks) {
+        match self.put(shelf, alloc, volume, at, what) {
             Ok(()) => Answer::Said(Outcome::Ok),
             Err(refusal) => Answer::Said(Outcome::Refused(refusal)),
         }
     }
 
-    // The volume whose blocks are to be read, or the first cause that the read is refused for.
-    fn read_place(&self, volume: VolId, at: u64, count: u64) -> Result<DriveRun, Refusal>
+    // Writes one block, or many.
+    fn put<S: Shelf>(
+        &mut self,
+        shelf: &mut S,
+        alloc: Global,
+        volume: VolId,
+        at: u64,
+        what: &Written,
+    ) -> Result<(), Refusal>
+        requires ready { IsReady self.old.host (S.sizes shelf.old) }
+        requires well { IsWell self.old.host self.old.state }
+        requires some { 1 ≤ length (blocks_of what.now) }
+        ensures put { AreWritten S.Shelf shelf.old shelf.new self.old volume at (blocks_of what.now) result self.new }
+        ensures free { OnOk result (IsFree self.old.host self.old.state volume at what.now) }
+        ensures err { IfErr result (HasWriteCause (DriveFailures S.Shelf shelf.old shelf.new) self.old.host self.old.state volume at what.now) }
+        ensures counted { HasWriteCounts S.Shelf shelf.old shelf.new self.old volume at (length (blocks_of what.now)) result }
+        ensures kept { KeptOnBlocks S.Shelf shelf.old shelf.new self.old.host self.old.state volume at (length (blocks_of what.now)) }
+    {
+        match what {
+            Written::One(block) => self.write_blocks(shelf, volume, at, &mut [*block]),
+            Written::Filled { count, byte } => self.fill(shelf, alloc, volume, at, *count, *byte),
+        }
+    }
+
+    // Writes so many blocks of this byte, or tells the first cause that it is refused for.
+    #[tactic(auto, using(crate::proofs::Requested::drives_none))]
+    fn fill<S: Shelf>(
+        &mut self,
+        shelf: &mut S,
+        alloc: Global,
+        volume: VolId,
+        at: u64,
+        count: u64,
+        byte: u8,
+    ) -> Result<(), Refusal>
+        requires ready { IsReady self.old.host (S.sizes shelf.old) }
+        requires well { IsWell self.old.host self.old.state }
+        requires some { 1 ≤ count }
+        ensures put { AreWritten S.Shelf shelf.old shelf.new self.old volume at (blocks_of (Filled count byte)) result self.new }
+        ensures free { OnOk result (IsFree self.old.host self.old.state volume at (Filled count byte)) }
+        ensures err { IfErr result (HasWriteCause (DriveFailures S.Shelf shelf.old shelf.new) self.old.host self.old.state volume at (Filled count byte)) }
+        ensures counted { HasWriteCounts S.Shelf shelf.old shelf.new self.old volume at (length (blocks_of (Filled count byte))) result }
+        ensures kept { KeptOnBlocks S.Shelf shelf.old shelf.new self.old.host self.old.state volume at (length (blocks_of (Filled count byte))) }
+    {
+        let _place = self.transfer_place(volume, at, count)?;
+        let mut blocks = buffer(alloc, count, [byte; BLOCK_BYTES])?;
+        self.write_blocks(shelf, volume, at, blocks.as_mut_slice())
+    }
+
+    // The volume whose blocks are to be read or written, or the first cause that it is refused for.
+    fn transfer_place(&self, volume: VolId, at: u64, count: u64) -> Result<Layout, Refusal>
         requires sound { IsSound self.now.host.drives }
         requires well { IsWell self.now.host self.now.state }
-        ensures ok { IfOk result (λ run. HasBlocks self.now.host self.now.state volume at count (map_of_run run)) }
+        ensures ok { IfOk result (λ layout. HasBlocks self.now.host self.now.state volume at count (layout_map layout)) }
         ensures few { OnOk result (count ≤ 1024) }
-        ensures free { OnOk result (read_refusal self.now.state.opened volume at count ≡ None) }
+        ensures free { OnOk result (transfer_refusal self.now.host self.now.state.opened volume at count ≡ None) }
         ensures within { IfOk result (IsPlacedIn self.now.host at count) }
-        ensures err { IfErr result (λ refusal. read_refusal self.now.state.opened volume at count ≡ Some refusal) }
+        ensures err { IfErr result (λ refusal. transfer_refusal self.now.host self.now.state.opened volume at count ≡ Some refusal) }
     {
-        if count > MAX_READ {
+        if count > MOST_BLOCKS {
             // A volume that isn't there comes first, and blocks past its end behind.
             let _there = self.place_of(volume, 0, 0)?;
             return Err(Refusal::TooMany);
@@ -183,70 +232,35 @@ impl Engine {
     }
 
     // The volume as a device, where it has these blocks, or the first cause that they are refused for.
-    fn place_of(&self, volume: VolId, at: u64, count: u64) -> Result<DriveRun, Refusal>
+    fn place_of(&self, volume: VolId, at: u64, count: u64) -> Result<Layout, Refusal>
         requires sound { IsSound self.now.host.drives }
         requires well { IsWell self.now.host self.now.state }
-        ensures ok { IfOk result (λ run. HasBlocks self.now.host self.now.state volume at count (map_of_run run)) }
+        ensures ok { IfOk result (λ layout. HasBlocks self.now.host self.now.state volume at count (layout_map layout)) }
         ensures within { IfOk result (IsPlacedIn self.now.host at count) }
-        ensures free { OnOk result (blocks_refusal self.now.state.opened volume (at + count) ≡ None) }
-        ensures err { IfErr result (λ refusal. blocks_refusal self.now.state.opened volume (at + count) ≡ Some refusal) }
+        ensures free { OnOk result (blocks_refusal self.now.host self.now.state.opened volume (at + count) ≡ None) }
+        ensures err { IfErr result (λ refusal. blocks_refusal self.now.host self.now.state.opened volume (at + count) ≡ Some refusal) }
     {
         let Some(store) = &self.state.database else {
             return Err(Refusal::NoDatabase);
         };
-        let Some(volume) = store.table().plan.volumes.find(volume) else {
+        let Some(layout) = lay_out(&self.host.drives, store.table(), volume) else {
             return Err(Refusal::NoSuchVolume);
         };
-        let run = self.run_of(volume);
-        if at > run.count || count > run.count - at {
+        let blocks = layout.blocks();
+        if at > blocks || count > blocks - at {
             return Err(Refusal::OutOfRange);
         }
-        Ok(run)
-    }
-
-    fn run_of(&self, volume: &Volume) -> DriveRun
-        requires sound { IsSound self.now.host.drives }
-        requires kind { IsKindOf self.now.host.drives volume.now.kind }
-        ensures lies { kind_map self.now.host.drives volume.now.kind ≡ Some (map_of_run result) }
-        ensures sized { result.count ≡ size_of volume.now.kind }
-        ensures within { IsRunIn self.now.host result }
-    {
-        let component = stripe_of(volume).component;
-        match self.host.drives.slices.find(slice_of(&component)) {
-            Some(at) => DriveRun {
-                drive: at.drive,
-                first: at.start + component.start,
-                count: component.blocks,
-            },
-            None => DriveRun {
-                drive: DriveNo(0),
-                first: 0,
-                count: 0,
-            },
-        }
+        Ok(layout)
     }
 }
 
-fn stripe_of(volume: &Volume) -> Stripe
-    ensures { volume.now.kind ≡ AnyStripe result }
-{
-    let VolumeKind::Stripe(stripe) = volume.kind;
-    stripe
-}
-
-fn slice_of(component: &Component) -> SliceName
-    ensures { component.now.on ≡ Slice result }
-{
-    let Base::Slice(slice) = component.on;
-    slice
-}
-
-fn buffer(alloc: Global, count: u64) -> Result<Vec<Block>, Refusal>
+// So many blocks like this one.
+fn buffer(alloc: Global, count: u64, block: Block) -> Result<Vec<Block>, Refusal>
     requires { count ≤ 1024 }
-    ensures ok { IfOk result (λ blocks. length blocks.items ≡ count) }
+    ensures ok { IfOk result (λ blocks. blocks.items ≡ replicate count block) }
     ensures err { IfErr result (λ refusal. refusal ≡ Refusal.OutOfMemory) }
 {
-    match Vec::from_elem(alloc, ZERO_BLOCK, count as usize) {
+    match Vec::from_elem(alloc, block, count as usize) {
         Ok(blocks) => Ok(blocks),
         Err(_) => Err(Refusal::OutOfMemory),
     }

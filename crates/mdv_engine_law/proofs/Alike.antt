@@ -1,6 +1,7 @@
 -- A change of places leaves the volumes: each table that it makes has those of the open one.
-use Rattle.std.proofs.Common.{◌≡◌, ◌⊎◌, ◌==◌, inl, inr, ⊎_elim, true, false, List, [], ◌∷◌, find, Option, Some, None, refl, sym, ◌∙◌, ap, subst}
+use Rattle.std.proofs.Common.{◌≡◌, ◌⊎◌, inl, inr, ⊎_elim, true, false, List, [], ◌∷◌, Option, Some, None, refl, sym, ◌∙◌, ap, subst}
 use Rattle.mdv_base.specs.declared.mark.Mark.{Mark}
+use Rattle.mdv_layout_law.proofs.Telling.{volumes_tell}
 use Rattle.mdv_store_law.specs.Changes.{AddListed, AddPlaces, Change, DropPlaces, FirstPlace, KeepsPlaces, OfPlan}
 use Rattle.mdv_store_law.specs.Log as log
 use Rattle.mdv_store_law.specs.Log.{IsBegun, IsLog, IsMade, Log, Version, answered, log_after}
@@ -10,7 +11,6 @@ use Rattle.mdv_store_law.proofs.Logs.{is_log_after}
 use Rattle.mdv_volumes.specs.Happening.{MayBeFound}
 use Rattle.mdv_volumes.specs.HistoryLaws.{AreLater, IsAsked}
 use Rattle.mdv_volumes.proofs.Found.{newest_found, older_found, only_found}
-use Rattle.mdv_volumes.specs.Tables.{map_at}
 use Rattle.mdv_engine_law.specs.Below.{Geometry, IsMapOf, Map, Table, VolId, Volume}
 
 -- it moves places, or there is none
@@ -29,7 +29,7 @@ volumes_made g (Some FirstPlace) old new moves made = ap (λ (t : Table). t.plan
 
 -- where the volumes are the same they lie where they lay
 pub map_alike : (g : Geometry) (a b : Table) → a.plan.volumes ≡ b.plan.volumes → (volume : VolId) (v : Map) → IsMapOf g a volume v → IsMapOf g b volume v
-map_alike g a b same volume v lies = sym (ap (λ (vs : List Volume). map_at g (find (λ (of : Volume). of.number.0 == volume.0) vs)) same) ∙ lies
+map_alike g a b same volume v lies = sym (volumes_tell g a b volume same) ∙ lies
 
 module _ (g : Geometry) (vs : List Volume) where
   -- each table that a boot may find has these volumes

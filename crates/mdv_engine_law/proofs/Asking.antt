@@ -7,11 +7,13 @@ use Rattle.mdv_store_law.specs.Log.{IsBegun, IsLog, IsMade, IsSameOrSettled, Log
 use Rattle.mdv_store_law.specs.Part.{IsPart}
 use Rattle.mdv_store_law.proofs.Families.{answered_rising, settled_more}
 use Rattle.mdv_store_law.proofs.Logs.{is_log_after}
-use Rattle.mdv_table.specs.Plan.{last_of, settled}
-use Rattle.mdv_table.specs.declared.change.Change.TheVariants.{MakeStripe}
-use Rattle.mdv_table.specs.declared.plan.Lists.TheVariants.{One}
-use Rattle.mdv_table.specs.declared.plan.Plan.{Plan}
-use Rattle.mdv_table.specs.declared.table.Table.{Table}
+use Rattle.mdv_change.specs.Change.{table_after}
+use Rattle.mdv_config.specs.Lists.{last_of, settled, with_lists}
+use Rattle.mdv_growing_law.proofs.Places.{places_apart}
+use Rattle.mdv_keeping.proofs.Places.{lists_stay}
+use Rattle.mdv_plan.specs.declared.lists.Lists.{Lists}
+use Rattle.mdv_plan.specs.declared.lists.Lists.TheVariants.{One}
+use Rattle.mdv_plan.specs.declared.table.Table.{Table}
 use Rattle.mdv_name.specs.declared.geometry.Geometry.{Geometry}
 use Rattle.mdv_volumes.specs.Happening.{MayBeFound}
 use Rattle.mdv_volumes.specs.HistoryLaws.{IsAsked}
@@ -20,10 +22,7 @@ use Rattle.mdv_engine_law.proofs.Lifting.{asked_change}
 
 -- what a change makes of a table that tells its list is one table
 made_one : (g : Geometry) (change : Change) (old a b : Table) → TellsList change → IsMade g (Some change) old a → IsMade g (Some change) old b → a ≡ b
-made_one g (OfPlan change) old a b tells one other =
-    let plan : a.plan ≡ b.plan = one.0.1 ∙ sym other.0.1 in
-    let status : a.status ≡ b.status = one.1 ∙ sym other.1 in
-    λ i. record { plan = plan i; status = status i }
+made_one g (OfPlan change) old a b tells one other = one.1.made.after ∙ sym other.1.made.after
 made_one g (AddPlaces slices count blocks) old a b tells one other = one ∙ sym other
 made_one g (AddListed number) old a b tells one other = absurd tells
 made_one g (DropPlaces slices) old a b tells one other = one ∙ sym other
@@ -31,10 +30,10 @@ made_one g FirstPlace old a b tells one other = one ∙ sym other
 
 -- once its change of places is over the change makes of it what it made before, or that with that change over
 made_over : (g : Geometry) (change : Change) (old new other : Table) → TellsList change → IsMade g (Some change) old new → IsMade g (Some change) (settled old) other → IsSameOrSettled new other
-made_over g (OfPlan (MakeStripe volume slice)) old new other tells made over =
-    let plan : other.plan ≡ (settled new).plan = over.0.1 ∙ ap (λ (p : Plan). record p { lists = One (last_of p.lists) }) (sym made.0.1) in
-    let status : other.status ≡ new.status = over.1 ∙ sym made.1 in
-    inr (λ i. record { plan = plan i; status = status i })
+made_over g (OfPlan change) old new other tells made over =
+    let apart = places_apart g change old (One (last_of old.plan.lists)) made.1.built made.1.plain in
+    let lists : One (last_of old.plan.lists) ≡ One (last_of new.plan.lists) = ap (λ (l : Lists). One (last_of l)) (sym (lists_stay g change old new made.1)) in
+    inr (over.1.made.after ∙ apart ∙ ap (with_lists (table_after g old change)) lists ∙ ap (λ (t : Table). with_lists t (One (last_of new.plan.lists))) (sym made.1.made.after))
 made_over g (AddPlaces slices count blocks) old new other tells made over = inl (over ∙ sym made)
 made_over g (AddListed number) old new other tells made over = absurd tells
 made_over g (DropPlaces slices) old new other tells made over = inl (over ∙ sym made)

@@ -5,7 +5,7 @@ use Rattle.mdv_dev.specs.Pieces.{LiesAt}
 use Rattle.mdv_engine_law.specs.Below.{HasDriveBlock, IsSound, Map, VolId}
 use Rattle.mdv_layout_law.specs.Laid.{plain_area}
 use Rattle.mdv_map.specs.Maps.{area_of_map}
-use Rattle.mdv_table.specs.Table.{IsOfGeometry}
+use Rattle.mdv_config.specs.Table.{IsOfGeometry}
 use Rattle.mdv_volumes.proofs.Tables.{blocks_plain, tables_lie}
 use Rattle.mdv_volumes.specs.Tables.{AreLaid}
 use Rattle.mdv_engine_law.specs.declared.host.Host.{Host}

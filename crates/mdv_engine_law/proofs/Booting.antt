@@ -16,7 +16,7 @@ use Rattle.mdv_store_law.specs.Log as log
 use Rattle.mdv_store_law.specs.Part.{IsPart}
 use Rattle.mdv_store_law.proofs.Parts.{part_of_part}
 use Rattle.mdv_store_law.specs.Machine.{AreAll}
-use Rattle.mdv_table.specs.Table.{IsOfGeometry}
+use Rattle.mdv_config.specs.Table.{IsOfGeometry}
 use Rattle.mdv_volumes.specs.Happening.{IsIssue}
 use Rattle.mdv_volumes.specs.HistoryLaws.{IsBooted, Waking, wakings}
 use Rattle.mdv_volumes.proofs.Tables.{tables_lie}

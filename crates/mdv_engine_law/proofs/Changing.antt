@@ -4,12 +4,11 @@ use Rattle.mdv_databases.proofs.Lists.{events_log}
 use Rattle.mdv_databases.specs.Committing.{IsCommit, IsCommittedIn}
 use Rattle.mdv_databases.specs.Going.{GoOn, IsCurrentOf, with_events}
 use Rattle.mdv_databases.specs.Standing.{Stand}
-use Rattle.mdv_engine_law.specs.Below.{Created, AreWoken, Change, Changed, Database, Drives, Event, History, IsOpenIn, IsOpenedAt, Key, KeptOutside, Log, MakeStripe, OfPlan, Opened, SliceName, Table, Tale, VolId, log_of, seats_area, site_area, site_of, told}
+use Rattle.mdv_engine_law.specs.Below.{Created, AreWoken, Change, Changed, Database, Drives, Event, History, IsOpenIn, IsOpenedAt, Key, KeptOutside, Log, OfPlan, Opened, PlanChange, Table, Tale, log_of, seats_area, site_area, site_of, told}
 use Rattle.mdv_store.specs.Commit.{AnyLog, IsCommittedTo}
 use Rattle.mdv_store_law.specs.Log as log
 use Rattle.mdv_store_law.specs.Log.{IsMade, IsNewestTellable}
 use Rattle.mdv_store_law.specs.Part.{IsPart}
-use Rattle.mdv_table.specs.Table.{IsOfGeometry}
 use Rattle.mdv_volumes.specs.Happening.{deed_of}
 use Rattle.mdv_volumes.specs.HistoryLaws.{IsReady as IsTableReady}
 use Rattle.mdv_shelf.proofs.Frame.{kept_outside_wider}
@@ -33,24 +32,24 @@ use Rattle.mdv_engine_law.proofs.Steady.{free_kept}
 use Rattle.mdv_engine_law.proofs.Within.{opened_kept}
 
 -- A change of the open database, and the table that it makes; of each of its seats the replica lies on a slice of the host's site.
-module _ (host : Host) (sizes : List ℕ) (ready : IsReady host sizes) (memory : Memory) (o : Opened) (opened : memory.opened ≡ Some o) (volume : VolId) (slice : SliceName) (table : Table)
-    (made : IsMade host.drives (Some (OfPlan (MakeStripe volume slice))) o.table table) (placed : IsOfGeometry host.drives table) (seated : (drive block : ℕ) → site_area host.site drive block ≡ false → seats_area o.seats drive block ≡ false)
+module _ (host : Host) (sizes : List ℕ) (ready : IsReady host sizes) (memory : Memory) (o : Opened) (opened : memory.opened ≡ Some o) (alters : PlanChange) (table : Table)
+    (made : IsMade host.drives (Some (OfPlan alters)) o.table table) (seated : (drive block : ℕ) → site_area host.site drive block ≡ false → seats_area o.seats drive block ≡ false)
     (t m : Tale) (within : KeptOutside (seats_area o.seats) t m) where
   abbrev change : Change
-  change = OfPlan (MakeStripe volume slice)
+  change = OfPlan alters
 
   kept : KeptOutside (site_area host.site) t m
   kept = kept_outside_wider (seats_area o.seats) (site_area host.site) t m seated within
 
   is_commit : (h : History) → IsKnown host memory h t → IsCommit host.drives h.databases o (Some change) table t
-  is_commit h known = record { stand = known.stands.databases; is_open = known_open host memory o opened t h known; of_geometry = placed; made = made }
+  is_commit h known = record { stand = known.stands.databases; is_open = known_open host memory o opened t h known; of_geometry = made.1.next_of; made = made }
 
   changing : (After : Log → Type 0) (Then : List Event → History → Type 0) (h : History) (known : IsKnown host memory h t) (goes : GoOn host.drives h.databases o.key o.identity (Some change ∷ []) After m)
       → ((es : List Event) (g : History) → StandsAt host g m → ((drive : ℕ) → is_in (g.up (key_of host)) drive ≡ is_steady memory drive) → AreWoken host.drives table (is_steady memory) g (key_of host) → g.databases ≡ with_events o.key goes.es h.databases → Then es g)
       → Goes host (Changed (key_of host) change ∷ []) [] Then m h
   changing After Then h known goes then =
       let key = key_of host in
-      let grew = grown host sizes ready memory o opened volume slice table made placed t h known in
+      let grew = grown host sizes ready memory o opened alters table made t h known in
       by grew.0 grew.1 grew.2
     where
       its : o.key ≡ key_of host
@@ -62,7 +61,7 @@ module _ (host : Host) (sizes : List ℕ) (ready : IsReady host sizes) (memory :
       asked : IsPart (deed_of o.key (Some change) ∷ []) (Changed (key_of host) change ∷ [])
       asked = subst (λ (k : Key). IsPart (deed_of k (Some change) ∷ []) (Changed (key_of host) change ∷ [])) (sym its) (part_itself (Changed (key_of host) change ∷ []))
 
-      by : (es : List Event) (g : History) → IsGrown host sizes ready memory o opened volume slice table made placed t h known es g → Goes host (Changed (key_of host) change ∷ []) [] Then m h
+      by : (es : List Event) (g : History) → IsGrown host sizes ready memory o opened alters table made t h known es g → Goes host (Changed (key_of host) change ∷ []) [] Then m h
       by es g grows =
           goes_more host [] (Changed (key_of host) change ∷ []) (Changed (key_of host) change ∷ []) [] [] (λ fs k. (fs ≡ es) × (k ≡ g)) Then t m h (part_itself (Changed (key_of host) change ∷ []))
           (happened host [] [] [] t h es grows.happens grows.issues (λ fs k. (fs ≡ es) × (k ≡ g)) grows.awake tt (refl, sym grows.is))
@@ -80,12 +79,12 @@ module _ (host : Host) (sizes : List ℕ) (ready : IsReady host sizes) (memory :
 
           went : Goes host (Changed (key_of host) change ∷ []) [] (λ fs k. Then (es ++ fs) k) m g
           went = lift_log host (Changed (key_of host) change ∷ []) (λ fs k. Then (es ++ fs) k) o.key o.identity (Some change ∷ []) After t m (subst (λ (area : ℕ → ℕ → _). KeptOutside area t m) (sym here) kept) asked (contains_first (Changed (key_of host) change) [], tt) g
-              (grown_stands host sizes ready memory o opened volume slice table made placed t h known es g grows) on
+              (grown_stands host sizes ready memory o opened alters table made t h known es g grows) on
               (λ other asks. subst (λ (k : Key). IsTableReady host.drives g k t other) (sym its)
-              (ready_grown host sizes ready memory o opened volume slice table made placed t h known es g grows other
-              (only_asked host sizes ready memory o opened volume slice table made placed t h known goes.es (subst (λ (k : Key). log.IsCourse host.drives (log_of h.databases k) goes.es) its goes.course) goes.come.begins other asks)))
+              (ready_grown host sizes ready memory o opened alters table made t h known es g grows other
+              (only_asked host sizes ready memory o opened alters table made t h known goes.es (subst (λ (k : Key). log.IsCourse host.drives (log_of h.databases k) goes.es) its goes.course) goes.come.begins other asks)))
               (λ fs k there databases woken up. then (es ++ fs) k there (λ drive. ap (λ (of : Key → Drives). is_in (of (key_of host)) drive) (up ∙ grows.up) ∙ known.up drive)
-              (are_woken host sizes ready memory o opened volume slice table made placed t h known es g grows k woken) (databases ∙ ap (with_events o.key goes.es) grows.databases))
+              (are_woken host sizes ready memory o opened alters table made t h known es g grows k woken) (databases ∙ ap (with_events o.key goes.es) grows.databases))
 
   pub changing_moment : told m ≡ told t → ((all : List Database) → IsCommit host.drives all o (Some change) table t → GoOn host.drives all o.key o.identity (Some change ∷ []) AnyLog m) → CarryMoment host (ToDo (Changed (key_of host) change)) memory t m
   changing_moment quiet goes = record { home = stays_on_site host t m kept; within = opened_kept t m memory.opened o opened within; quiet = quiet; goes = λ h known. inr (changing AnyLog Reached h known (goes h.databases (is_commit h known)) (λ es g there up woken databases. tt)) }

@@ -10,7 +10,7 @@ use Rattle.mdv_engine_law.specs.Below.{last, Acknowledges, CanTell, Change, Chan
 use Rattle.mdv_shelf.proofs.Blocks.{both_ways}
 use Rattle.mdv_shelf.proofs.Frame.{kept_outside_same}
 use Rattle.mdv_store_law.specs.Log as log
-use Rattle.mdv_table.specs.declared.table.Table.{Table}
+use Rattle.mdv_plan.specs.declared.table.Table.{Table}
 use Rattle.mdv_volumes.specs.Databases.{current_of, log_in, same_key, with_event}
 use Rattle.mdv_volumes.specs.Happening.{IsIssue, deed_of}
 use Rattle.mdv_volumes.specs.HistoryLaws.{IsAsked, IsTellable, identity_in}

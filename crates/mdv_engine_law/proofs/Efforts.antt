@@ -8,7 +8,7 @@ use Rattle.mdv_places.specs.Asked.{Asks}
 use Rattle.mdv_store.specs.Boot.{is_memory}
 use Rattle.mdv_engine_law.specs.Places.{are_all}
 use Rattle.mdv_store.specs.declared.booting.BootEnd.TheVariants as end
-use Rattle.mdv_words.specs.declared.command.Command.TheVariants.{MakeStripe}
+use Rattle.mdv_words.specs.declared.command.Command.TheVariants.{Alter}
 use Rattle.mdv_words.specs.Line as words
 use Rattle.mdv_engine_law.specs.declared.answer.Answer.{Answer}
 use Rattle.mdv_engine_law.specs.declared.answer.Answer.TheVariants.{Said, Over}
@@ -37,11 +37,11 @@ module _ (failed more : Outcomes) (cause : AreWithin failed more) (one other : M
   done_too (AddListed number force) host old new calls = absurd calls
   done_too (DropPlaces slices force) host None new calls = absurd calls
   done_too (DropPlaces slices force) host (Some before) new calls = match_more (are_all before slices) _ _ _ _ (deleted_too host.drives before) (moved_too host.drives before _) calls
-  done_too (MakeStripe volume slice) host (Some before) (Some o) calls = record { all = λ as_many. too.exactly _ _ (calls.all as_many); some = too.within _ _ _ calls.some; wrote = too.wrote calls.wrote }
-  done_too (MakeStripe volume slice) host (Some before) None calls = absurd calls
-  done_too (MakeStripe volume slice) host None new calls = absurd calls
+  done_too (Alter alteration) host (Some before) (Some o) calls = record { all = λ as_many. too.exactly _ _ (calls.all as_many); some = too.within _ _ _ calls.some; wrote = too.wrote calls.wrote }
+  done_too (Alter alteration) host (Some before) None calls = absurd calls
+  done_too (Alter alteration) host None new calls = absurd calls
   done_too (Read volume at count) host old new calls = too.exactly _ _ calls
-  done_too (Write volume at block) host old new calls = too.exactly _ _ calls
+  done_too (Write volume at what) host old new calls = too.exactly _ _ calls
   done_too (Print names) host old new calls = none_too calls
 
   pub fault_too : (command : Command) (host : Host) (old : Option Opened) → FaultCalls one command host old → FaultCalls other command host old
@@ -50,9 +50,9 @@ module _ (failed more : Outcomes) (cause : AreWithin failed more) (one other : M
   fault_too (AddListed number force) host old calls = absurd calls
   fault_too (DropPlaces slices force) host None calls = absurd calls
   fault_too (DropPlaces slices force) host (Some o) calls = match_more (are_all o slices) _ _ _ _ (too.within _ _ _) (λ none. none) calls
-  fault_too (MakeStripe volume slice) host old calls = absurd calls
+  fault_too (Alter alteration) host old calls = absurd calls
   fault_too (Read volume at count) host old calls = too.within _ _ _ calls
-  fault_too (Write volume at block) host old calls = too.within _ _ _ calls
+  fault_too (Write volume at what) host old calls = too.within _ _ _ calls
   fault_too (Print names) host old calls = absurd calls
 
   loss_too : (command : Command) (host : Host) (old : Option Opened) → LossCalls one command host old → LossCalls other command host old
@@ -61,10 +61,10 @@ module _ (failed more : Outcomes) (cause : AreWithin failed more) (one other : M
   loss_too (AddListed number force) host old calls = absurd calls
   loss_too (DropPlaces slices force) host None calls = absurd calls
   loss_too (DropPlaces slices force) host (Some o) calls = too.within _ _ _ calls
-  loss_too (MakeStripe volume slice) host (Some o) calls = too.within _ _ _ calls
-  loss_too (MakeStripe volume slice) host None calls = absurd calls
+  loss_too (Alter alteration) host (Some o) calls = too.within _ _ _ calls
+  loss_too (Alter alteration) host None calls = absurd calls
   loss_too (Read volume at count) host old calls = absurd calls
-  loss_too (Write volume at block) host old calls = absurd calls
+  loss_too (Write volume at what) host old calls = absurd calls
   loss_too (Print names) host old calls = absurd calls
 
   refused_too : (command : Command) (r : Refusal) (host : Host) (old new : Option Opened) → CommandCalls failed one host command (Said (outcome.Refused r)) old new → CommandCalls more other host command (Said (outcome.Refused r)) old new

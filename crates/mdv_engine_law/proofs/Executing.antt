@@ -1,8 +1,8 @@
 -- What a command came to, told of the longer stretch that its reply ends.
-use Rattle.std.proofs.Common.{◌≡◌, ◌⊎◌, inl, inr, ℕ, Bool, true, false, Option, None, Some, List, [], ◌∷◌, ◌++◌, sym, refl, ◌∙◌, ap, subst, rules}
+use Rattle.std.proofs.Common.{◌≡◌, ◌⊎◌, inl, inr, ℕ, Bool, true, false, Option, None, Some, List, [], ◌∷◌, ◌++◌, length, sym, refl, ◌∙◌, ap, subst, rules}
 use Rattle.mdv_base.specs.declared.refusal.Refusal.TheVariants as refusal
-use Rattle.mdv_engine_law.specs.Below.{BootEnd, Drives, Image, Opened, Refusal, SliceLine, KeptOutside, Table, nowhere, Tale, told, Command, AddListed, AddPlaces, DropPlaces, Print, Read, Write, Line, meant}
-use Rattle.mdv_words.specs.declared.command.Command.TheVariants.{MakeStripe}
+use Rattle.mdv_engine_law.specs.Below.{BootEnd, Drives, Image, Opened, Refusal, SliceLine, KeptOutside, Table, nowhere, Tale, told, Command, AddListed, AddPlaces, DropPlaces, Print, Read, Write, Line, blocks_of, meant}
+use Rattle.mdv_words.specs.declared.command.Command.TheVariants.{Alter}
 use Rattle.mdv_words.specs.Line as words
 use Rattle.mdv_engine_law.specs.declared.answer.Answer.{Answer}
 use Rattle.mdv_engine_law.specs.declared.answer.Answer.TheVariants.{Said, Over}
@@ -28,7 +28,7 @@ use Rattle.mdv_engine_law.specs.Efforts.{LineCalls, replied_to}
 use Rattle.mdv_shelf.specs.Made.{Made}
 use Rattle.mdv_engine_law.specs.Standing.{OnlyReplied, Executed}
 use Rattle.mdv_engine_law.proofs.Efforts.{line_too, too_itself}
-use Rattle.mdv_engine_law.proofs.Widening.{AreWithin, IsBlamed, beside_more, calm_more, committed_more, end_more, left_more, lost_records_more, made_more, match_more, moved_more, unmoved_more, now_more, blocks_more, read_more, unmade_more, up_more}
+use Rattle.mdv_engine_law.proofs.Widening.{AreWithin, IsBlamed, beside_more, calm_more, committed_more, end_more, left_more, lost_records_more, made_more, match_more, moved_more, unmoved_more, now_more, blocks_more, read_more, writes_more, unmade_more, up_more}
 
 -- a read of the drive gives what it gave
 pub content_kept : (u v : Tale) → KeptOutside nowhere u v → contents u ≡ contents v
@@ -129,32 +129,32 @@ module _ (failed more : Outcomes) (cause : AreWithin failed more) (host : Host) 
   gives_up_more (DropPlaces slices force) ended.Memory is = absurd is
   gives_up_more (DropPlaces slices force) (ended.NoQuorum readable needed) is = absurd is
   gives_up_more (DropPlaces slices force) (ended.TwoDatabases a b) is = absurd is
-  gives_up_more (MakeStripe volume slice) (ended.Lost active listed) is = (is.0, is.1, table_more is.0 _ active listed is.2)
-  gives_up_more (MakeStripe volume slice) ended.Spent is = (calm_more failed more cause is.0, is.1, is.2, is.3, is.4)
-  gives_up_more (MakeStripe volume slice) ended.Memory is = absurd is
-  gives_up_more (MakeStripe volume slice) (ended.NoQuorum readable needed) is = absurd is
-  gives_up_more (MakeStripe volume slice) (ended.TwoDatabases a b) is = absurd is
+  gives_up_more (Alter alteration) (ended.Lost active listed) is = (is.0, is.1, table_more is.0 _ active listed is.2)
+  gives_up_more (Alter alteration) ended.Spent is = (calm_more failed more cause is.0, is.1, is.2, is.3, is.4)
+  gives_up_more (Alter alteration) ended.Memory is = absurd is
+  gives_up_more (Alter alteration) (ended.NoQuorum readable needed) is = absurd is
+  gives_up_more (Alter alteration) (ended.TwoDatabases a b) is = absurd is
   gives_up_more (Read volume at count) end is = absurd is
-  gives_up_more (Write volume at block) end is = absurd is
+  gives_up_more (Write volume at what) end is = absurd is
   gives_up_more (Print names) end is = absurd is
 
   fault_more : (command : Command) → Fault failed host kept command next → Fault more host kept command next
   fault_more (AddPlaces slices force count blocks) is = opened_more kept.memory.opened (uncreated_more _ count blocks) (λ o. unmoved_on_more o _ count blocks) is
   fault_more (AddListed number force) is = absurd is
   fault_more (DropPlaces slices force) is = (is.0, is.1, is.2, undeleted_more is.0 is.3)
-  fault_more (MakeStripe volume slice) is = absurd is
+  fault_more (Alter alteration) is = absurd is
   fault_more (Read volume at count) is = (blocks_more failed more cause host kept.memory volume at count is.0, is.1)
-  fault_more (Write volume at block) is = (blocks_more failed more cause host kept.memory volume at 1 is.0, is.1, is.2)
+  fault_more (Write volume at what) is = (writes_more failed more cause host kept.memory volume at (length (blocks_of what)) is.0, is.1, is.2)
   fault_more (Print names) is = absurd is
 
   effect_more : (command : Command) → Effect failed host kept command answer next → Effect more host kept command answer next
   effect_more (AddPlaces slices force count blocks) is = (is.0, opened_more kept.memory.opened (created_more _ count blocks) (λ o moved. (moved.0, moved_on_more o _ moved.0 moved.1)) is.1)
   effect_more (AddListed number force) is = absurd is
   effect_more (DropPlaces slices force) is = (is.0, is.1, is.2, match_more (are_all is.1 slices) _ _ _ _ (deleted_more is.1) (λ moved. (moved.0, moved_on_more is.1 _ moved.0 moved.1)) is.3)
-  effect_more (MakeStripe volume slice) is =
+  effect_more (Alter alteration) is =
       (is.0, is.1, is.2, record { opened = is.3.opened; committed = committed_more failed more cause is.1 is.3.opened _ is.3.committed; calm = beside_more failed more cause _ is.3.calm; memory = is.3.memory; content = is.3.content; beside = is.3.beside })
   effect_more (Read volume at count) is = (calm_more failed more cause is.0, is.1, is.2, is.3, is.4, is.5, is.6, is.7)
-  effect_more (Write volume at block) is = (calm_more failed more cause is.0, is.1, is.2, is.3, is.4, is.5)
+  effect_more (Write volume at what) is = (calm_more failed more cause is.0, is.1, is.2, is.3, is.4, is.5)
   effect_more (Print names) is = (calm_more failed more cause is.0, is.1, is.2, is.3, is.4)
 
   pub came_more : (command : Command) → CameTo failed host kept command answer next → CameTo more host kept command answer next

@@ -1,15 +1,15 @@
 -- A volume that a change makes begins with one value in each block, and then its table may be written.
 use Rattle.std.proofs.Common.{◌≡◌, ◌⊎◌, inl, inr, ℕ, List, [], ◌∷◌, Some, refl, sym, ◌∙◌, ap, subst, arith}
+use Rattle.std.proofs.lemmas.Option.{none-some}
 use Rattle.mdv_dev.proofs.Copies.{has_place}
 use Rattle.mdv_dev.specs.Pieces.{IsOneCopy}
-use Rattle.mdv_engine_law.specs.Below.{AreWoken, Begins, Event, Happens, History, IsMapOf, IsNamed, Key, Log, MakeStripe, Map, OfPlan, OfVolume, Opened, SliceName, Table, Tale, Version, VolId, Woke, history_after, history_after_all, log_of}
+use Rattle.mdv_engine_law.specs.Below.{AreWoken, Begins, Event, Happens, History, IsMapOf, IsNamed, Key, Log, Map, OfPlan, OfVolume, Opened, PlanChange, Table, Tale, Version, VolId, Woke, history_after, history_after_all, log_of}
 use Rattle.mdv_map.specs.Logs.{Follows, VolumeLog, opening}
 use Rattle.mdv_store_law.specs.Log as log
 use Rattle.mdv_store_law.specs.Log.{IsLog, IsMade, IsSameOrSettled}
 use Rattle.mdv_store_law.specs.Part.{IsPart}
 use Rattle.mdv_store.specs.Commit.{IsNewestWritten}
 use Rattle.mdv_store_law.specs.Machine.{AreAll}
-use Rattle.mdv_table.specs.Table.{IsOfGeometry}
 use Rattle.mdv_volumes.specs.Databases.{Database, is_volume}
 use Rattle.mdv_volumes.specs.Happening.{IsIssue, MayBeFound}
 use Rattle.mdv_volumes.specs.Histories.{Stands}
@@ -19,7 +19,7 @@ use Rattle.mdv_volumes.specs.Tables.{AreLaid}
 use Rattle.mdv_volumes.proofs.Copies.{content as content_of, one_value as value_of, upon_or_not}
 use Rattle.mdv_volumes.proofs.Databases.{is_log_of, volume_itself, volume_number}
 use Rattle.mdv_volumes.proofs.Found.{newest_found, only_found}
-use Rattle.mdv_volumes.proofs.Made.{map_was, ready_more}
+use Rattle.mdv_volumes.proofs.Made.{Makes, came_from, makes, map_was, ready_more}
 use Rattle.mdv_volumes.proofs.Maps.{same_map}
 use Rattle.mdv_volumes.proofs.Standing.{boots_stand}
 use Rattle.mdv_volumes.proofs.Tables.{blocks_plain, tables_lie}
@@ -37,37 +37,41 @@ use Rattle.mdv_engine_law.proofs.Refusing.{known_newest, opened_has}
 use Rattle.mdv_shelf.proofs.Blocks.{both_ways}
 
 -- the table of a change
-module _ (host : Host) (sizes : List ℕ) (ready : IsReady host sizes) (memory : Memory) (newest : Opened) (opened : memory.opened ≡ Some newest) (volume : VolId) (slice : SliceName) (table : Table)
-    (made : IsMade host.drives (Some (OfPlan (MakeStripe volume slice))) newest.table table) (placed : IsOfGeometry host.drives table) where
+module _ (host : Host) (sizes : List ℕ) (ready : IsReady host sizes) (memory : Memory) (newest : Opened) (opened : memory.opened ≡ Some newest) (change : PlanChange) (table : Table)
+    (made : IsMade host.drives (Some (OfPlan change)) newest.table table) where
   abbrev pub key : Key
   key = key_of host
 
+  -- a volume is made
+  pub its : Makes host.drives change newest.table table
+  its = makes host.drives change newest.table table made.0 made.1
+
+  abbrev pub volume : VolId
+  volume = its.volume
+
   laid : AreLaid host.drives table
-  laid = tables_lie.laid host.drives table ready.sound placed
+  laid = tables_lie.laid host.drives table ready.sound made.1.next_of
 
-  -- where the new one lies
-  pub new_map : (v : Map) × IsMapOf host.drives table volume v
-  new_map = tables_lie.lies host.drives newest.table table volume slice made.0 placed
-
+  -- where it lies
   abbrev pub map : Map
-  map = new_map.0
+  map = its.anew.map
 
   -- each of its blocks in one place
   one : IsOneCopy map
-  one = laid.one volume map new_map.1
+  one = laid.one volume map its.anew.lies
 
   abbrev content : Tale → ℕ → List ℕ
   content = content_of map one
 
   never_old : (other : VolId) (w : Map) → IsMapOf host.drives newest.table other w → volume ≡ other → ⊥
-  never_old other w lies same = tables_lie.new host.drives newest.table table volume slice w ready.sound made.0 (subst (λ (x : VolId). IsMapOf host.drives newest.table x w) (sym same) lies)
+  never_old other w lies same = none-some w (sym its.anew.none ∙ subst (λ (x : VolId). IsMapOf host.drives newest.table x w) (sym same) lies)
 
   -- which has one value, where its drive is steady
   one_value : (t : Tale) → IsUpon (is_steady memory) map → Knows host memory t → HaveOneValue map (content t) t
-  one_value t upon knows = value_of map one t (is_steady memory) (λ b drive block lt at on. knows.steady drive block on (blocks_plain host.drives table laid volume map new_map.1 b drive block lt (has_place map b drive block at))) upon
+  one_value t upon knows = value_of map one t (is_steady memory) (λ b drive block lt at on. knows.steady drive block on (blocks_plain host.drives table laid volume map its.anew.lies b drive block lt (has_place map b drive block at))) upon
 
   -- a boot finds the open table alone
-  alone_of : (lg : Log) → IsLog host.drives lg → IsNewestWritten lg newest.mark newest.table → Alone host.drives (OfPlan (MakeStripe volume slice)) tt newest.table table made lg
+  alone_of : (lg : Log) → IsLog host.drives lg → IsNewestWritten lg newest.mark newest.table → Alone host.drives (OfPlan change) tt newest.table table made lg
   alone_of lg is newest_is = record {
     some = subst log.IsBegun (sym newest_is.newest.family) tt;
     each = λ v found. inl (ap (λ (w : Version). w.table) (only_found newest_is.newest.version newest_is.newest.older v (subst log.IsRising newest_is.newest.family is.rising) newest_is.written (subst (λ (f : List Version). MayBeFound f v) newest_is.newest.family found)) ∙ newest_is.newest.same);
@@ -80,7 +84,7 @@ module _ (host : Host) (sizes : List ℕ) (ready : IsReady host sizes) (memory :
     is_log : IsLog host.drives (log_of h.databases key)
     is_log = is_log_of host.drives h.databases t known.stands.databases key
 
-    alone : Alone host.drives (OfPlan (MakeStripe volume slice)) tt newest.table table made (log_of h.databases key)
+    alone : Alone host.drives (OfPlan change) tt newest.table table made (log_of h.databases key)
     alone = alone_of (log_of h.databases key) is_log is_newest
 
     -- no table that a boot may find has the volume
@@ -189,26 +193,26 @@ module _ (host : Host) (sizes : List ℕ) (ready : IsReady host sizes) (memory :
       ready_grown other same = ready_more host.drives g key t table other same (record {
         laid = laid;
         apart = λ k number beside v w differ lies named. absurd (own_alone host memory.begun h known.its k beside w differ (subst (λ (ds : List Database). IsNamed host.drives ds k beside w) grows.databases named));
-        follows = λ number w lies. by number w lies (tables_lie.made host.drives newest.table table volume slice number w made.0 lies);
+        follows = λ number w lies. by number w lies (came_from host.drives volume number newest.table table w its.anew lies);
       })
         where
           by : (number : VolId) (w : Map) → IsMapOf host.drives table number w → IsMapOf host.drives newest.table number w ⊎ (number ≡ volume) → Follows w (g.volumes key number) t
           by number w lies (inl old) = grown_stands.volumes key number w (subst (λ (ds : List Database). IsNamed host.drives ds key number w) (sym grows.databases) (newest_of w number old))
           by number w lies (inr same) =
               let here : IsMapOf host.drives table volume w = subst (λ (n : VolId). IsMapOf host.drives table n w) same lies in
-              subst (λ (n : VolId). Follows w (g.volumes key n) t) (sym same) (subst (λ (v : Map). Follows v (g.volumes key volume) t) (same_map host.drives table volume map w new_map.1 here) grows.follows)
+              subst (λ (n : VolId). Follows w (g.volumes key n) t) (sym same) (subst (λ (v : Map). Follows v (g.volumes key volume) t) (same_map host.drives table volume map w its.anew.lies here) grows.follows)
 
       -- what is woken then
       pub are_woken : (k : History) → k.woken ≡ g.woken → AreWoken host.drives table (is_steady memory) k key
-      are_woken k same number w lies upon = ap (λ (f : _). f key number) same ∙ by (tables_lie.made host.drives newest.table table volume slice number w made.0 lies) where
+      are_woken k same number w lies upon = ap (λ (f : _). f key number) same ∙ by (came_from host.drives volume number newest.table table w its.anew lies) where
         by : IsMapOf host.drives newest.table number w ⊎ (number ≡ volume) → g.woken key number ≡ w.blocks
         by (inl old) =
             let were = opened_has memory newest (λ n. AreWoken host.drives n.table (is_steady memory) h key) opened known.woken in
             grows.others number (λ same_number. never_old number w old (sym same_number)) ∙ were number w old upon
         by (inr same_number) =
             let here : IsMapOf host.drives table volume w = subst (λ (n : VolId). IsMapOf host.drives table n w) same_number lies in
-            let maps : w ≡ map = sym (same_map host.drives table volume map w new_map.1 here) in
+            let maps : w ≡ map = sym (same_map host.drives table volume map w its.anew.lies here) in
             ap (λ (n : VolId). g.woken key n) same_number ∙ grows.own (subst (λ (v : Map). IsUpon (is_steady memory) v) maps upon) ∙ ap (λ (v : Map). v.blocks) (sym maps)
 
-    pub only_asked : (es : List log.Event) → log.IsCourse host.drives (log_of h.databases key) es → IsPart (log.begun_by es) (Some (OfPlan (MakeStripe volume slice)) ∷ []) → (other : Table) → IsAsked es other → IsSameOrSettled table other
-    only_asked es course within other asked = asked_is host.drives (OfPlan (MakeStripe volume slice)) tt newest.table table made (log_of h.databases key) es is_log alone course within other asked
+    pub only_asked : (es : List log.Event) → log.IsCourse host.drives (log_of h.databases key) es → IsPart (log.begun_by es) (Some (OfPlan change) ∷ []) → (other : Table) → IsAsked es other → IsSameOrSettled table other
+    only_asked es course within other asked = asked_is host.drives (OfPlan change) tt newest.table table made (log_of h.databases key) es is_log alone course within other asked

@@ -11,7 +11,7 @@ use Rattle.mdv_standing.specs.Adopting.{drawn}
 use Rattle.mdv_store.specs.Progress.{Claimed, Progress, Rewritten, Settled}
 use Rattle.mdv_store.specs.Seats.{AreTheirs, drives_of}
 use Rattle.mdv_store.specs.Taking.{LeftHold, open_with, second_mark}
-use Rattle.mdv_table.specs.Plan.{settled}
+use Rattle.mdv_config.specs.Lists.{settled}
 use Rattle.mdv_map.specs.Requests.{AllRead, Rewriting}
 use Rattle.mdv_shelf.proofs.Everywhere.{last_image}
 use Rattle.mdv_engine_law.specs.declared.host.Host.{Host}

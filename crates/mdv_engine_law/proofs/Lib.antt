@@ -31,8 +31,10 @@ pub mod Changing
 pub mod Alike
 pub mod Raising
 pub mod Moving
+pub mod Naming
 pub mod Reaching
 pub mod Removing
+pub mod Unsettling
 pub mod Transfer
 pub mod Keeping
 mod Taking
@@ -40,5 +42,4 @@ pub mod Rebooting
 pub mod Staying
 pub mod Opening
 pub mod Kept
-pub mod Volumes
 pub mod Listing

@@ -3,7 +3,7 @@ use Rattle.std.proofs.Common.{◌≡◌, inl, inr, ℕ, List, [], ◌∷◌, Opt
 use Rattle.mdv_store_law.specs.Changes as changes
 use Rattle.mdv_places.specs.Asked.{names_of}
 use Rattle.mdv_volumes.proofs.Lists.{contains_first, first_or_behind}
-use Rattle.mdv_words.specs.declared.command.Command.TheVariants.{MakeStripe}
+use Rattle.mdv_words.specs.declared.command.Command.TheVariants.{Alter}
 use Rattle.mdv_engine_law.specs.Below.{AddListed, AddPlaces, Changed, Command, Created, Deed, DropPlaces, Entry, History, Key, KeptOutside, Print, Read, Replicas, Tale, Write, joined, listed_by, meant}
 use Rattle.mdv_engine_law.specs.declared.host.Host.{Host}
 use Rattle.mdv_engine_law.specs.Hosts.{key_of, lines_asked, listed_area, opened_area}
@@ -36,7 +36,7 @@ meant_created host entries (AddListed number force) key has = by (listed_by entr
   ]
 meant_created host entries (AddPlaces slices force count blocks) key has = has
 meant_created host entries (DropPlaces slices force) key has = has
-meant_created host entries (MakeStripe volume slice) key has = has
+meant_created host entries (Alter alteration) key has = has
 meant_created host entries (Read volume at count) key has = has
-meant_created host entries (Write volume at block) key has = has
+meant_created host entries (Write volume at what) key has = has
 meant_created host entries (Print names) key has = has

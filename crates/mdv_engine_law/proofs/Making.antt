@@ -1,11 +1,11 @@
 -- What a creation leaves of a host's history.
-use Rattle.std.proofs.Common.{◌≡◌, ◌⊎◌, inr, ◌+◌, ◌*◌, ◌<◌, ◌≤◌, ◌==◌, ℕ, true, false, List, [], ◌∷◌, ◌++◌, find, Contains, Option, Some, None, IfSome, refl, sym, ◌∙◌, ap, subst}
+use Rattle.std.proofs.Common.{◌≡◌, ◌⊎◌, inr, ◌+◌, ◌*◌, ◌<◌, ◌≤◌, ℕ, true, false, List, [], ◌∷◌, ◌++◌, Contains, Option, Some, None, IfSome, refl, sym, ◌∙◌, ap, subst}
 use Rattle.std.proofs.lemmas.Option.{none-some}
 use Rattle.mdv_databases.proofs.Creating.{begun_stand}
 use Rattle.mdv_databases.proofs.Lists.{events_log}
 use Rattle.mdv_databases.specs.Creating.{IsCreation, IsMadeIn, IsUnmadeIn}
 use Rattle.mdv_databases.specs.Going.{GoOn, with_events}
-use Rattle.mdv_engine_law.specs.Below.{AreWoken, Created, Creation, Deed, Database, Drives, Event, History, Identity, IoFault, IsMapOf, IsNewestTellable, IsOpenIn, IsOpenedAt, Key, KeptOutside, Log, Map, Opened, Site, SliceLine, Tale, VolId, Volume, history_after, is_firm, log_of, site_area, told}
+use Rattle.mdv_engine_law.specs.Below.{AreWoken, Created, Creation, Deed, Database, Drives, Event, History, Identity, IoFault, IsMapOf, IsNewestTellable, IsOpenIn, IsOpenedAt, Key, KeptOutside, Log, Map, Opened, Site, SliceLine, Tale, VolId, history_after, is_firm, log_of, site_area, told}
 use Rattle.mdv_store.specs.Commit.{AnyLog}
 use Rattle.mdv_shown.specs.Site.{size_on}
 use Rattle.mdv_store.specs.Create.{IsCreatedTo, seats_asked, table_of}
@@ -13,9 +13,10 @@ use Rattle.mdv_store_law.specs.Log as log
 use Rattle.mdv_store_law.specs.Part.{IsPart}
 use Rattle.mdv_store_law.proofs.Parts.{part_front, part_itself, part_of_part}
 use Rattle.mdv_databases.specs.Lasting.{AreFreed}
-use Rattle.mdv_table.specs.Table.{IsOfGeometry}
+use Rattle.mdv_layout_law.proofs.Telling.{volumes_tell}
+use Rattle.mdv_plan.specs.Table.{empty_table}
+use Rattle.mdv_config.specs.Table.{IsOfGeometry}
 use Rattle.mdv_volumes.specs.Databases.{with_creation}
-use Rattle.mdv_volumes.specs.Tables.{map_at}
 use Rattle.mdv_volumes.proofs.Lifting.{creations_go}
 use Rattle.mdv_volumes.specs.Happening.{IsOver}
 use Rattle.mdv_engine_law.proofs.Freed.{freed_current}
@@ -126,7 +127,7 @@ module _ (host : Host) (sizes : List ℕ) (ready : IsReady host sizes) (memory :
       }
     where
       no_map : (volume : VolId) (v : Map) → IsMapOf host.drives o.table volume v → ⊥
-      no_map volume v lies = none-some v (sym (ap (λ (vs : List Volume). map_at host.drives (find (λ (of : Volume). of.number.0 == volume.0) vs)) empty) ∙ lies)
+      no_map volume v lies = none-some v (sym (volumes_tell host.drives o.table (empty_table []) volume empty) ∙ lies)
 
       tellable : (h g : History) (done : IsMadeIn host.drives (now h.databases) (key_of host) identity o m) → g.databases ≡ with_events (key_of host) done.goes.es (now h.databases) → IsNewestTellable (log_of g.databases (key_of host)) None
       tellable h g done databases =

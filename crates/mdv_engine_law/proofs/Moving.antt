@@ -21,8 +21,8 @@ use Rattle.mdv_store_law.specs.Log.{IsLog, Version}
 use Rattle.mdv_store_law.specs.Machine.{AreAll, all_of}
 use Rattle.mdv_store_law.specs.Part.{IsPart}
 use Rattle.mdv_store_law.proofs.Parts.{part_all, part_itself, part_mapped, part_of_part}
-use Rattle.mdv_table.specs.Plan.{last_of}
-use Rattle.mdv_table.specs.Table.{IsOfGeometry}
+use Rattle.mdv_config.specs.Lists.{last_of}
+use Rattle.mdv_config.specs.Table.{IsOfGeometry}
 use Rattle.mdv_volumes.specs.Happening.{MayBeFound, begun_at, deed_of}
 use Rattle.mdv_volumes.specs.HistoryLaws.{AreLater, IsAsked, IsReady as IsTableReady}
 use Rattle.mdv_volumes.specs.Tables.{AreLaid}

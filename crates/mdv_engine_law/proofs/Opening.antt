@@ -6,7 +6,7 @@ use Rattle.mdv_words.specs.Listed.{as_listed}
 use Rattle.mdv_engine_law.specs.Hosts.{lines_asked}
 use Rattle.mdv_engine_law.specs.Moves.{HasMovedOn}
 use Rattle.mdv_shelf.specs.Failing.{Outcomes}
-use Rattle.mdv_words.specs.declared.command.Command.TheVariants.{MakeStripe}
+use Rattle.mdv_words.specs.declared.command.Command.TheVariants.{Alter}
 use Rattle.mdv_words.specs.Line as words
 use Rattle.mdv_engine_law.specs.Below.{Command, AddListed, AddPlaces, DropPlaces, Line, Opened, Print, Read, Replicas, SliceName, Write, listed_by, meant}
 use Rattle.mdv_engine_law.specs.Answers.{accepted}
@@ -31,9 +31,9 @@ module _ (calls : Outcomes) (host : Host) (kept next : Kept) where
     by (Some o) (clean, made) = not_none next.memory made.opened (ap (λ (m : Memory). m.opened) made.memory) none
   effect_opens (AddListed number force) is none = absurd is
   effect_opens (DropPlaces slices force) is none = (slices, force, refl)
-  effect_opens (MakeStripe volume slice) (same, o, there, done) none = absurd (not_none next.memory done.opened (ap (λ (m : Memory). m.opened) done.memory) none)
+  effect_opens (Alter alteration) (same, o, there, done) none = absurd (not_none next.memory done.opened (ap (λ (m : Memory). m.opened) done.memory) none)
   effect_opens (Read volume at count) (calm, v, there, blocks, counted, seen, same, stays) none = absurd (cc (same))
-  effect_opens (Write volume at block) (calm, v, there, same, memory, put) none =
+  effect_opens (Write volume at what) (calm, v, there, same, memory, put) none =
       let is : next.memory.opened ≡ Some there.o = ap (λ (m : Memory). m.opened) memory ∙ there.opened in
       absurd (not_none next.memory there.o is none)
   effect_opens (Print names) (calm, o, there, same, stays) none = absurd (cc (same))
@@ -58,9 +58,9 @@ module _ (calls : Outcomes) (host : Host) (kept next : Kept) where
     by (Some r) (slices, f, is) = cc (is)
   drops_itself (AddPlaces slices force count blocks) drops = drops
   drops_itself (DropPlaces slices force) drops = drops
-  drops_itself (MakeStripe volume slice) drops = drops
+  drops_itself (Alter alteration) drops = drops
   drops_itself (Read volume at count) drops = drops
-  drops_itself (Write volume at block) drops = drops
+  drops_itself (Write volume at what) drops = drops
   drops_itself (Print names) drops = drops
 
   -- so what is told `ok` and leaves none open is a boot, or a line by which places go

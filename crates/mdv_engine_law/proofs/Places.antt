@@ -21,7 +21,7 @@ use Rattle.mdv_store.proofs.Sitting.{contains_behind, contains_first, first_or_b
 use Rattle.mdv_store.specs.Create.{replica_on, seat_on, seats_asked, seats_on}
 use Rattle.mdv_store.specs.Seats.{replica_area, replicas_of}
 use Rattle.mdv_survey.specs.declared.replica.Replica.{Replica}
-use Rattle.mdv_table.proofs.Pairs.{AllPairs-cons}
+use Rattle.mdv_config.proofs.Pairs.{AllPairs-cons}
 use Rattle.mdv_engine_law.specs.Below.{Geometry, HasSlice, Identity, Key, KeptOutside, Local, Seat, Site, SliceAt, SliceLine, SliceName, Tale, own_view, range, seats_area}
 use Rattle.mdv_engine_law.specs.Hosts.{IsReady, key_of, line_at, lines_asked, places_area}
 use Rattle.mdv_engine_law.specs.Refusals.{blocks_at, is_doubled, is_plain}

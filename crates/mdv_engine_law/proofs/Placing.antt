@@ -10,16 +10,15 @@ use Rattle.std.proofs.lemmas.List.Elements.{All-append, All-cons, All-contains, 
 use Rattle.std.proofs.lemmas.List.Sums.{list_all-from_AllPass}
 use Rattle.mdv_fields.specs.Sets.{agrees, is_spaced, starts_well}
 use Rattle.mdv_name.specs.SliceIndex.{same_slice}
-use Rattle.mdv_record.proofs.Volumes.{no_volumes}
 use Rattle.mdv_shown.proofs.Elsewhere.{places_step}
 use Rattle.mdv_acts.proofs.Asked.{few_of, start_short, within_line}
 use Rattle.mdv_store.proofs.Sitting.{contains_behind, contains_first}
 use Rattle.mdv_store.proofs.Spotting.{asked_length as seats_length}
 use Rattle.mdv_acts.specs.Asked.{AreAsked}
 use Rattle.mdv_store.specs.Create.{seats_asked, seats_on, table_of}
-use Rattle.mdv_table.proofs.Pairs.{AllPairs-cons, AllPairs-first, AllPairs-rest}
-use Rattle.mdv_table.specs.Table.{IsKindOf, IsOfGeometry, IsPlaceOf}
-use Rattle.mdv_table.specs.Slices.{Overlaps}
+use Rattle.mdv_config.proofs.Pairs.{AllPairs-cons, AllPairs-first, AllPairs-rest}
+use Rattle.mdv_config.specs.Table.{IsKindOf, IsOfGeometry, IsPlaceOf, volume_key}
+use Rattle.mdv_config.specs.Slices.{Overlaps}
 use Rattle.mdv_volumes.proofs.Clear.{set_aside}
 use Rattle.mdv_engine_law.specs.Below.{AddPlaces, Geometry, HasSlice, Identity, IsSound, Key, Place, Seat, Site, SliceLine, SliceName, Volume, site_of}
 use Rattle.mdv_engine_law.specs.Commands.{IsAllowed}
@@ -113,9 +112,11 @@ placed g key identity sizes lines count blocks sound asked sites = record {
     differ = places_differ key identity count blocks asked.least lines asked.once named;
     each = each_of key identity count blocks (IsPlaceOf g) lines place_of;
   };
-  numbers = no_volumes;
+  numbers = record { ascending = λ i j d below lt. absurd (omega (arith, lt)); keys = All-nil (λ (v : Volume). volume_key v < 8192) };
   kinds = All-nil (λ (v : Volume). IsKindOf g v.kind);
   apart = record { components = λ i j d below lt. absurd (omega (arith, lt)); replicas = All-nil (λ (n : SliceName). All (λ (p : Place). Overlaps g.slices p.slice n → ⊥) (places key identity count blocks lines)) };
+  alone = record { set = refl; pending = refl; pools = refl };
+  quiet = refl;
 } where
   counted : length (places key identity count blocks lines) ≡ length lines * count
   counted = length-map (seats_asked key identity lines count blocks) (λ (s : Seat). s.place) ∙ seats_length key identity count blocks lines

@@ -4,12 +4,22 @@ use Rattle.std.proofs.Math.Bool.{or-true}
 use Rattle.std.proofs.lemmas.List.{append-nil, length-take, take_all, take-append-le, take_min}
 use Rattle.std.proofs.lemmas.List.Elements.{All-append, All-nil, All-cons}
 use Rattle.std.proofs.lemmas.Slice.Eq.{bytes_eq-Decides}
-use Rattle.std.specs.List.{find, list_any}
-use Rattle.std.specs.Option.{is_none}
+use Rattle.std.specs.List.{list_any}
+use Rattle.std.specs.Option.{option_map}
+use Rattle.std.proofs.lemmas.Option.{none-some, same_Some}
 use Rattle.std.specs.Prelude.{is_some, nat_lt}
 use Rattle.std.specs.Fmt.{digits, decimal}
-use Rattle.mdv_engine_law.specs.Below.{refusal_text, SliceName, VolId, Refusal, BadLine, NoDatabase, NeedForce, NoSuchVolume, NoSuchPool, Named, NameTaken, NoSuchSlice, SliceInUse, TooSmall, TooMany, WrongKind, WrongState, ReplicaFull, OutOfRange, IoFault, OutOfMemory, LineTooLong, Down, PlanChange, Opened, Command, Print, Read, Write, Volume, lacks, one_reply, refused, replies_in, said_in, unsaid, with_reply, Deed, MakeStripe, Place, StateWord, AddListed, AddPlaces, DropPlaces}
+use Rattle.mdv_engine_law.specs.Below.{refusal_text, SliceName, VolId, Refusal, BadLine, NoDatabase, NeedForce, NoSuchVolume, NoSuchPool, Named, NameTaken, NoSuchSlice, SliceInUse, TooSmall, TooMany, WrongKind, WrongState, ReplicaFull, OutOfRange, IoFault, OutOfMemory, LineTooLong, Down, PlanChange, Opened, Command, Print, Read, Write, Map, blocks_of, lacks, map_of, one_reply, refused, replies_in, said_in, unsaid, with_reply, Deed, Place, StateWord, AddListed, AddPlaces, DropPlaces}
 use Rattle.mdv_base.specs.Order.{order, where_so}
+use Rattle.mdv_base.specs.declared.refusal.Refusal.TheVariants.{BadInterlace, HasParent, LastCopy, Nested, NoSpace, SpareInUse, TooFew}
+use Rattle.mdv_change.specs.Change as table
+use Rattle.mdv_components.specs.Causes as causes
+use Rattle.mdv_components.specs.Causes.{first_of, told}
+use Rattle.mdv_components.specs.declared.cause.Carried.{Carried}
+use Rattle.mdv_components.specs.declared.cause.Cause.{Cause}
+use Rattle.mdv_components.specs.declared.cause.Cause.TheVariants as cause
+use Rattle.mdv_keeping.specs.Built.{names_db}
+use Rattle.mdv_keeping.specs.Refused.{cause_with}
 use Rattle.mdv_base.proofs.Order.{first_holds}
 use Rattle.mdv_status.specs.Telling.{Said as SaidBytes}
 use Rattle.mdv_words.specs.declared.command.Command.TheVariants as command
@@ -21,16 +31,12 @@ use Rattle.mdv_engine_law.specs.declared.answer.Answer.TheVariants.{Said, Over}
 use Rattle.mdv_engine_law.specs.declared.answer.Ended.TheVariants as ended
 use Rattle.mdv_engine_law.specs.declared.answer.Outcome.TheVariants as outcome
 use Rattle.mdv_engine_law.specs.declared.host.Host.{Host}
+use Rattle.mdv_engine_law.specs.Altering.{change_of}
 use Rattle.mdv_engine_law.specs.Line.{Ask, Nothing, ToBoot, ToDo, ToDrop, ToMake, ToMakeListed, ToSee, deeds, record_room}
-use Rattle.mdv_engine_law.specs.Refusals.{Case, bytes_after, held, held_of_blocks, held_of_change, held_of_drop, held_of_less, held_of_lists, held_of_others, in_state, rest_of, state_of_less, held_of_print, held_of_read, held_of_replicas, held_past, names_no_volume, names_pool, has_number, is_doubled, is_missing, is_plain, is_short, is_taken, places_open, refusal_of, size_of}
+use Rattle.mdv_engine_law.specs.Refusals.{Case, bytes_after, held, held_of_alteration, held_of_blocks, held_of_change, held_of_drop, held_of_less, held_of_lists, held_of_others, held_of_print, held_of_replicas, held_of_transfer, held_past, in_state, is_doubled, is_missing, is_plain, is_short, is_taken, listed, names_no_volume, names_pool, places_open, refusal_of, rest_of, state_of_less, told_by_table}
 use Rattle.mdv_engine_law.specs.Places.{are_all, bytes_with, list_more, list_of, room_with}
 use Rattle.mdv_base.specs.declared.state_word.StateWord.TheVariants.{Okay, Resyncing, Maintenance, LastErred, Initializing, Offline, Online, Absent, Inactive, Pending, Mediated, Owner, Available, InUse, Broken, TwoDatabases}
 use Rattle.mdv_name.specs.SliceIndex.{slice_at}
-use Rattle.mdv_table.specs.Below.{meets_db}
-use Rattle.mdv_table.specs.Change as table
-use Rattle.mdv_table.specs.Change.{is_db}
-use Rattle.mdv_table.specs.Plan.{is_in_use, used_slices}
-use Rattle.mdv_table.specs.Volumes.{has_volume}
 use Rattle.mdv_engine_law.specs.Replies.{Acks, AcksAnswer, AcksBy, AcksFront, AcksIn, IsRefusalFront, IsPlain, IsPlainAnswer, IsReply, IsText, IsFront, IsAccepted, is_front_of, issuable, issuable_front, issuable_in, issuable_of, issued_by, text_of, refusal_line, ok_line}
 use Rattle.mdv_store_law.specs.Part.{IsPart}
 use Rattle.mdv_store_law.proofs.Parts.{part_itself}
@@ -90,18 +96,6 @@ module _ (gone plain unread many unforced used small : Bool) where
       (and_plain unread (WrongState Down) from_many (plainly (WrongState Down) refl refl) (and_plain many TooMany (where_so unforced NeedForce ++ from_used) too_many_plain (and_plain unforced NeedForce from_used (plainly NeedForce refl refl)
       (and_plain used SliceInUse (where_so small TooSmall) (plainly SliceInUse refl refl) (where_plain small TooSmall (plainly TooSmall refl refl)))))))
 
--- those of a stripe, by its table
-module _ (gone taken db used : Bool) where
-  abbrev named : List Refusal
-  named = where_so gone NoSuchSlice ++ where_so taken NameTaken
-
-  stripe_plain : All IsPlain ((named ++ where_so db WrongKind) ++ where_so used SliceInUse)
-  unfolding digits
-  stripe_plain =
-      All-append IsPlain (named ++ where_so db WrongKind) (where_so used SliceInUse)
-      (All-append IsPlain named (where_so db WrongKind) (All-append IsPlain (where_so gone NoSuchSlice) (where_so taken NameTaken) (where_plain gone NoSuchSlice (plainly NoSuchSlice refl refl)) (where_plain taken NameTaken (plainly NameTaken refl refl))) (where_plain db WrongKind (plainly WrongKind refl refl)))
-      (where_plain used SliceInUse (plainly SliceInUse refl refl))
-
 one_plain : (r : Refusal) → IsPlain r → All IsPlain (r ∷ [])
 one_plain r plain = All-cons IsPlain r [] plain (All-nil IsPlain)
 
@@ -109,43 +103,7 @@ no_database_plain : All IsPlain (NoDatabase ∷ [])
 unfolding digits
 no_database_plain = one_plain NoDatabase (plainly NoDatabase refl refl)
 
-change_plain : (host : Host) (opened : Option Opened) (volume : VolId) (slice : SliceName) → All IsPlain (held_of_change host opened (MakeStripe volume slice))
-change_plain host None volume slice = no_database_plain
-change_plain host (Some newest) volume slice =
-    let change : PlanChange = MakeStripe volume slice in
-    All-append IsPlain (table.held host.drives newest.table.plan change) (where_so (nat_lt (record_room newest) (bytes_after host newest change)) (ReplicaFull (bytes_after host newest change) (record_room newest)))
-    (stripe_plain (is_none (slice_at host.drives.slices slice)) (has_volume newest.table.plan.volumes volume) (is_db (slice_at host.drives.slices slice)) (is_in_use host.drives.slices (used_slices newest.table.plan) slice || meets_db host.drives slice))
-    (where_plain (nat_lt (record_room newest) (bytes_after host newest change)) (ReplicaFull (bytes_after host newest change) (record_room newest)) (numbers_plain (bytes_after host newest change) (record_room newest)))
-
-past_plain : (volume : Option Volume) (end : ℕ) → All IsPlain (held_past volume end)
-unfolding digits
-past_plain None end = one_plain NoSuchVolume (plainly NoSuchVolume refl refl)
-past_plain (Some volume) end = where_plain (nat_lt (size_of volume.kind) end) OutOfRange (plainly OutOfRange refl refl)
-
-pub blocks_plain : (opened : Option Opened) (volume : VolId) (end : ℕ) → All IsPlain (held_of_blocks opened volume end)
-blocks_plain None volume end = no_database_plain
-blocks_plain (Some newest) volume end = past_plain (find (has_number volume) newest.table.plan.volumes) end
-
-read_plain : (opened : Option Opened) (volume : VolId) (at count : ℕ) → All IsPlain (held_of_read opened volume at count)
-unfolding digits
-read_plain opened volume at count =
-    All-append IsPlain (held_of_blocks opened volume (at + count)) (where_so (nat_lt 1024 count) TooMany) (blocks_plain opened volume (at + count)) (where_plain (nat_lt 1024 count) TooMany (plainly TooMany refl refl))
-
-print_plain : (opened : Option Opened) (names : List Named) → All IsPlain (held_of_print opened names)
-unfolding digits
-print_plain None names = no_database_plain
-print_plain (Some newest) names =
-    let missing = list_any (names_no_volume newest.table.plan.volumes) names in
-    All-append IsPlain (where_so missing NoSuchVolume) (where_so (list_any names_pool names) NoSuchPool) (where_plain missing NoSuchVolume (plainly NoSuchVolume refl refl)) (where_plain (list_any names_pool names) NoSuchPool (plainly NoSuchPool refl refl))
-
-lists_plain : (o : Opened) (list : List Place) → All IsPlain (held_of_lists o list)
-lists_plain o list = where_plain (nat_lt (room_with o list) (bytes_with o list)) (ReplicaFull (bytes_with o list) (room_with o list)) (numbers_plain (bytes_with o list) (room_with o list))
-
-others_plain : (opened : Option Opened) (slices : List SliceName) (count blocks : ℕ) → All IsPlain (held_of_others opened slices count blocks)
-others_plain None slices count blocks = All-nil IsPlain
-others_plain (Some o) slices count blocks = lists_plain o (list_more slices count blocks (list_of o))
-
--- those of places that go
+-- a state that stands in the way
 word_plain : (word : StateWord) → IsPlain (WrongState word)
 unfolding digits
 word_plain Okay = plainly (WrongState Okay) refl refl
@@ -166,6 +124,84 @@ word_plain InUse = plainly (WrongState InUse) refl refl
 word_plain Broken = plainly (WrongState Broken) refl refl
 word_plain TwoDatabases = plainly (WrongState TwoDatabases) refl refl
 
+-- those of a change of volumes, by the cause that its table has against it
+cause_plain : (carried : Carried) (c : Cause) → IsPlain (told carried c)
+unfolding digits
+cause_plain carried cause.NoSuchVolume = plainly NoSuchVolume refl refl
+cause_plain carried cause.NoSuchPool = plainly NoSuchPool refl refl
+cause_plain carried cause.NoSuchSlice = plainly NoSuchSlice refl refl
+cause_plain carried cause.NameTaken = plainly NameTaken refl refl
+cause_plain carried cause.WrongKind = plainly WrongKind refl refl
+cause_plain carried cause.WrongState = word_plain carried.state
+cause_plain carried cause.LastCopy = plainly LastCopy refl refl
+cause_plain carried cause.TooFew = plainly TooFew refl refl
+cause_plain carried cause.TooMany = too_many_plain
+cause_plain carried cause.BadInterlace = plainly BadInterlace refl refl
+cause_plain carried cause.SliceInUse = plainly SliceInUse refl refl
+cause_plain carried cause.HasParent = plainly HasParent refl refl
+cause_plain carried cause.Nested = plainly Nested refl refl
+cause_plain carried cause.SpareInUse = plainly SpareInUse refl refl
+cause_plain carried cause.TooSmall = plainly TooSmall refl refl
+cause_plain carried cause.NoSpace = plainly (NoSpace carried.blocks) (decimal_lacks carried.blocks) refl
+
+first_plain : (carried : Carried) (first : Option Cause) (r : Refusal) → option_map (told carried) first ≡ Some r → IsPlain r
+first_plain carried None r is = absurd (none-some r is)
+first_plain carried (Some c) r is = subst IsPlain (same_Some (told carried c) r is) (cause_plain carried c)
+
+-- or that a component lies on a slice for replicas
+with_plain : (first : Option Refusal) (is_db : Bool) → ((q : Refusal) → first ≡ Some q → IsPlain q) → (r : Refusal) → cause_with first is_db ≡ Some r → IsPlain r
+unfolding digits
+with_plain first false plain r is = plain r is
+with_plain None true plain r is = subst IsPlain (same_Some WrongKind r is) (plainly WrongKind refl refl)
+with_plain (Some q) true plain r is = first_holds IsPlain order (q ∷ WrongKind ∷ []) r (All-cons IsPlain q (WrongKind ∷ []) (plain q refl) (one_plain WrongKind (plainly WrongKind refl refl))) is
+
+table_plain : (host : Host) (o : Opened) (change : PlanChange) (r : Refusal) → told_by_table host o change ≡ Some r → IsPlain r
+table_plain host o change = with_plain (table.refusal_of host.drives host.site.drives o.table change) (names_db host.drives change)
+    (first_plain (table.carried host.drives o.table change) (first_of (table.condition host.drives host.site.drives o.table change) causes.order))
+
+listed_plain : (told : Option Refusal) → ((r : Refusal) → told ≡ Some r → IsPlain r) → All IsPlain (listed told)
+listed_plain None plain = All-nil IsPlain
+listed_plain (Some r) plain = one_plain r (plain r refl)
+
+change_plain : (host : Host) (opened : Option Opened) (change : PlanChange) → All IsPlain (held_of_change host opened change)
+change_plain host None change = no_database_plain
+change_plain host (Some o) change =
+    All-append IsPlain (listed (told_by_table host o change)) (where_so (nat_lt (record_room o) (bytes_after host o change)) (ReplicaFull (bytes_after host o change) (record_room o)))
+    (listed_plain (told_by_table host o change) (table_plain host o change))
+    (where_plain (nat_lt (record_room o) (bytes_after host o change)) (ReplicaFull (bytes_after host o change) (record_room o)) (numbers_plain (bytes_after host o change) (record_room o)))
+
+alteration_plain : (host : Host) (opened : Option Opened) (asked : Option PlanChange) → All IsPlain (held_of_alteration host opened asked)
+alteration_plain host opened None = one_plain BadLine bad_line_plain
+alteration_plain host opened (Some change) = change_plain host opened change
+
+past_plain : (map : Option Map) (end : ℕ) → All IsPlain (held_past map end)
+unfolding digits
+past_plain None end = one_plain NoSuchVolume (plainly NoSuchVolume refl refl)
+past_plain (Some v) end = where_plain (nat_lt v.blocks end) OutOfRange (plainly OutOfRange refl refl)
+
+pub blocks_plain : (host : Host) (opened : Option Opened) (volume : VolId) (end : ℕ) → All IsPlain (held_of_blocks host opened volume end)
+blocks_plain host None volume end = no_database_plain
+blocks_plain host (Some o) volume end = past_plain (map_of host.drives o.table volume) end
+
+transfer_plain : (host : Host) (opened : Option Opened) (volume : VolId) (at count : ℕ) → All IsPlain (held_of_transfer host opened volume at count)
+transfer_plain host opened volume at count =
+    All-append IsPlain (held_of_blocks host opened volume (at + count)) (where_so (nat_lt 1024 count) TooMany) (blocks_plain host opened volume (at + count)) (where_plain (nat_lt 1024 count) TooMany too_many_plain)
+
+print_plain : (opened : Option Opened) (names : List Named) → All IsPlain (held_of_print opened names)
+unfolding digits
+print_plain None names = no_database_plain
+print_plain (Some newest) names =
+    let missing = list_any (names_no_volume newest.table.plan) names in
+    All-append IsPlain (where_so missing NoSuchVolume) (where_so (list_any names_pool names) NoSuchPool) (where_plain missing NoSuchVolume (plainly NoSuchVolume refl refl)) (where_plain (list_any names_pool names) NoSuchPool (plainly NoSuchPool refl refl))
+
+lists_plain : (o : Opened) (list : List Place) → All IsPlain (held_of_lists o list)
+lists_plain o list = where_plain (nat_lt (room_with o list) (bytes_with o list)) (ReplicaFull (bytes_with o list) (room_with o list)) (numbers_plain (bytes_with o list) (room_with o list))
+
+others_plain : (opened : Option Opened) (slices : List SliceName) (count blocks : ℕ) → All IsPlain (held_of_others opened slices count blocks)
+others_plain None slices count blocks = All-nil IsPlain
+others_plain (Some o) slices count blocks = lists_plain o (list_more slices count blocks (list_of o))
+
+-- those of places that go
 state_plain : (state : Option StateWord) → All IsPlain (in_state state)
 state_plain None = All-nil IsPlain
 state_plain (Some word) = one_plain (WrongState word) (word_plain word)
@@ -191,9 +227,9 @@ held_plain case (AddPlaces slices force count blocks) =
     (not opened && not force) (list_any (is_taken case) slices || is_doubled slices) (list_any (is_short case.host count blocks) slices)) (others_plain case.memory.opened slices count blocks)
 held_plain case (AddListed number force) = one_plain BadLine bad_line_plain
 held_plain case (DropPlaces slices force) = drop_plain case case.memory.opened slices force
-held_plain case (command.MakeStripe volume slice) = change_plain case.host case.memory.opened volume slice
-held_plain case (Read volume at count) = read_plain case.memory.opened volume at count
-held_plain case (Write volume at block) = blocks_plain case.memory.opened volume (at + 1)
+held_plain case (command.Alter alteration) = alteration_plain case.host case.memory.opened (change_of alteration)
+held_plain case (Read volume at count) = transfer_plain case.host case.memory.opened volume at count
+held_plain case (Write volume at what) = transfer_plain case.host case.memory.opened volume at (length (blocks_of what))
 held_plain case (Print names) = print_plain case.memory.opened names
 
 -- whatever a command is refused for

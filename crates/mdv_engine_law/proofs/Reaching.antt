@@ -25,10 +25,10 @@ use Rattle.mdv_store.specs.Create.{seats_asked}
 use Rattle.mdv_store.specs.Listing.{is_listed_in}
 use Rattle.mdv_store.specs.Seats.{replica_area, replicas_of}
 use Rattle.mdv_survey.specs.declared.replica.Replica.{Replica}
-use Rattle.mdv_table.proofs.Beside.{among-true}
-use Rattle.mdv_table.specs.Plan.{last_of}
-use Rattle.mdv_table.specs.Table.{IsListsOf, IsOfGeometry, IsPlaceOf}
-use Rattle.mdv_table.specs.declared.plan.Lists.TheVariants.{Two}
+use Rattle.mdv_config.proofs.Beside.{among-true}
+use Rattle.mdv_config.specs.Lists.{last_of}
+use Rattle.mdv_config.specs.Table.{IsListsOf, IsOfGeometry, IsPlaceOf}
+use Rattle.mdv_plan.specs.declared.lists.Lists.TheVariants.{Two}
 use Rattle.mdv_engine_law.specs.Below.{Geometry, Key, KeptOutside, Opened, Place, PlaceAt, Replicas, Seat, SliceAt, SliceLine, SliceName, Tale, joined, listed_by, seats_area, site_area}
 use Rattle.mdv_engine_law.specs.declared.host.Host.{Host}
 use Rattle.mdv_engine_law.specs.Hosts.{IsReady, dropped_area, line_at, lines_asked, listed_area, masters_area, opened_area, places_area}

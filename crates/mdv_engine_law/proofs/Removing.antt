@@ -19,7 +19,7 @@ use Rattle.mdv_store_law.specs.Log.{EndAlone}
 use Rattle.mdv_store_law.specs.Machine.{AreAll, all_of}
 use Rattle.mdv_store_law.specs.Part.{IsPart}
 use Rattle.mdv_store_law.proofs.Parts.{part_itself}
-use Rattle.mdv_table.specs.Plan.{last_of}
+use Rattle.mdv_config.specs.Lists.{last_of}
 use Rattle.mdv_volumes.specs.Happening.{IsOver, begun_at}
 use Rattle.mdv_volumes.specs.HistoryLaws.{IsAsked}
 use Rattle.mdv_volumes.proofs.Lifting.{untold_by}

@@ -3,7 +3,7 @@ use Rattle.std.proofs.Common.{◌≡◌, ℕ, List, Option, IfSome, refl, sym, �
 use Rattle.std.proofs.lemmas.Bool.{false≢true}
 use Rattle.mdv_engine_law.specs.Below.{IsKept, IsOff, KeptOutside, Map, Moments, Tale, VolId, nowhere, site_area}
 use Rattle.mdv_layout_law.specs.Laid.{plain_area}
-use Rattle.mdv_table.specs.Table.{IsOfGeometry}
+use Rattle.mdv_config.specs.Table.{IsOfGeometry}
 use Rattle.mdv_shelf.proofs.Frame.{kept_outside_same, kept_outside_more, kept_outside_left, neither}
 use Rattle.mdv_shelf.proofs.Moments.{moments_none, moments_weaker, moments_more}
 use Rattle.mdv_engine_law.specs.declared.host.Host.{Host}

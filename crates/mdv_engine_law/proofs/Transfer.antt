@@ -1,22 +1,20 @@
 -- What a read and a write of blocks of a volume leave of a host's history.
-use Rattle.std.proofs.Common.{◌≡◌, inl, inr, ◌+◌, ◌<◌, ◌==◌, ◌&&◌, not, ℕ, zero, suc, Bool, true, false, List, [], ◌∷◌, length, slice_index_or, refl, sym, ◌∙◌, ap, subst, arith}
-use Rattle.std.proofs.lemmas.Bool.{false≢true}
-use Rattle.std.proofs.lemmas.Bool.Decides.{nat_tests}
-use Rattle.std.proofs.Math.Bool.{and-true}
+use Rattle.std.proofs.Common.{◌≡◌, inl, inr, ◌+◌, ◌<◌, ◌==◌, ◌&&◌, ◌||◌, not, ℕ, Bool, true, false, List, [], ◌∷◌, length, slice_index_or, refl, sym, ◌∙◌, ap, subst, arith}
+use Rattle.std.specs.List.{list_any}
+use Rattle.std.proofs.lemmas.Bool.{and_parts, false≢true}
 use Rattle.mdv_databases.proofs.Lasting.{freed_elsewhere, open_elsewhere, opened_elsewhere}
-use Rattle.mdv_databases.proofs.Lists.{key_itself}
 use Rattle.mdv_databases.specs.Lasting.{AreFreed, IsElsewhere}
 use Rattle.mdv_dev.proofs.Copies.{drive_is, has_copy, one_place, one_reading}
-use Rattle.mdv_dev.proofs.Counting.{has_at, same_number}
+use Rattle.mdv_dev.proofs.Counting.{has_at}
 use Rattle.mdv_dev.specs.Pieces.{LiesAt, drive_of, has_drive}
-use Rattle.mdv_engine_law.specs.Below.{Answers, AreOnDisk, AreWoken, Created, Deed, Drives, Event, Flushes, HasDriveBlock, HasRange, History, IoFault, IsMapOf, IsOff, IsOpenIn, IsOpenedAt, IsThere, Issues, KeptOutside, Key, Map, OfVolume, Opened, Reads, Saw, Table, Tale, Unsettles, Version, VolId, Wrote, history_after, history_after_all, last, log_of, values_reply}
-use Rattle.mdv_map.proofs.Covering.{areas_cover, one_of}
+use Rattle.mdv_engine_law.specs.Below.{Answers, AreOnDisk, AreWoken, Created, Deed, DriveNo, Drives, Event, Flushes, HasDriveBlock, HasRange, History, IoFault, IsMapOf, IsOpenIn, IsOpenedAt, IsThere, Issues, KeptOutside, Key, Map, OfVolume, Opened, Reads, Saw, Table, Tale, Version, VolId, Wrote, history_after, history_after_all, last, log_of, values_reply}
+use Rattle.mdv_map.proofs.Covering.{areas_cover}
 use Rattle.mdv_map.specs.Maps.{area_of_map}
-use Rattle.mdv_map.specs.Requests.{AllRead, Rewriting}
+use Rattle.mdv_map.specs.Requests.{AllRead, OnDrives, Rewriting}
 use Rattle.mdv_shelf.proofs.Blocks.{both_ways}
 use Rattle.mdv_store.specs.Commit.{IsNewestWritten}
 use Rattle.mdv_store_law.proofs.Parts.{part_itself}
-use Rattle.mdv_volumes.proofs.Drives.{has_without}
+use Rattle.mdv_volumes.proofs.Drives.{up_without}
 use Rattle.mdv_volumes.proofs.Maps.{same_map}
 use Rattle.mdv_volumes.proofs.Transfers.{reads_go, writes_go}
 use Rattle.mdv_volumes.specs.Databases.{Database, is_volume}
@@ -36,6 +34,7 @@ use Rattle.mdv_engine_law.proofs.Going.{happened, happened_stands, not_among, no
 use Rattle.mdv_engine_law.proofs.Knowing.{known_on, some_more}
 use Rattle.mdv_engine_law.proofs.Owning.{own_still}
 use Rattle.mdv_engine_law.proofs.Refusing.{IsFree, known_lives, known_newest, knows_its, knows_opened, opened_has}
+use Rattle.mdv_engine_law.proofs.Unsettling.{databases_kept, failed_are, failed_drives, failed_have, one_or_off, unsettled, unsettled_awake, unsettled_issues, woken_kept}
 use Rattle.mdv_engine_law.proofs.Writing.{put_by}
 
 -- what happens to a volume, but for a boot's waking, leaves all counts
@@ -43,15 +42,6 @@ count_kept : (h : History) (key : Key) (volume : VolId) (e : VolumeEvent) → ((
 count_kept h key volume e keeps other beside = elim (both_ways (is_volume key volume other beside)) [
   | inl does ↦ rw does (keeps (h.woken other beside))
   | inr never ↦ rw never refl
-]
-
--- one of the blocks lies on a drive that they lie on
-drive_there : (v : Map) (at n drive : ℕ) → has_drive v at n drive ≡ true → (k : ℕ) × (k < n) × (drive_of (v.copies (at + k)) ≡ drive)
-unfolding has_drive
-drive_there v at zero drive is = absurd (cc (is))
-drive_there v at (suc n) drive is = elim (one_of (drive_of (v.copies (at + n)) == drive) (has_drive v at n drive) is) [
-  | inl here ↦ (n, omega arith, same_number (drive_of (v.copies (at + n))) drive here)
-  | inr rest ↦ let found = drive_there v at n drive rest in (found.0, (let lt = found.1 in omega (arith, lt)), found.2)
 ]
 
 -- blocks of a volume of the open database
@@ -243,86 +233,66 @@ module _ (host : Host) (sizes : List ℕ) (ready : IsReady host sizes) (memory :
   pub wrote_blocks : AreOnDisk v at blocks m → CarriedTo host (ToDo wrote) memory (Said outcome.Ok) memory t m
   wrote_blocks settled = record { done = wrote ∷ []; acks = refl; free = λ has. absurd (not_other wrote (Created (key_of host)) (λ same. cc (same)) has); goes = λ h known. inr (written_by h known settled); knows = knows_settled settled }
 
-  -- A call failed on the drive of the one block that is written, which is unsteady then.
-  module _ (single : length blocks ≡ 1) (failed : ℕ) (on : has_drive v at (length blocks) failed ≡ true) (unsteady : Drives) (here : is_in unsteady failed ≡ true) (others : (drive : ℕ) → (drive ≡ failed → ⊥) → is_in unsteady drive ≡ is_in memory.unsteady drive) where
+  -- Calls failed on drives of these blocks, which are unsteady then; of the copies on the others a crash leaves what a read gives.
+  module _ (failing : ℕ → Bool) (on : (drive : ℕ) → failing drive ≡ true → has_drive v at (length blocks) drive ≡ true) (others : OnDrives v (λ drive. not (failing drive)) at (length blocks) m) (unsteady : Drives)
+      (each : (drive : ℕ) → is_in unsteady drive ≡ (failing drive || is_in memory.unsteady drive)) where
     abbrev torn : Memory
     torn = then_in unsteady
 
-    of_failed : (k : ℕ) × (k < length blocks) × (drive_of (v.copies (at + k)) ≡ failed)
-    of_failed = drive_there v at (length blocks) failed on
-
-    -- it lies on no other
-    never_off : Knows host memory t → (drive b : ℕ) → (drive ≡ failed → ⊥) → IsOff v at (length blocks) drive b
-    never_off knows drive b differs k lt has =
-        let first = of_failed.1 in
-        let same : k ≡ of_failed.0 = omega (arith, lt, first, single) in
-        differs (sym (on_drive knows k drive b lt has) ∙ ap (λ (n : ℕ). drive_of (v.copies (at + n))) same ∙ of_failed.2)
-
-    other_drive : (drive : ℕ) → (drive == failed) ≡ false → drive ≡ failed → ⊥
-    other_drive drive is same = grind (arith, nat_tests, is, same)
-
-    -- so the others are steady that were
-    steady_then : (drive : ℕ) → is_steady memory drive && not (drive == failed) ≡ is_steady torn drive
-    steady_then drive = elim (both_ways (drive == failed)) [
-      | inl is ↦
-          let same : is_in unsteady drive ≡ true = ap (λ (d : ℕ). is_in unsteady d) (same_number drive failed is) ∙ here in
-          rw (is, same) (none_of (is_steady memory drive) (is_in memory.up drive))
-      | inr not_it ↦
-          let same = others drive (other_drive drive not_it) in
-          rw (not_it, same) (and-true (is_steady memory drive))
-    ]
-      where
-        none_of : (a b : Bool) → a && false ≡ b && false
-        none_of true true = refl
-        none_of true false = refl
-        none_of false true = refl
-        none_of false false = refl
+    -- so those are steady that were, and on which none failed
+    steady_then : (drive : ℕ) → is_steady memory drive && not (failing drive) ≡ is_steady torn drive
+    steady_then drive = less (is_in memory.up drive) (is_in memory.unsteady drive) (failing drive) ∙ ap (λ (b : Bool). is_in memory.up drive && not b) (sym (each drive)) where
+      less : (up off fails : Bool) → (up && not off) && not fails ≡ up && not (fails || off)
+      less true true true = refl
+      less true true false = refl
+      less true false true = refl
+      less true false false = refl
+      less false off fails = refl
 
     fewer : (drive : ℕ) → is_steady torn drive ≡ true → is_steady memory drive ≡ true
-    fewer drive on_then = first_of (is_steady memory drive) (not (drive == failed)) (steady_then drive ∙ on_then) where
-      first_of : (a b : Bool) → a && b ≡ true → a ≡ true
-      first_of true b is = refl
-      first_of false b is = is
+    fewer drive on_then = (and_parts (is_steady memory drive) (not (failing drive)) (steady_then drive ∙ on_then)).0
 
-    never_failed : (drive : ℕ) → is_steady torn drive ≡ true → drive ≡ failed → ⊥
-    never_failed drive on_then same = by (is_in memory.up drive) (is_in unsteady drive) on_then (ap (λ (d : ℕ). is_in unsteady d) same ∙ here) where
-      by : (a b : Bool) → a && not b ≡ true → b ≡ true → ⊥
-      by true true steady is = cc (steady)
-      by false true steady is = cc (steady)
-      by a false steady is = cc (is)
+    not_failed : (drive : ℕ) → is_steady torn drive ≡ true → not (failing drive) ≡ true
+    not_failed drive on_then = (and_parts (is_steady memory drive) (not (failing drive)) (steady_then drive ∙ on_then)).1
 
     free_torn : Knows host memory t → IsFree host torn m
-    free_torn knows drive b on_then plain x left =
-        let same = rewriting.outside drive b (never_off knows drive b (never_failed drive on_then)) in knows.steady drive b (fewer drive on_then) plain x (same.left x left) ∙ sym same.last
+    free_torn knows drive b on_then plain x left = elim (one_or_off v at (length blocks) (place knows) drive b (length blocks) (omega arith)) [
+      | inl one ↦ others one.0 drive b x one.1 one.2 (not_failed drive on_then) left
+      | inr off ↦ let same = rewriting.outside drive b off in knows.steady drive b (fewer drive on_then) plain x (same.left x left) ∙ sym same.last
+    ]
 
     knows_torn : Knows host memory t → Knows host torn m
     knows_torn = knows_written unsteady free_torn
 
-    -- the history takes it so
-    abbrev events : List Event
-    events = OfVolume (key_of host) volume (Issues at blocks) ∷ Unsettles (key_of host) (record { 0 = failed }) ∷ []
+    module _ (h : History) (known : IsKnown host memory h t) where
+      -- the history takes it so
+      abbrev lost : List DriveNo
+      lost = failed_drives v at (length blocks) (place known.knows) failing on
 
-    torn_by : (h : History) → IsKnown host memory h t → Goes host (wrote ∷ []) [] (λ es g. IsKnownAfter host [] (Said (outcome.Refused IoFault)) torn g m) m h
-    unfolding has_range
-    torn_by h known =
-        let k = of_failed.0 in
-        let at_k = place known.knows k of_failed.1 in
-        let is_drive : at_k.0 ≡ failed = sym (drive_is v (at + k) at_k.0 at_k.1 at_k.2) ∙ of_failed.2 in
-        let has = subst (λ (d : ℕ). HasDriveBlock (v.copies (at + k)) d at_k.1) is_drive (has_copy v (at + k) at_k.0 at_k.1 at_k.2) in
-        let goes = writes_go.torn host.drives h (key_of host) volume at blocks t m (own h known) (record { 0 = failed }) k at_k.1 known.stands rewriting of_failed.1 has in
-        let stands = happened_stands host [] (wrote ∷ []) [] m h events goes (tt, (tt, tt)) in
-        happened host (wrote ∷ []) (wrote ∷ []) [] m h events goes (tt, (tt, tt)) (λ es g. IsKnownAfter host [] (Said (outcome.Refused IoFault)) torn g m) (found h known, (tt, tt)) (part_itself (wrote ∷ []))
-        (still h known unsteady fewer (knows_torn known.knows) (history_after_all h events) stands refl (up_then h known) (λ other. count_kept h (key_of host) volume (Issues at blocks) (λ n. refl) (key_of host) other))
-      where
-        up_then : (h : History) → IsKnown host memory h t → (drive : ℕ) → is_in ((history_after_all h events).up (key_of host)) drive ≡ is_steady torn drive
-        up_then h known drive =
-            let itself = key_itself (key_of host) in
-            rw itself (has_without (h.up (key_of host)) (record { 0 = failed }) (record { 0 = drive }) ∙ ap (λ (b : Bool). b && not (drive == failed)) (known.up drive) ∙ steady_then drive)
+      abbrev events : List Event
+      events = OfVolume (key_of host) volume (Issues at blocks) ∷ unsettled (key_of host) lost
+
+      up_then : (drive : ℕ) → is_in ((history_after_all h events).up (key_of host)) drive ≡ is_steady torn drive
+      up_then drive =
+          up_without (key_of host) lost (issued_then h known) (record { 0 = drive })
+          ∙ ap (λ (b : Bool). b && not (list_any (λ (d : DriveNo). drive == d.0) lost)) (known.up drive)
+          ∙ ap (λ (b : Bool). is_steady memory drive && not b) (failed_are v at (length blocks) (place known.knows) failing on drive)
+          ∙ steady_then drive
+
+      torn_by : Goes host (wrote ∷ []) [] (λ es g. IsKnownAfter host [] (Said (outcome.Refused IoFault)) torn g m) m h
+      unfolding has_range
+      torn_by =
+          let goes = writes_go.torn host.drives h (key_of host) volume at blocks t m (own h known) lost known.stands rewriting (failed_have v at (length blocks) (place known.knows) failing on) in
+          let stands = happened_stands host [] (wrote ∷ []) [] m h events goes (tt, unsettled_issues (key_of host) host [] lost) in
+          happened host (wrote ∷ []) (wrote ∷ []) [] m h events goes (tt, unsettled_issues (key_of host) host (wrote ∷ []) lost) (λ es g. IsKnownAfter host [] (Said (outcome.Refused IoFault)) torn g m)
+          (found h known, unsettled_awake (key_of host) host lost (issued_then h known)) (part_itself (wrote ∷ []))
+          (still h known unsteady fewer (knows_torn known.knows) (history_after_all h events) stands (databases_kept (key_of host) lost (issued_then h known)) up_then (λ other.
+          woken_kept (key_of host) lost (issued_then h known) (key_of host) other ∙ count_kept h (key_of host) volume (Issues at blocks) (λ n. refl) (key_of host) other))
 
     torn_carried : CarriedTo host (ToDo wrote) memory (Said (outcome.Refused IoFault)) torn t m
     torn_carried = record { done = []; acks = refl; free = λ has. absurd (not_among (Created (key_of host)) has); goes = λ h known. inr (torn_by h known); knows = knows_torn }
 
-  pub wrote_some : (next : Memory) (failed : ℕ) → length blocks ≡ 1 → has_drive v at (length blocks) failed ≡ true → HasUnsettled failed memory next → CarriedTo host (ToDo wrote) memory (Said (outcome.Refused IoFault)) next t m
-  wrote_some next failed single on unsettled =
-      subst (λ (n : Memory). CarriedTo host (ToDo wrote) memory (Said (outcome.Refused IoFault)) n t m) (sym unsettled.beside)
-      (torn_carried single failed on next.unsteady unsettled.here unsettled.others)
+  pub wrote_some : (next : Memory) (failing : ℕ → Bool) → ((drive : ℕ) → failing drive ≡ true → has_drive v at (length blocks) drive ≡ true) → OnDrives v (λ drive. not (failing drive)) at (length blocks) m
+      → HasUnsettled failing memory next → CarriedTo host (ToDo wrote) memory (Said (outcome.Refused IoFault)) next t m
+  wrote_some next failing on others unsettled =
+      subst (λ (n : Memory). CarriedTo host (ToDo wrote) memory (Said (outcome.Refused IoFault)) n t m) (sym unsettled.beside) (torn_carried failing on others next.unsteady unsettled.each)

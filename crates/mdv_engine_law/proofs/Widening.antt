@@ -1,8 +1,8 @@
 -- What came of the calls of a stretch, told of a longer one by which no further call failed.
-use Rattle.std.proofs.Common.{◌≡◌, ◌⊎◌, inl, inr, ℕ, Bool, true, false, List, Option, None, Some, Contains}
+use Rattle.std.proofs.Common.{◌≡◌, ◌⊎◌, inl, inr, ℕ, Bool, true, false, List, length, Option, None, Some, Contains}
 use Rattle.std.specs.Bool.{MatchBool}
 use Rattle.mdv_base.proofs.Causes.{IsWithin}
-use Rattle.mdv_engine_law.specs.Below.{BootEnd, DriveNo, Drives, Geometry, Identity, Key, Opened, Site, SliceLine, Table, VolId, Command, AddListed, AddPlaces, DropPlaces, Print, Read, Write}
+use Rattle.mdv_engine_law.specs.Below.{BootEnd, DriveNo, Drives, Geometry, Identity, Key, Opened, Site, SliceLine, Table, VolId, Command, AddListed, AddPlaces, DropPlaces, Print, Read, Write, blocks_of}
 use Rattle.mdv_store.proofs.Passes.{left_as}
 use Rattle.mdv_store.specs.Boot.{IsEndBy, IsOnce, IsShortAt, IsShortBy, IsWrittenTo, is_memory}
 use Rattle.mdv_store.specs.Commit as commit
@@ -15,11 +15,11 @@ use Rattle.mdv_store.specs.declared.seats.Share.{Share}
 use Rattle.mdv_survey.specs.declared.replica.Newest.{Newest}
 use Rattle.mdv_survey.specs.declared.replica.Replica.{Replica}
 use Rattle.mdv_survey.specs.declared.replica.Survey.{Survey}
-use Rattle.mdv_table.specs.declared.plan.Lists.{Lists}
+use Rattle.mdv_plan.specs.declared.lists.Lists.{Lists}
 use Rattle.mdv_words.specs.declared.command.Command.TheVariants as command
 use Rattle.mdv_shelf.specs.Everywhere.{Image}
 use Rattle.mdv_shelf.specs.Failing.{AreCalm, FailedOn, Outcomes}
-use Rattle.mdv_engine_law.specs.Commands.{FailedBlocks, IsLostCommit, blame_of, blame_of_places}
+use Rattle.mdv_engine_law.specs.Commands.{FailedBlocks, FailedWrite, IsLostCommit, blame_of, blame_of_places}
 use Rattle.mdv_engine_law.specs.Hosts.{lines_asked}
 use Rattle.mdv_engine_law.specs.Moves.{IsLostChange}
 use Rattle.mdv_engine_law.specs.Places.{are_all}
@@ -117,6 +117,10 @@ module _ (failed more : Outcomes) (cause : AreWithin failed more) where
   abbrev pub blocks_more : (host : Host) (memory : Memory) (volume : VolId) (at count : ℕ) → FailedBlocks failed host memory volume at count → FailedBlocks more host memory volume at count
   blocks_more host memory volume at count of = record { map = of.map; there = of.there; drive = of.drive; on = of.on; failed = on_more of.drive of.failed }
 
+  abbrev pub writes_more : (host : Host) (memory : Memory) (volume : VolId) (at count : ℕ) → FailedWrite failed host memory volume at count → FailedWrite more host memory volume at count
+  writes_more host memory volume at count of =
+      record { map = of.map; there = of.there; failing = of.failing; some = of.some; on = of.on; failed = λ drive is. (cause drive).some (of.failed drive is); calm = λ drive is. (cause drive).none (of.calm drive is) }
+
   -- so of a change of places
   moved_left : (g : Geometry) (o : Opened) (asked : Asks) (Takes : Replica → Replica → Type 0) (seats now : List Seat) → AreLeft (till_wiped failed g o asked) Takes seats now → AreLeft (till_wiped more g o asked) Takes seats now
   moved_left g o asked Takes seats now left = left_as (till_wiped failed g o asked) (till_wiped more g o asked) Takes Takes seats now (λ r has is. (cause (drive_of r)).some is) (λ r has is. none_more (drive_of r) is) (λ r m took. took) left
@@ -160,9 +164,9 @@ module _ (failed more : Outcomes) (cause : AreWithin failed more) where
     some = λ is. (is.0, is.1, is.2, failed_on_more _ is.3, beside_more _ is.4);
     lost = λ active listed is. (is.0, is.1, lost_change_more _ _ _ active listed is.2);
   }
-  blamed_more host memory (command.MakeStripe volume slice) = record { done = λ is. (is.0, is.1, beside_more _ is.2); none = calm_more; some = λ is. is; lost = λ active listed is. (is.0, is.1, lost_commit_more is.0 _ active listed is.2) }
+  blamed_more host memory (command.Alter alteration) = record { done = λ is. (is.0, is.1, beside_more _ is.2); none = calm_more; some = λ is. is; lost = λ active listed is. (is.0, is.1, lost_commit_more is.0 _ active listed is.2) }
   blamed_more host memory (Read volume at count) = record { done = calm_more; none = calm_more; some = blocks_more host memory volume at count; lost = λ active listed is. is }
-  blamed_more host memory (Write volume at block) = record { done = calm_more; none = calm_more; some = blocks_more host memory volume at 1; lost = λ active listed is. is }
+  blamed_more host memory (Write volume at what) = record { done = calm_more; none = calm_more; some = writes_more host memory volume at (length (blocks_of what)); lost = λ active listed is. is }
   blamed_more host memory (Print names) = record { done = calm_more; none = calm_more; some = λ is. is; lost = λ active listed is. is }
 
   -- and what a boot says of each drive

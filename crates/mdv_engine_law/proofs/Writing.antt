@@ -1,14 +1,14 @@
 -- The blocks that a line may write, and those that it leaves, where more calls write none.
 use Rattle.std.specs.Bool.{MatchBool}
-use Rattle.std.proofs.Common.{◌≡◌, inl, inr, ℕ, Bool, true, false, List, [], ◌∷◌, length, slice_index_or, Option, None, Some, refl}
+use Rattle.std.proofs.Common.{◌≡◌, inl, inr, ℕ, Bool, true, false, List, [], length, slice_index_or, Option, None, Some, refl}
 use Rattle.mdv_map.proofs.Joining.{kept_is_old, old_or_new_more}
 use Rattle.mdv_map.proofs.Standing.{requests_stand}
 use Rattle.mdv_map.specs.Requests.{Rewriting}
 use Rattle.mdv_shelf.proofs.Everywhere.{everywhere_kept}
 use Rattle.mdv_shelf.proofs.Frame.{kept_more, kept_outside_more}
 use Rattle.mdv_shelf.proofs.Settled.{synced_still}
-use Rattle.mdv_engine_law.specs.Below.{Command, AddListed, AddPlaces, DropPlaces, AreOnDisk, Head, IsOwn, KeptOutside, Map, Print, Read, Spells, Write, nowhere, site_area, site_of, Changed, Created, Saw, Tale, Wrote, listed_by, Deleted, Identity, Key, Opened, PlaceAt, Seat, SliceLine, SliceName, joined}
-use Rattle.mdv_words.specs.declared.command.Command.TheVariants.{MakeStripe}
+use Rattle.mdv_engine_law.specs.Below.{Command, AddListed, AddPlaces, DropPlaces, AreOnDisk, Head, IsOwn, KeptOutside, Map, Print, Read, Spells, Write, nowhere, site_area, site_of, Changed, Created, Saw, Tale, Wrote, listed_by, Deleted, Identity, Key, Opened, PlaceAt, Seat, SliceLine, SliceName, joined, blocks_of}
+use Rattle.mdv_words.specs.declared.command.Command.TheVariants.{Alter}
 use Rattle.mdv_engine_law.specs.declared.host.Host.{Host}
 use Rattle.mdv_engine_law.specs.Hosts.{dropped_area, identity_of, key_of, lines_asked, listed_area, opened_area, places_area}
 use Rattle.mdv_engine_law.specs.Line.{Ask, Memory, Nothing, ToBoot, ToDo, ToDrop, ToMake, ToMakeListed, ToSee}
@@ -102,9 +102,9 @@ module _ (host : Host) (memory : Memory) where
   done_still calls (AddPlaces slices force count blocks) t m kept left = formed_still memory.opened (lines_asked host slices) count blocks t m kept left
   done_still calls (AddListed number force) t m kept left = tt
   done_still calls (DropPlaces slices force) t m kept left = blank_still calls slices t m kept left
-  done_still calls (MakeStripe volume slice) t m kept left = tt
+  done_still calls (Alter alteration) t m kept left = tt
   done_still calls (Read volume at count) t m kept left = tt
-  done_still calls (Write volume at block) t m kept left = (left.0, left.1, on_disk_still left.0 at (block ∷ []) t m left.2 kept)
+  done_still calls (Write volume at what) t m kept left = (left.0, left.1, on_disk_still left.0 at (blocks_of what) t m left.2 kept)
   done_still calls (Print names) t m kept left = tt
 
   -- so where it was ended
@@ -112,9 +112,9 @@ module _ (host : Host) (memory : Memory) where
   torn_still calls (AddPlaces slices force count blocks) t m kept left = tt
   torn_still calls (AddListed number force) t m kept left = tt
   torn_still calls (DropPlaces slices force) t m kept left = λ o is all a has calm. everywhere_kept (λ image. image a.drive.0 a.first ≡ block_of []) t m kept (left o is all a has calm)
-  torn_still calls (MakeStripe volume slice) t m kept left = tt
+  torn_still calls (Alter alteration) t m kept left = tt
   torn_still calls (Read volume at count) t m kept left = tt
-  torn_still calls (Write volume at block) t m kept left = tt
+  torn_still calls (Write volume at what) t m kept left = tt
   torn_still calls (Print names) t m kept left = tt
 
   -- and where more calls failed
@@ -129,16 +129,16 @@ module _ (host : Host) (memory : Memory) where
   done_more failed more cause (AddPlaces slices force count blocks) u left = left
   done_more failed more cause (AddListed number force) u left = tt
   done_more failed more cause (DropPlaces slices force) u left = blank_more failed more cause slices u left
-  done_more failed more cause (MakeStripe volume slice) u left = tt
+  done_more failed more cause (Alter alteration) u left = tt
   done_more failed more cause (Read volume at count) u left = tt
-  done_more failed more cause (Write volume at block) u left = left
+  done_more failed more cause (Write volume at what) u left = left
   done_more failed more cause (Print names) u left = tt
 
   pub torn_more : (failed more : Outcomes) → AreWithin failed more → (command : Command) (u : Tale) → LeavesTorn failed host memory command u → LeavesTorn more host memory command u
   torn_more failed more cause (AddPlaces slices force count blocks) u left = tt
   torn_more failed more cause (AddListed number force) u left = tt
   torn_more failed more cause (DropPlaces slices force) u left = λ o is all a has calm. left o is all a has (λ some. calm ((cause a.drive.0).some some))
-  torn_more failed more cause (MakeStripe volume slice) u left = tt
+  torn_more failed more cause (Alter alteration) u left = tt
   torn_more failed more cause (Read volume at count) u left = tt
-  torn_more failed more cause (Write volume at block) u left = tt
+  torn_more failed more cause (Write volume at what) u left = tt
   torn_more failed more cause (Print names) u left = tt

@@ -1,11 +1,11 @@
--- What a run's boots settle: blocks of a volume whose drives the last boot brought up are read and written only where one value of each was found since it began.
+-- What a run's boots settle: blocks of a volume whose drives the last boot brought up, and that are steady since, are read and written only where one value of each was found since it began.
 use Rattle.std.specs.Prelude.{ℕ, ◌+◌, ◌≤◌, List, length, Contains}
 use Rattle.mdv_engine_law.specs.Below.{Acknowledges, Answers, Begins, Boots, Crashes, Creation, Deletes, Drives, Event, Flushes, History, IsThere, IsUpon, Map, Geometry, Issues, Key, MayHappen, OfDatabase, OfVolume, Reads, Shows, Stops, Unsettles, VolId, VolumeEvent, Woke}
 use Rattle.mdv_volumes.specs.Events as lives
 use Rattle.mdv_engine_law.specs.declared.host.Host.{Host}
 use Rattle.mdv_engine_law.specs.Line.{is_in}
 
--- of each of these blocks of the volume one value was found, where the last boot brought its drives up
+-- of each of these blocks of the volume one value was found, where the last boot brought its drives up, and each is steady since
 abbrev pub AreFound : Geometry → History → Key → VolId → ℕ → ℕ → Type 0
 AreFound g h key volume at count = (v : Map) → IsThere g h.databases key volume v → IsUpon (is_in (h.up key)) v → at + count ≤ h.woken key volume
 

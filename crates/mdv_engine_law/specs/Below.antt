@@ -32,7 +32,7 @@ pub use Rattle.mdv_name.specs.SliceIndex.{HasNoSlice, HasSlice}
 pub use Rattle.mdv_name.specs.declared.geometry.Geometry.{Geometry}
 pub use Rattle.mdv_name.specs.declared.slice_lines.SliceAt.{SliceAt}
 pub use Rattle.mdv_name.specs.declared.slice_lines.SliceLine.{SliceLine}
-pub use Rattle.mdv_record.specs.Text.{record_text}
+pub use Rattle.mdv_encoding.specs.Text.{record_bytes, record_text}
 pub use Rattle.mdv_replica.specs.declared.replica.Head.{Head}
 pub use Rattle.mdv_replica.specs.declared.replica.PlaceAt.{PlaceAt}
 pub use Rattle.mdv_replica.specs.declared.replica.Slot.TheVariants.{First, Second}
@@ -60,15 +60,14 @@ pub use Rattle.mdv_store_law.specs.Log.{IsMade, IsNewestTellable, Issue, Log, Of
 pub use Rattle.mdv_survey.specs.Replica.{IsOnShelf}
 pub use Rattle.mdv_tab.specs.Text.{IsTab}
 pub use Rattle.mdv_tab.specs.declared.entry.Entry.{Entry}
-pub use Rattle.mdv_table.specs.Slices.{HasBlock, IsSound}
-pub use Rattle.mdv_table.specs.Table.{IsOfGeometry, IsStripeOf, IsWholeSlice}
-pub use Rattle.mdv_table.specs.Volumes.{HasNoVolume}
-pub use Rattle.mdv_table.specs.declared.change.Change.TheVariants.{MakeStripe}
-pub use Rattle.mdv_table.specs.declared.change.Change.{Change as PlanChange}
-pub use Rattle.mdv_table.specs.declared.plan.Lists.TheVariants.{One}
-pub use Rattle.mdv_table.specs.declared.table.Table.{Table}
-pub use Rattle.mdv_table.specs.declared.volume.Volume.{Volume}
-pub use Rattle.mdv_table.specs.declared.volume.VolumeKind.{VolumeKind}
+pub use Rattle.mdv_config.specs.Slices.{HasBlock, IsSound}
+pub use Rattle.mdv_config.specs.Table.{IsOfGeometry}
+pub use Rattle.mdv_change.specs.declared.change.Change.{Change as PlanChange}
+pub use Rattle.mdv_plan.specs.declared.lists.Lists.TheVariants.{One}
+pub use Rattle.mdv_plan.specs.declared.plan.Plan.{Plan}
+pub use Rattle.mdv_plan.specs.declared.table.Table.{Table}
+pub use Rattle.mdv_plan.specs.declared.volume.Volume.{Volume}
+pub use Rattle.mdv_plan.specs.declared.volume.VolumeKind.{VolumeKind}
 pub use Rattle.mdv_volumes.specs.Databases.{Database, log_of, same_key}
 pub use Rattle.mdv_volumes.specs.Events.{Answers, Begins, Flushes, Issues, VolumeEvent, Woke}
 pub use Rattle.mdv_volumes.specs.Happening.{Adds, HasRange, IsCourse, IsIssue, IsNamed, IsThere, MayHappen, issued_by, told_by}
@@ -77,7 +76,7 @@ pub use Rattle.mdv_volumes.specs.History.{Acknowledges, Boots, Changed, Crashes,
 pub use Rattle.mdv_volumes.specs.History.{history_after, history_after_all}
 pub use Rattle.mdv_volumes.specs.HistoryLaws.{AreWoken, CanTell, IsUpon}
 pub use Rattle.mdv_volumes.specs.Tables.{IsMapOf, map_of}
-pub use Rattle.mdv_words.specs.Line.{Line}
+pub use Rattle.mdv_words.specs.Line.{Line, blocks_of}
 pub use Rattle.mdv_words.specs.Listed.{Replicas, listed_by, meant}
-pub use Rattle.mdv_words.specs.declared.command.Command.TheVariants.{AddListed, AddPlaces, DropPlaces, Print, Read, Write}
+pub use Rattle.mdv_words.specs.declared.command.Command.TheVariants.{AddListed, AddPlaces, Alter, DropPlaces, Print, Read, Write}
 pub use Rattle.mdv_words.specs.declared.command.Command.{Command}

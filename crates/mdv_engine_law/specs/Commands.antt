@@ -1,7 +1,7 @@
 -- What a command comes to, and a line.
-use Rattle.std.specs.Prelude.{◌≡◌, ◌+◌, ◌≤◌, ◌^◌, ℕ, true, false, List, [], ◌∷◌, length, MatchOption, Option, Some, None}
+use Rattle.std.specs.Prelude.{◌≡◌, ◌+◌, ◌≤◌, ◌^◌, ℕ, Bool, true, false, List, length, MatchOption, Option, Some, None}
 use Rattle.std.specs.Bool.{MatchBool}
-use Rattle.mdv_engine_law.specs.Below.{Map, VolId, lies_on, Refusal, BadLine, IoFault, OutOfMemory, TooMany, entries_reply, values_reply, Entry, IsTab, listing_of, printed_reply, MakeStripe, Command, AddListed, AddPlaces, DropPlaces, Opened, Read, SliceLine, SliceName, Table, Write, Line, meant}
+use Rattle.mdv_engine_law.specs.Below.{Map, VolId, lies_on, Refusal, BadLine, IoFault, OutOfMemory, TooMany, entries_reply, values_reply, Entry, IsTab, listing_of, printed_reply, blocks_of, Command, AddListed, AddPlaces, DropPlaces, Opened, Read, SliceLine, SliceName, Table, Write, Line, meant}
 use Rattle.mdv_standing.specs.Creating.{first_mark}
 use Rattle.mdv_store.specs.Commit as commit
 use Rattle.mdv_store.specs.Create as create
@@ -13,14 +13,16 @@ use Rattle.mdv_store.specs.Opened.{shortage}
 use Rattle.mdv_store.specs.Seats.{drives_of}
 use Rattle.mdv_tab.specs.Text.{IsFaultOf}
 use Rattle.mdv_tab.specs.declared.read.TabFault.TheVariants as fault
-use Rattle.mdv_table.specs.Change.{table_after}
 use Rattle.mdv_words.specs.declared.command.Command.TheVariants as command
 use Rattle.mdv_words.specs.Line as words
+use Rattle.mdv_words.specs.declared.written.Written.{Written}
+use Rattle.mdv_words.specs.declared.written.Written.TheVariants.{Filled, One}
 use Rattle.mdv_engine_law.specs.declared.answer.Answer.{Answer}
 use Rattle.mdv_engine_law.specs.declared.answer.Answer.TheVariants.{Over}
 use Rattle.mdv_engine_law.specs.declared.answer.Ended.{Ended}
 use Rattle.mdv_engine_law.specs.declared.answer.Ended.TheVariants as ended
 use Rattle.mdv_engine_law.specs.declared.host.Host.{Host}
+use Rattle.mdv_engine_law.specs.Altering.{table_by}
 use Rattle.mdv_engine_law.specs.Answers.{accepted, refusing, telling}
 use Rattle.mdv_shelf.specs.Failing.{AreCalm, FailedOn, Outcomes}
 use Rattle.mdv_engine_law.specs.Hosts.{identity_of, key_of, lines_asked, opened_area, places_area}
@@ -28,7 +30,7 @@ use Rattle.mdv_engine_law.specs.Line.{AreCalmBeside, AreFormedOn, Kept, Memory, 
 use Rattle.mdv_engine_law.specs.Moves.{HasMovedOn, IsDeletedOn, IsLostChange, IsSpentChange, IsUndeletedOn, IsUnmovedOn, LeavesLists, drop_of}
 use Rattle.mdv_engine_law.specs.Places.{are_all, list_of}
 use Rattle.mdv_engine_law.specs.Replies.{Blame}
-use Rattle.mdv_engine_law.specs.Refusals.{Case, IsUnopposed, refusal_of}
+use Rattle.mdv_engine_law.specs.Refusals.{Case, refusal_of}
 
 -- by what a command is judged that is carried out where this is kept
 abbrev pub case_of : Host → Kept → Case
@@ -46,12 +48,12 @@ Effect calls host kept (AddPlaces slices force count blocks) answer next =
 Effect calls host kept (AddListed number force) answer next = ⊥
 Effect calls host kept (DropPlaces slices force) answer next =
     (answer ≡ accepted) × (o : Opened) × (kept.memory.opened ≡ Some o) × MatchBool (are_all o slices) (IsDeletedOn calls host o kept next) (HasMovedOn calls host o (Drops slices) kept next)
-Effect calls host kept (command.MakeStripe volume slice) answer next =
-    (answer ≡ accepted) × (o : Opened) × (kept.memory.opened ≡ Some o) × IsCommitted calls host o (table_after host.drives (MakeStripe volume slice) o.table) kept next
+Effect calls host kept (command.Alter alteration) answer next =
+    (answer ≡ accepted) × (o : Opened) × (kept.memory.opened ≡ Some o) × IsCommitted calls host o (table_by host.drives alteration o.table) kept next
 Effect calls host kept (Read volume at count) answer next =
     AreCalm calls × (v : Map) × HasBlocks host kept.memory volume at count v × (blocks : List (List ℕ)) × (length blocks ≡ count) × AreSeen v at blocks kept.content × (answer ≡ telling (values_reply at blocks)) × Stays kept next
-Effect calls host kept (Write volume at block) answer next =
-    AreCalm calls × (v : Map) × HasBlocks host kept.memory volume at 1 v × (answer ≡ accepted) × (next.memory ≡ kept.memory) × ArePut v at (block ∷ []) kept.content next.content
+Effect calls host kept (Write volume at what) answer next =
+    AreCalm calls × (v : Map) × HasBlocks host kept.memory volume at (length (blocks_of what)) v × (answer ≡ accepted) × (next.memory ≡ kept.memory) × ArePut v at (blocks_of what) kept.content next.content
 Effect calls host kept (command.Print names) answer next =
     AreCalm calls × (o : Opened) × (kept.memory.opened ≡ Some o) × (answer ≡ telling (printed_reply (listing_of o.table.plan names))) × Stays kept next
 
@@ -62,6 +64,16 @@ pub record FailedBlocks (calls : Outcomes) (host : Host) (memory : Memory) (volu
   pub drive : ℕ
   pub on : lies_on map at count drive ≡ true
   pub failed : FailedOn drive calls
+
+-- It has these blocks, which are to be written. On some drives that they lie on a call failed, one on each, and on no other drive.
+pub record FailedWrite (calls : Outcomes) (host : Host) (memory : Memory) (volume : VolId) (at count : ℕ) : Type 0 where
+  pub map : Map
+  pub there : HasBlocks host memory volume at count map
+  pub failing : ℕ → Bool
+  pub some : (drive : ℕ) × (failing drive ≡ true)
+  pub on : (drive : ℕ) → failing drive ≡ true → lies_on map at count drive ≡ true
+  pub failed : (drive : ℕ) → failing drive ≡ true → (calls drive).some
+  pub calm : (drive : ℕ) → failing drive ≡ false → (calls drive).none
 
 -- places of the open database were lost, so that of a list, the first one of which that is so, fewer than half took the table; no call failed beside their drives
 pub record IsLostCommit (calls : Outcomes) (old : Opened) (table : Table) (active listed : ℕ) : Type 0 where
@@ -105,14 +117,14 @@ abbrev pub blame_of : Outcomes → Host → Memory → Command → Blame
 blame_of calls host memory (AddPlaces slices force count blocks) = blame_of_places calls host memory memory.opened (lines_asked host slices) count blocks
 blame_of calls host memory (AddListed number force) = record { done = ⊥; none = AreCalm calls; some = ⊥; lost = λ active listed. ⊥ }
 blame_of calls host memory (DropPlaces slices force) = blame_of_less calls host memory slices
-blame_of calls host memory (command.MakeStripe volume slice) = record {
+blame_of calls host memory (command.Alter alteration) = record {
   done = (o : Opened) × (memory.opened ≡ Some o) × AreCalmBeside (drives_of o.seats) calls;
   none = AreCalm calls;
   some = ⊥;
-  lost = λ active listed. (o : Opened) × (memory.opened ≡ Some o) × IsLostCommit calls o (table_after host.drives (MakeStripe volume slice) o.table) active listed;
+  lost = λ active listed. (o : Opened) × (memory.opened ≡ Some o) × IsLostCommit calls o (table_by host.drives alteration o.table) active listed;
 }
 blame_of calls host memory (Read volume at count) = record { done = AreCalm calls; none = AreCalm calls; some = FailedBlocks calls host memory volume at count; lost = λ active listed. ⊥ }
-blame_of calls host memory (Write volume at block) = record { done = AreCalm calls; none = AreCalm calls; some = FailedBlocks calls host memory volume at 1; lost = λ active listed. ⊥ }
+blame_of calls host memory (Write volume at what) = record { done = AreCalm calls; none = AreCalm calls; some = FailedWrite calls host memory volume at (length (blocks_of what)); lost = λ active listed. ⊥ }
 blame_of calls host memory (command.Print names) = record { done = AreCalm calls; none = AreCalm calls; some = ⊥; lost = λ active listed. ⊥ }
 
 -- and whether it may find the number of its database's tables spent: a change alone, which draws the next
@@ -120,9 +132,9 @@ abbrev pub MaySpend : Memory → Command → Type 0
 MaySpend memory (AddPlaces slices force count blocks) = MatchOption memory.opened ⊥ (λ o. Unit {0})
 MaySpend memory (AddListed number force) = ⊥
 MaySpend memory (DropPlaces slices force) = Unit {0}
-MaySpend memory (command.MakeStripe volume slice) = Unit {0}
+MaySpend memory (command.Alter alteration) = Unit {0}
 MaySpend memory (Read volume at count) = ⊥
-MaySpend memory (Write volume at block) = ⊥
+MaySpend memory (Write volume at what) = ⊥
 MaySpend memory (command.Print names) = ⊥
 
 -- What is left where a call on a drive failed and the line tells it: one of the places that were to be formatted, one of those that all go, or one of the drives of the blocks, which is unsteady from then on if they were to be written. A change that can't be
@@ -132,22 +144,27 @@ Fault calls host kept (AddPlaces slices force count blocks) next =
     MatchOption kept.memory.opened (IsUncreated calls host (lines_asked host slices) count blocks kept next) (λ o. IsUnmovedOn calls host o (lines_asked host slices) count blocks kept next)
 Fault calls host kept (AddListed number force) next = ⊥
 Fault calls host kept (DropPlaces slices force) next = (o : Opened) × (kept.memory.opened ≡ Some o) × (are_all o slices ≡ true) × IsUndeletedOn calls host o kept next
-Fault calls host kept (command.MakeStripe volume slice) next = ⊥
+Fault calls host kept (command.Alter alteration) next = ⊥
 Fault calls host kept (Read volume at count) next = FailedBlocks calls host kept.memory volume at count × Stays kept next
-Fault calls host kept (Write volume at block) next =
-    (failed : FailedBlocks calls host kept.memory volume at 1) × HasUnsettled failed.drive kept.memory next.memory × MayBePut failed.map at (block ∷ []) kept.content next.content
+Fault calls host kept (Write volume at what) next =
+    (failed : FailedWrite calls host kept.memory volume at (length (blocks_of what))) × HasUnsettled failed.failing kept.memory next.memory × MayBePut failed.map at (blocks_of what) kept.content next.content
 Fault calls host kept (command.Print names) next = ⊥
 
--- What is left where memory was wanting. A table is judged before it is copied, and how long its record is behind that; a write takes none, nor does a deletion of all places.
+-- the blocks of a `fill` are made before they are written
+abbrev pub TakesMemory : Written → Type 0
+TakesMemory (One block) = ⊥
+TakesMemory (Filled count byte) = Unit {0}
+
+-- What is left where memory was wanting. A change of volumes takes it for judging, too; a write of one block takes none, nor does a deletion of all places.
 abbrev pub Wanting : Host → Kept → Command → Kept → Type 0
 Wanting host kept (AddPlaces slices force count blocks) next =
     IsAllowed (case_of host kept) (AddPlaces slices force count blocks) × MatchOption kept.memory.opened (IsUnbegun kept next) (λ o. Stays kept next)
 Wanting host kept (AddListed number force) next = ⊥
 Wanting host kept (DropPlaces slices force) next =
     IsAllowed (case_of host kept) (DropPlaces slices force) × (o : Opened) × (kept.memory.opened ≡ Some o) × (are_all o slices ≡ false) × Stays kept next
-Wanting host kept (command.MakeStripe volume slice) next = IsUnopposed host kept.memory (MakeStripe volume slice) × Stays kept next
+Wanting host kept (command.Alter alteration) next = (o : Opened) × (kept.memory.opened ≡ Some o) × Stays kept next
 Wanting host kept (Read volume at count) next = IsAllowed (case_of host kept) (Read volume at count) × Stays kept next
-Wanting host kept (Write volume at block) next = ⊥
+Wanting host kept (Write volume at what) next = TakesMemory what × IsAllowed (case_of host kept) (Write volume at what) × Stays kept next
 Wanting host kept (command.Print names) next = IsAllowed (case_of host kept) (command.Print names) × Stays kept next
 
 -- A creation that gives up has formatted each place, and leaves the table at those on whose drives no call failed, and each block outside its places as it was.
@@ -171,9 +188,9 @@ GivesUp calls host kept (AddPlaces slices force count blocks) (ended.Lost active
 GivesUp calls host kept (AddPlaces slices force count blocks) ended.Spent next = MatchOption kept.memory.opened ⊥ (λ o. IsSpentChange calls o kept next)
 GivesUp calls host kept (DropPlaces slices force) (ended.Lost active listed) next = (o : Opened) × (kept.memory.opened ≡ Some o) × LeavesLists calls host o (drop_of o slices) active listed kept next
 GivesUp calls host kept (DropPlaces slices force) ended.Spent next = (o : Opened) × (kept.memory.opened ≡ Some o) × IsSpentChange calls o kept next
-GivesUp calls host kept (command.MakeStripe volume slice) (ended.Lost active listed) next =
-    (o : Opened) × (kept.memory.opened ≡ Some o) × LeavesTable calls host o (table_after host.drives (MakeStripe volume slice) o.table) active listed kept next
-GivesUp calls host kept (command.MakeStripe volume slice) ended.Spent next = AreCalm calls × (o : Opened) × (kept.memory.opened ≡ Some o) × (2 ^ 63 ≤ o.mark.count + 1) × Stays kept next
+GivesUp calls host kept (command.Alter alteration) (ended.Lost active listed) next =
+    (o : Opened) × (kept.memory.opened ≡ Some o) × LeavesTable calls host o (table_by host.drives alteration o.table) active listed kept next
+GivesUp calls host kept (command.Alter alteration) ended.Spent next = AreCalm calls × (o : Opened) × (kept.memory.opened ≡ Some o) × (2 ^ 63 ≤ o.mark.count + 1) × Stays kept next
 GivesUp calls host kept command end next = ⊥
 
 -- What a command comes to, the same for all: the first cause refuses it, and nothing is done; memory is wanting; it is done; a call on the drive

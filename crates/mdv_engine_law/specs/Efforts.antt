@@ -22,9 +22,9 @@ use Rattle.mdv_store.specs.Text.{blocks_for}
 use Rattle.mdv_store.specs.declared.booting.BootEnd.TheVariants as end
 use Rattle.mdv_survey.specs.Counts.{AreLinesBy}
 use Rattle.mdv_survey.specs.declared.replica.Survey.{Survey}
-use Rattle.mdv_words.specs.declared.command.Command.TheVariants.{MakeStripe, Print}
+use Rattle.mdv_words.specs.declared.command.Command.TheVariants.{Alter, Print}
 use Rattle.mdv_words.specs.Line as words
-use Rattle.mdv_engine_law.specs.Below.{BootEnd, Command, AddListed, AddPlaces, DropPlaces, DriveNo, Drives, Geometry, IoFault, Line, Opened, OutOfMemory, Read, Map, Seat, SliceLine, Table, VolId, Write, active_of, drives, map_of, meant, no_map, pieces, record_text}
+use Rattle.mdv_engine_law.specs.Below.{BootEnd, Command, AddListed, AddPlaces, DropPlaces, DriveNo, Drives, Geometry, IoFault, Line, Opened, OutOfMemory, Read, Map, Seat, SliceLine, Table, VolId, Write, active_of, blocks_of, drives, map_of, meant, no_map, pieces, record_bytes}
 use Rattle.mdv_engine_law.specs.declared.answer.Answer.{Answer}
 use Rattle.mdv_engine_law.specs.declared.answer.Answer.TheVariants.{Said, Over}
 use Rattle.mdv_engine_law.specs.declared.answer.Ended.TheVariants as ended
@@ -52,7 +52,7 @@ places_on lines count = length lines * count
 
 -- Each place is formatted by six calls, and gets its table by six; masters are blanked by two each where a slice gets several. Some places may be lost behind the formats, on each of whose drives a call was made.
 pub record CreationCalls (made : Made) (lines : List SliceLine) (count blocks : ℕ) (o : Opened) : Type 0 where
-  pub all : active_of o.seats ≡ places_on lines count → made.exactly (2 * blanked_asked lines count + 12 * places_on lines count) (blanked_asked lines count + (7 + blocks_for (length (record_text o.table))) * places_on lines count)
+  pub all : active_of o.seats ≡ places_on lines count → made.exactly (2 * blanked_asked lines count + 12 * places_on lines count) (blanked_asked lines count + (7 + blocks_for (record_bytes o.table)) * places_on lines count)
   pub some : made.within (2 * blanked_asked lines count + 6 * places_on lines count + (6 * active_of o.seats + drives_lost (seats_asked o.key o.identity lines count blocks) o.seats))
       (2 * blanked_asked lines count + 12 * places_on lines count) (blanked_asked lines count + 4103 * places_on lines count)
 
@@ -93,14 +93,18 @@ pieces_in host opened volume at count = pieces (map_open host.drives opened volu
 abbrev pub drives_in : Host → Option Opened → VolId → ℕ → ℕ → ℕ
 drives_in host opened volume at count = drives (map_open host.drives opened volume) at count
 
+-- a write makes one call for each piece, and one for each drive
+abbrev pub write_calls_in : Host → Option Opened → VolId → ℕ → ℕ → ℕ
+write_calls_in host opened volume at count = pieces_in host opened volume at count + drives_in host opened volume at count
+
 -- the calls of a creation that is done, and of a change, by what was open before and is then
 abbrev pub MadeCallsOf : Outcomes → Made → Command → Host → Option Opened → Option Opened → Type 0
 MadeCallsOf calls made (AddPlaces slices force count blocks) host None (Some o) = CreationCalls made (lines_asked host slices) count blocks o
 MadeCallsOf calls made (AddPlaces slices force count blocks) host (Some old) new = MoveCalls calls made host.drives old (Adds (lines_asked host slices) count blocks)
 MadeCallsOf calls made (DropPlaces slices force) host (Some old) new = MatchBool (are_all old slices) (DeletionCalls calls made host.drives old) (MoveCalls calls made host.drives old (Drops slices))
-MadeCallsOf calls made (MakeStripe volume slice) host (Some old) (Some o) = PassCalls made (blocks_for (length (record_text o.table))) old.seats o.seats
+MadeCallsOf calls made (Alter alteration) host (Some old) (Some o) = PassCalls made (blocks_for (record_bytes o.table)) old.seats o.seats
 MadeCallsOf calls made (Read volume at count) host old new = made.exactly (pieces_in host old volume at count) 0
-MadeCallsOf calls made (Write volume at block) host old new = made.exactly (pieces_in host old volume at 1 + drives_in host old volume at 1) 1
+MadeCallsOf calls made (Write volume at what) host old new = made.exactly (write_calls_in host old volume at (length (blocks_of what))) (length (blocks_of what))
 MadeCallsOf calls made (Print names) host old new = NoCalls made
 MadeCallsOf calls made other host old new = ⊥
 
@@ -109,9 +113,9 @@ abbrev pub wanting_calls : Host → Option Opened → Command → ℕ
 wanting_calls host old (AddPlaces slices force count blocks) = 0
 wanting_calls host old (AddListed number force) = 0
 wanting_calls host old (DropPlaces slices force) = 0
-wanting_calls host old (MakeStripe volume slice) = 0
+wanting_calls host old (Alter alteration) = 0
 wanting_calls host old (Read volume at count) = pieces_in host old volume at (min count 1024)
-wanting_calls host old (Write volume at block) = 0
+wanting_calls host old (Write volume at what) = 0
 wanting_calls host old (Print names) = 0
 
 -- how many calls the formats of a creation make, and how many blocks they write
@@ -129,9 +133,9 @@ FaultCalls made (AddPlaces slices force count blocks) host (Some o) =
 FaultCalls made (AddListed number force) host old = ⊥
 FaultCalls made (DropPlaces slices force) host None = ⊥
 FaultCalls made (DropPlaces slices force) host (Some o) = MatchBool (are_all o slices) (made.within 12 (deletion_calls o) (deletion_blocks o)) ⊥
-FaultCalls made (MakeStripe volume slice) host old = ⊥
+FaultCalls made (Alter alteration) host old = ⊥
 FaultCalls made (Read volume at count) host old = made.within 1 (pieces_in host old volume at count) 0
-FaultCalls made (Write volume at block) host old = made.within 1 (pieces_in host old volume at 1 + drives_in host old volume at 1) 1
+FaultCalls made (Write volume at what) host old = made.within 1 (write_calls_in host old volume at (length (blocks_of what))) (length (blocks_of what))
 FaultCalls made (Print names) host old = ⊥
 
 -- Where too few places took a table: a creation's formats were made, and a change made a call.
@@ -140,7 +144,7 @@ LossCalls made (AddPlaces slices force count blocks) host None =
     made.within (format_calls (lines_asked host slices) count + 1) (2 * blanked_asked (lines_asked host slices) count + 12 * places_on (lines_asked host slices) count) (blanked_asked (lines_asked host slices) count + 4103 * places_on (lines_asked host slices) count)
 LossCalls made (AddPlaces slices force count blocks) host (Some o) = made.within 0 (move_calls o (Adds (lines_asked host slices) count blocks)) (move_blocks o (Adds (lines_asked host slices) count blocks))
 LossCalls made (DropPlaces slices force) host (Some o) = made.within 0 (move_calls o (drop_of o slices)) (move_blocks o (drop_of o slices))
-LossCalls made (MakeStripe volume slice) host (Some o) = made.within 1 (6 * active_of o.seats) (4096 * active_of o.seats)
+LossCalls made (Alter alteration) host (Some o) = made.within 1 (6 * active_of o.seats) (4096 * active_of o.seats)
 LossCalls made other host old = ⊥
 
 -- The calls of a command by its answer, and what was open before and is then. One that is refused for another cause than a failed call or want of memory makes none, nor does one with which a number would reach its limit.

@@ -5,7 +5,7 @@ use Rattle.mdv_home.specs.View.{own_view}
 use Rattle.mdv_layout_law.specs.Laid.{plain_area}
 use Rattle.mdv_places.specs.Moments.{found_at, master_area}
 use Rattle.mdv_store_law.specs.Changes.{is_on}
-use Rattle.mdv_table.specs.Plan.{last_of}
+use Rattle.mdv_config.specs.Lists.{last_of}
 use Rattle.mdv_name.specs.SliceIndex.{slice_at}
 use Rattle.mdv_engine_law.specs.Below.{Area, Geometry, Identity, IsGeometry, IsOnShelf, IsSound, Key, KeptOutside, Local, Opened, Place, PlaceAt, Replicas, SliceAt, SliceLine, SliceName, Tale, joined, nowhere, range, seats_area, site_area, site_of, sizes_of}
 use Rattle.mdv_engine_law.specs.declared.host.Host.{Host}

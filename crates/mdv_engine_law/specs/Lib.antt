@@ -1,5 +1,6 @@
 pub mod Below
 pub use Rattle.mdv_base.specs.Causes
+pub mod Altering
 pub mod Answers
 pub mod Hosts
 pub mod Awake

@@ -1,5 +1,5 @@
 -- What is kept from line to line, what a boot comes to, and what lines ask.
-use Rattle.std.specs.Prelude.{◌≡◌, ◌⊎◌, ◌+◌, ◌<◌, ◌≤◌, ℕ, Bool, true, false, if◌then◌else◌, List, [], ◌∷◌, length, Option, Some, None, Contains, slice_index_or}
+use Rattle.std.specs.Prelude.{◌||◌, ◌≡◌, ◌⊎◌, ◌+◌, ◌<◌, ◌≤◌, ℕ, Bool, true, false, if◌then◌else◌, List, [], ◌∷◌, length, Option, Some, None, Contains, slice_index_or}
 use Rattle.std.specs.Bool.{MatchBool}
 use Rattle.mdv_places.specs.Asked.{names_of}
 use Rattle.mdv_shelf.specs.Failing.{Outcomes}
@@ -18,18 +18,19 @@ use Rattle.mdv_survey.specs.Replica.{at_of}
 use Rattle.mdv_survey.specs.Survey.{IsSurvey, IsSurveyOf}
 use Rattle.mdv_survey.specs.declared.replica.Replica.{Replica}
 use Rattle.mdv_survey.specs.declared.replica.Survey.{Survey}
-use Rattle.mdv_table.specs.Plan.{settled}
+use Rattle.mdv_config.specs.Lists.{settled}
 use Rattle.mdv_words.specs.declared.command.Command.TheVariants as command
 use Rattle.mdv_words.specs.Line as words
-use Rattle.mdv_engine_law.specs.Below.{Area, BootEnd, Changed, Deleted, SliceName, Command, Created, Deed, DriveNo, Drives, Entry, Geometry, Head, Identity, Image, IsMapOf, IsNewestOf, IsOwn, Key, Line, MakeStripe, OfPlan, Opened, Read, Refusal, Seat, SliceLine, Slot, Spells, Table, Tale, VolId, Write, Wrote, has_drive, last, no_drives, replicas_of, seats_area, site_of, AddListed, AddPlaces, DropPlaces, Among, HasDriveBlock, IsOff, Map, readings}
+use Rattle.mdv_engine_law.specs.Below.{Area, BootEnd, Changed, Deleted, SliceName, Command, Created, Deed, DriveNo, Drives, Entry, Geometry, Head, Identity, Image, IsMapOf, IsNewestOf, IsOwn, Key, Line, OfPlan, Opened, Read, Refusal, Seat, SliceLine, Slot, Spells, Table, Tale, VolId, Write, Wrote, has_drive, last, no_drives, replicas_of, seats_area, site_of, AddListed, AddPlaces, DropPlaces, Among, HasDriveBlock, IsOff, Map, readings, PlanChange, blocks_of}
 use Rattle.mdv_engine_law.specs.declared.answer.Answer.{Answer}
 use Rattle.mdv_engine_law.specs.declared.answer.Answer.TheVariants.{Over}
 use Rattle.mdv_engine_law.specs.declared.answer.Ended.TheVariants as ended
 use Rattle.mdv_engine_law.specs.declared.host.Host.{Host}
+use Rattle.mdv_engine_law.specs.Altering.{change_of}
 use Rattle.mdv_engine_law.specs.Answers.{accepted, refusing}
 use Rattle.mdv_engine_law.specs.Hosts.{identity_of, key_of, lines_asked, places_area}
 
--- what an engine keeps in memory: the open database, which drives the last boot brought up, on which of them a write of blocks failed since, whether no call failed in the boot, nor in the blanking of a last replica
+-- what an engine keeps in memory: the open database, which drives the last boot brought up, on which drives a write of blocks failed since, whether no call failed in the boot, nor in the blanking of a last replica
 -- since, how many creations the run has begun, and the entries of the last `tab` block that was kept since that boot
 pub record Memory : Type 0 where
   pub opened : Option Opened
@@ -151,11 +152,10 @@ pub record MayBePut (v : Map) (at : ℕ) (blocks : List (List ℕ)) (old new : I
   pub here : (k drive b : ℕ) → k < length blocks → HasDriveBlock (v.places (at + k)) drive b → (new drive b ≡ old drive b) ⊎ (new drive b ≡ slice_index_or blocks k [])
   pub elsewhere : (drive b : ℕ) → IsOff v at (length blocks) drive b → new drive b ≡ old drive b
 
--- the drive is unsteady, and of the others those that were
-pub record HasUnsettled (drive : ℕ) (old new : Memory) : Type 0 where
+-- the drives that failed are unsteady, beside those that were
+pub record HasUnsettled (failing : ℕ → Bool) (old new : Memory) : Type 0 where
   pub beside : new ≡ record old { unsteady = new.unsteady }
-  pub here : is_in new.unsteady drive ≡ true
-  pub others : (other : ℕ) → (other ≡ drive → ⊥) → is_in new.unsteady other ≡ is_in old.unsteady other
+  pub each : (drive : ℕ) → is_in new.unsteady drive ≡ (failing drive || is_in old.unsteady drive)
 
 -- what is in memory behind a boot that was answered
 abbrev pub booted_with : Option Opened → Drives → Bool → ℕ → Memory
@@ -251,14 +251,19 @@ pub data Ask : Type 0 where
   ToDo : Deed → Ask
   ToSee : Key → VolId → ℕ → ℕ → Ask
 
+-- a change of the table
+abbrev pub change_asked : Host → Option PlanChange → Ask
+change_asked host None = Nothing
+change_asked host (Some change) = ToDo (Changed (key_of host) (OfPlan change))
+
 -- what a command asks of the host's own database
 abbrev pub asked_by : Host → Command → Ask
 asked_by host (AddPlaces slices force count blocks) = ToMake (key_of host) (lines_asked host slices) count blocks
 asked_by host (AddListed number force) = ToMakeListed (key_of host) number
 asked_by host (DropPlaces slices force) = ToDrop (key_of host) slices force
-asked_by host (command.MakeStripe volume slice) = ToDo (Changed (key_of host) (OfPlan (MakeStripe volume slice)))
+asked_by host (command.Alter alteration) = change_asked host (change_of alteration)
 asked_by host (Read volume at count) = ToSee (key_of host) volume at count
-asked_by host (Write volume at block) = ToDo (Wrote (key_of host) volume at (block ∷ []))
+asked_by host (Write volume at what) = ToDo (Wrote (key_of host) volume at (blocks_of what))
 asked_by host (command.Print names) = Nothing
 
 -- and what a line asks: a block of entries nothing

@@ -1,12 +1,12 @@
 -- The list of places that comes, by what a line asks of the places of an open database.
-use Rattle.std.specs.Prelude.{ℕ, Bool, true, false, List, [], ◌∷◌, ◌++◌, flat_map, length, take}
+use Rattle.std.specs.Prelude.{ℕ, Bool, true, false, List, [], ◌∷◌, ◌++◌, flat_map, take}
 pub use Rattle.mdv_store_law.specs.Changes.{is_on, list_less, places_from, places_on}
-use Rattle.mdv_engine_law.specs.Below.{Opened, Place, SliceName, record_text}
-use Rattle.mdv_record.specs.Room.{least_slot_bytes}
-use Rattle.mdv_record.specs.Text.{with_lists}
-use Rattle.mdv_table.specs.Plan.{last_of, places_of}
-use Rattle.mdv_table.specs.declared.plan.Lists.{Lists}
-use Rattle.mdv_table.specs.declared.plan.Lists.TheVariants.{Two}
+use Rattle.mdv_engine_law.specs.Below.{Opened, Place, SliceName, record_bytes}
+use Rattle.mdv_encoding.specs.Room.{least_slot_bytes}
+use Rattle.mdv_config.specs.Lists.{with_lists}
+use Rattle.mdv_config.specs.Lists.{last_of, places_of}
+use Rattle.mdv_plan.specs.declared.lists.Lists.{Lists}
+use Rattle.mdv_plan.specs.declared.lists.Lists.TheVariants.{Two}
 
 -- so many places more on each of these slices, behind the others
 abbrev pub list_more : List SliceName → ℕ → ℕ → List Place → List Place
@@ -35,7 +35,7 @@ lists_with o list = Two (list_of o) list
 
 -- how long the record of both lists is, and how long it may be
 abbrev pub bytes_with : Opened → List Place → ℕ
-bytes_with o list = length (record_text (with_lists o.table (lists_with o list)))
+bytes_with o list = record_bytes (with_lists o.table (lists_with o list))
 
 abbrev pub room_with : Opened → List Place → ℕ
 room_with o list = least_slot_bytes (places_of (lists_with o list))

@@ -1,16 +1,18 @@
 -- Why a command is refused before anything is done: each cause by itself, and the first of them in the one order.
-use Rattle.std.specs.Prelude.{◌≡◌, ℕ, Bool, true, false, not, ◌==◌, ◌&&◌, ◌||◌, ◌+◌, ◌*◌, nat_lt, if◌then◌else◌, List, [], ◌∷◌, ◌++◌, length, Option, None, Some, is_some}
-use Rattle.std.specs.List.{find, list_any}
+use Rattle.std.specs.Prelude.{ℕ, Bool, true, false, not, ◌==◌, ◌&&◌, ◌||◌, ◌+◌, ◌*◌, nat_lt, if◌then◌else◌, List, [], ◌∷◌, ◌++◌, length, Option, None, Some, is_some}
+use Rattle.std.specs.List.{list_any}
+use Rattle.std.specs.Option.{is_none}
 use Rattle.mdv_base.specs.Order.{first_refusal, where_so}
-use Rattle.mdv_engine_law.specs.Below.{BadLine, Place, SliceName, VolId, Refusal, NoDatabase, NeedForce, Named, NoSuchVolume, NoSuchPool, NoSuchSlice, SliceInUse, TooSmall, TooMany, WrongKind, WrongState, OutOfRange, ReplicaFull, Down, SliceAt, record_text, PlanChange, MakeStripe, Volume, VolumeKind, Command, Read, Write, Opened, Absent, Inactive, StateWord, Drives, has_drive, AddListed, AddPlaces, DropPlaces}
+use Rattle.mdv_engine_law.specs.Below.{BadLine, Place, SliceName, VolId, Refusal, NoDatabase, NeedForce, Named, NoSuchVolume, NoSuchPool, NoSuchSlice, SliceInUse, TooSmall, TooMany, WrongKind, WrongState, OutOfRange, ReplicaFull, Down, SliceAt, record_bytes, PlanChange, Command, Read, Write, Opened, Absent, Inactive, StateWord, Drives, has_drive, AddListed, AddPlaces, DropPlaces, Map, blocks_of, map_of, Plan}
 use Rattle.mdv_name.specs.SliceIndex.{same_slice, slice_at}
 use Rattle.mdv_base.specs.declared.name.Named.TheVariants as named
-use Rattle.mdv_table.specs.Change as table
+use Rattle.mdv_change.specs.Change.{table_after}
+use Rattle.mdv_components.specs.Bases.{volume_of}
+use Rattle.mdv_keeping.specs.Refused.{refusal_in}
 use Rattle.mdv_plan.specs.Slices.{meets_db}
-use Rattle.mdv_table.specs.Volumes.{has_volume}
-use Rattle.mdv_table.specs.declared.volume.VolumeKind.TheVariants as kind
 use Rattle.mdv_words.specs.declared.command.Command.TheVariants as command
 use Rattle.mdv_engine_law.specs.declared.host.Host.{Host}
+use Rattle.mdv_engine_law.specs.Altering.{change_of}
 use Rattle.mdv_engine_law.specs.Line.{Memory, record_room}
 use Rattle.mdv_engine_law.specs.Places.{are_all, bytes_with, list_left, list_more, list_of, room_with}
 use Rattle.mdv_store.specs.Shares.{short_in}
@@ -136,75 +138,77 @@ held_of_drop case (Some o) slices force = held_of_less case o slices force ++ he
 
 -- how long the record of the table would be that the change makes
 abbrev pub bytes_after : Host → Opened → PlanChange → ℕ
-bytes_after host o change = length (record_text (table.table_after host.drives change o.table))
+bytes_after host o change = record_bytes (table_after host.drives o.table change)
 
--- A change of the open database: what its table says against it, and a record that is too long.
+-- what its table says against the change
+abbrev pub told_by_table : Host → Opened → PlanChange → Option Refusal
+told_by_table host o change = refusal_in host.drives host.site.drives o.table change
+
+abbrev pub listed : Option Refusal → List Refusal
+listed None = []
+listed (Some refusal) = refusal ∷ []
+
+-- A change of the open database: what its table says against it; a record that is too long.
 abbrev pub held_of_change : Host → Option Opened → PlanChange → List Refusal
 held_of_change host None change = NoDatabase ∷ []
 held_of_change host (Some o) change =
-    table.held host.drives o.table.plan change ++ where_so (nat_lt (record_room o) (bytes_after host o change)) (ReplicaFull (bytes_after host o change) (record_room o))
+    listed (told_by_table host o change) ++ where_so (nat_lt (record_room o) (bytes_after host o change)) (ReplicaFull (bytes_after host o change) (record_room o))
 
-abbrev pub has_number : VolId → Volume → Bool
-has_number number volume = volume.number.0 == number.0
+-- an entry that asks none isn't one that a line may have
+abbrev pub held_of_alteration : Host → Option Opened → Option PlanChange → List Refusal
+held_of_alteration host opened None = BadLine ∷ []
+held_of_alteration host opened (Some change) = held_of_change host opened change
 
--- how many blocks a volume has
-abbrev pub size_of : VolumeKind → ℕ
-size_of (kind.Stripe stripe) = stripe.component.blocks
-
-abbrev pub held_past : Option Volume → ℕ → List Refusal
+abbrev pub held_past : Option Map → ℕ → List Refusal
 held_past None end = NoSuchVolume ∷ []
-held_past (Some volume) end = where_so (nat_lt (size_of volume.kind) end) OutOfRange
+held_past (Some v) end = where_so (nat_lt v.blocks end) OutOfRange
 
 -- Blocks of a volume up to that one: no such volume; a block past its end.
-abbrev pub held_of_blocks : Option Opened → VolId → ℕ → List Refusal
-held_of_blocks None volume end = NoDatabase ∷ []
-held_of_blocks (Some o) volume end = held_past (find (has_number volume) o.table.plan.volumes) end
+abbrev pub held_of_blocks : Host → Option Opened → VolId → ℕ → List Refusal
+held_of_blocks host None volume end = NoDatabase ∷ []
+held_of_blocks host (Some o) volume end = held_past (map_of host.drives o.table volume) end
 
--- Blocks to be read at once, 1,024 at most.
-abbrev pub held_of_read : Option Opened → VolId → ℕ → ℕ → List Refusal
-held_of_read opened volume at count = held_of_blocks opened volume (at + count) ++ where_so (nat_lt 1024 count) TooMany
+-- Blocks to be read or written at once, 1,024 at most.
+abbrev pub held_of_transfer : Host → Option Opened → VolId → ℕ → ℕ → List Refusal
+held_of_transfer host opened volume at count = held_of_blocks host opened volume (at + count) ++ where_so (nat_lt 1024 count) TooMany
 
 -- the plan doesn't have the volume of this name; and the name is a pool's
-abbrev pub names_no_volume : List Volume → Named → Bool
-names_no_volume volumes (named.Volume number) = not (has_volume volumes number)
-names_no_volume volumes (named.Pool number) = false
+abbrev pub names_no_volume : Plan → Named → Bool
+names_no_volume p (named.Volume number) = is_none (volume_of p number)
+names_no_volume p (named.Pool number) = false
 
 abbrev pub names_pool : Named → Bool
 names_pool (named.Volume number) = false
 names_pool (named.Pool number) = true
 
 -- Names of what is to be printed: no such volume; no such pool, since there is none yet.
-abbrev pub held_of_names : List Volume → List Named → List Refusal
-held_of_names volumes names = where_so (list_any (names_no_volume volumes) names) NoSuchVolume ++ where_so (list_any names_pool names) NoSuchPool
+abbrev pub held_of_names : Plan → List Named → List Refusal
+held_of_names p names = where_so (list_any (names_no_volume p) names) NoSuchVolume ++ where_so (list_any names_pool names) NoSuchPool
 
 abbrev pub held_of_print : Option Opened → List Named → List Refusal
 held_of_print None names = NoDatabase ∷ []
-held_of_print (Some o) names = held_of_names o.table.plan.volumes names
+held_of_print (Some o) names = held_of_names o.table.plan names
 
 abbrev pub change_refusal : Host → Option Opened → PlanChange → Option Refusal
 change_refusal host opened change = first_refusal (held_of_change host opened change)
 
--- a database is open, and its table says nothing against the change
-abbrev pub IsUnopposed : Host → Memory → PlanChange → Type 0
-IsUnopposed host memory change = (o : Opened) × (memory.opened ≡ Some o) × (table.refusal_of host.drives o.table.plan change ≡ None)
-
-abbrev pub blocks_refusal : Option Opened → VolId → ℕ → Option Refusal
-blocks_refusal opened volume end = first_refusal (held_of_blocks opened volume end)
+abbrev pub blocks_refusal : Host → Option Opened → VolId → ℕ → Option Refusal
+blocks_refusal host opened volume end = first_refusal (held_of_blocks host opened volume end)
 
 abbrev pub print_refusal : Option Opened → List Named → Option Refusal
 print_refusal opened names = first_refusal (held_of_print opened names)
 
-abbrev pub read_refusal : Option Opened → VolId → ℕ → ℕ → Option Refusal
-read_refusal opened volume at count = first_refusal (held_of_read opened volume at count)
+abbrev pub transfer_refusal : Host → Option Opened → VolId → ℕ → ℕ → Option Refusal
+transfer_refusal host opened volume at count = first_refusal (held_of_transfer host opened volume at count)
 
 -- The refusals of a command whose causes hold. Of an entry there is one alone, that no such one is kept: where one is, the command is another one (`meant`).
 abbrev pub held : Case → Command → List Refusal
 held case (AddPlaces slices force count blocks) = held_of_creation case slices force count blocks
 held case (AddListed number force) = BadLine ∷ []
 held case (DropPlaces slices force) = held_of_drop case case.memory.opened slices force
-held case (command.MakeStripe volume slice) = held_of_change case.host case.memory.opened (MakeStripe volume slice)
-held case (Read volume at count) = held_of_read case.memory.opened volume at count
-held case (Write volume at block) = held_of_blocks case.memory.opened volume (at + 1)
+held case (command.Alter alteration) = held_of_alteration case.host case.memory.opened (change_of alteration)
+held case (Read volume at count) = held_of_transfer case.host case.memory.opened volume at count
+held case (Write volume at what) = held_of_transfer case.host case.memory.opened volume at (length (blocks_of what))
 held case (command.Print names) = held_of_print case.memory.opened names
 
 -- why a command is refused, if it is

@@ -1,7 +1,7 @@
 -- How the drives stand with their history at each moment of a line.
 use Rattle.std.specs.Prelude.{◌≡◌, ◌⊎◌, ◌+◌, ◌<◌, ℕ, Bool, ◌&&◌, not, true, List, [], ◌∷◌, ◌++◌, flat_map, length, slice_index_or, take, Option, None, Some, IfSome, Contains}
 use Rattle.std.specs.Bool.{MatchBool}
-use Rattle.mdv_engine_law.specs.Below.{Command, Database, Write, DriveNo, Drives, has_drive, IsOldOrNew, KeptOutside, nowhere, Wrote, Tale, told, MayLeave, last, Line, Changed, Map, IsOpenIn, IsOpenedAt, site_area, History, Deed, Created, Event, history_after, Adds, AreWoken, CanTell, Issue, OfChange, OfCreation, OfEnd, OfPlaces, OfPlan, AddPlaces, listed_by, Change, Deleted, DropPlaces, Opened, Place, PlaceAt, SliceLine, SliceName, joined, AreOnDisk, HasDriveBlock, IsKept, IsOff}
+use Rattle.mdv_engine_law.specs.Below.{Command, Database, Write, DriveNo, Drives, has_drive, IsOldOrNew, KeptOutside, nowhere, Wrote, Tale, told, MayLeave, last, Line, Changed, Map, IsOpenIn, IsOpenedAt, site_area, History, Deed, Created, Event, history_after, Adds, AreWoken, CanTell, Issue, OfChange, OfCreation, OfEnd, OfPlaces, OfPlan, AddPlaces, listed_by, Change, Deleted, DropPlaces, Opened, Place, PlaceAt, SliceLine, SliceName, joined, AreOnDisk, HasDriveBlock, IsKept, IsOff, blocks_of}
 use Rattle.mdv_databases.specs.Booting.{MeetsStale}
 use Rattle.mdv_databases.specs.Lasting.{AreFreed}
 use Rattle.mdv_layout_law.specs.Laid.{plain_area}
@@ -177,7 +177,7 @@ LeavesBlank calls host memory slices u =
 
 -- What a command leaves that was told `ok`, where its calls came out so: of a write its block on the disk, with all that the drive was given before; where places come a replica at each of them; and where they go nothing there.
 abbrev pub LeavesDone : Outcomes → Host → Memory → Command → Tale → Type 0
-LeavesDone calls host memory (Write volume at block) u = (v : Map) × HasBlocks host memory volume at 1 v × AreOnDisk v at (block ∷ []) u
+LeavesDone calls host memory (Write volume at what) u = (v : Map) × HasBlocks host memory volume at (length (blocks_of what)) v × AreOnDisk v at (blocks_of what) u
 LeavesDone calls host memory (AddPlaces slices force count blocks) u = LeavesFormed host memory memory.opened (lines_asked host slices) count blocks u
 LeavesDone calls host memory (DropPlaces slices force) u = LeavesBlank calls host memory slices u
 LeavesDone calls host memory other u = Unit {0}

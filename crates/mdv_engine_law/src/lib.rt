@@ -4,8 +4,10 @@
 
 mod answer;
 mod host;
+mod names;
 mod telling;
 
 pub use answer::{Answer, Ended, Outcome, Reply};
 pub use host::Host;
+pub use names::names_refusal;
 pub use telling::{reply_at, tell};

@@ -57,12 +57,12 @@ walk_is p told (w ∷ ws) fresh own alone up =
     ∙ ap (λ (xs : List Volume). w ∷ xs)
     (walk_is p more ws (all_fresh told w ws (All-tail (IsFresh told) w ws fresh) (AllPairs-first IsBelow w ws up)) (All-tail (IsOwn p) w ws own) (All-tail IsAlone w ws alone) (AllPairs-rest IsBelow w ws up))
 
-none_below : (ws : List Volume) → All IsAlone ws → flat_map below_it ws ≡ []
-none_below [] alone = refl
-none_below (w ∷ ws) alone = ap (λ (l : List VolId). l ++ flat_map below_it ws) (All-head IsAlone w ws alone) ∙ none_below ws (All-tail IsAlone w ws alone)
+pub flat_none : {X Y : Type 0} (f : X → List Y) (xs : List X) → All (λ x. f x ≡ []) xs → flat_map f xs ≡ []
+flat_none f [] none = refl
+flat_none f (x ∷ xs) none = ap (λ l. l ++ flat_map f xs) (All-head (λ x. f x ≡ []) x xs none) ∙ flat_none f xs (All-tail (λ x. f x ≡ []) x xs none)
 
 no_parent : (p : Plan) (v : VolId) → All IsAlone p.volumes → has_parent p v ≡ false
-no_parent p v alone = volumes_among v p.volumes ∙ ap (λ (l : List VolId). is_among l v) (none_below p.volumes alone)
+no_parent p v alone = volumes_among v p.volumes ∙ ap (λ (l : List VolId). is_among l v) (flat_none below_it p.volumes alone)
 
 filter_all : (f : VolId → Bool) (vs : List VolId) → ((v : VolId) → f v ≡ true) → filter f vs ≡ vs
 filter_all f [] each = refl

@@ -1,5 +1,5 @@
 mod Flat
+mod Words
 pub mod Lines
 pub mod Listed
 pub mod Told
-pub mod Volumes

@@ -1,82 +1,52 @@
 -- Each line of a listing is one that ends no reply.
-use Rattle.std.proofs.Common.{◌≡◌, ℕ, true, None, refl, sym, ◌∙◌, ap, List, [], ◌∷◌, ◌++◌, length, map, codes, append_assoc}
+use Rattle.std.proofs.Common.{◌≡◌, ◌==◌, ℕ, true, false, Option, None, Some, refl, sym, ◌∙◌, ap, List, [], ◌∷◌, ◌++◌, get_or, map, append_assoc, append-nil}
 use Rattle.std.specs.Fmt.{decimal}
-use Rattle.std.specs.List.{All, concat, flat_map}
+use Rattle.std.specs.List.{concat, find, flat_map}
 use Rattle.std.proofs.lemmas.List.Elements.{All-append, All-cons, All-map, All-nil}
 use Rattle.std.proofs.lemmas.List.Folds.{concat-append}
-use Rattle.mdv_base.specs.declared.drive.SliceName.{SliceName}
 use Rattle.mdv_base.specs.declared.name.Named.TheVariants.{Volume as NamedVolume, Pool as NamedPool}
 use Rattle.mdv_base.specs.declared.name.VolId.{VolId}
-use Rattle.mdv_print.specs.Below.{Part, slice_text}
+use Rattle.mdv_plan.specs.declared.pool.Pool.{Pool as OnePool}
+use Rattle.mdv_print.specs.Below.{Part}
 use Rattle.mdv_print.specs.Order.{uppermost, with_below}
-use Rattle.mdv_print.specs.Parts.{base_part, kind_parts}
-use Rattle.mdv_print.specs.Text.{named_text, volume_line, volumes_text}
-use Rattle.mdv_print.specs.Words.{next_words, part_word}
-use Rattle.mdv_print.proofs.Printed.{walk_holds}
+use Rattle.mdv_print.specs.Parts.{kind_parts, pool_parts}
+use Rattle.mdv_print.specs.Text.{found_line as found_pool, named_text, pool_line, volumes_text}
+use Rattle.mdv_print.specs.Words.{next_words, pool_digits}
 use Rattle.mdv_status.specs.Telling.{lacks}
-use Rattle.mdv_status.proofs.Lines.{decimal_lacks}
-use Rattle.mdv_status.proofs.Pieces.{lacks_append, lacks_one}
+use Rattle.mdv_status.proofs.Pieces.{lacks_append}
 use Rattle.mdv_status.proofs.Replies.{other_ends_not}
-use Rattle.mdv_listing.specs.Below.{Base, IsQuietLine, Named, Plan, Slice, Stripe, Volume, VolumeKind, WholeVolume, names_text}
+use Rattle.mdv_listing.specs.Below.{IsQuietLine, Named, Plan, Volume, names_text, volume_line}
 use Rattle.mdv_listing.specs.Listing.{IsOfQuietLines, listing_of}
-use Rattle.mdv_listing.specs.Whole.{whole_base, whole_kind, whole_of, whole_volume}
+use Rattle.mdv_listing.proofs.Words.{safe_kind, safe_pool, word_lacks, words_lack}
 
--- a slice is spelled without a newline, whatever its numbers
-slice_lacks : (s : SliceName) → lacks 10 (slice_text s) ≡ true
-slice_lacks s =
-    let d = s.drive in
-    let a = codes "c" ++ decimal d.controller in
-    let b = a ++ codes "t" in
-    let c = b ++ decimal d.target in
-    let e = c ++ codes "d" in
-    let f = e ++ decimal d.disk in
-    let first : lacks 10 b ≡ true = lacks_append a (codes "t") (lacks_append (codes "c") (decimal d.controller) refl (decimal_lacks d.controller)) refl in
-    let second : lacks 10 e ≡ true = lacks_append c (codes "d") (lacks_append b (decimal d.target) first (decimal_lacks d.target)) refl in
-    let third : lacks 10 (f ++ codes "s") ≡ true = lacks_append f (codes "s") (lacks_append e (decimal d.disk) second (decimal_lacks d.disk)) refl in
-    lacks_append (f ++ codes "s") (decimal s.slice) third (decimal_lacks s.slice)
-
-next_lacks : (p : Part) (ps : List Part) → lacks 10 (part_word None p) ≡ true → lacks 10 (next_words None ps) ≡ true → lacks 10 (next_words None (p ∷ ps)) ≡ true
-next_lacks p ps one rest = lacks_append (32 ∷ part_word None p) (next_words None ps) (lacks_one 32 (part_word None p) refl one) rest
-
-parts_lack : (b : Base) → lacks 10 (next_words None (Part.Number 1 ∷ Part.Number 1 ∷ base_part (whole_base b) ∷ [])) ≡ true
-parts_lack (Slice s) =
-    let last = next_lacks (Part.Slice s) [] (slice_lacks s) refl in
-    next_lacks (Part.Number 1) (Part.Number 1 ∷ Part.Slice s ∷ []) (decimal_lacks 1) (next_lacks (Part.Number 1) (Part.Slice s ∷ []) (decimal_lacks 1) last)
-
-kind_lacks : (k : VolumeKind) → lacks 10 (next_words None (kind_parts (whole_kind k))) ≡ true
-kind_lacks (Stripe s) = parts_lack s.component.on
-
-abbrev IsQuiet : WholeVolume → Type 0
-IsQuiet v = IsQuietLine (volume_line None v)
-
-volume_quiet : (v : Volume) → IsQuiet (whole_volume v)
-volume_quiet v =
-    let name : List ℕ = part_word None (Part.Volume v.number) in
-    let words : List ℕ = next_words None (kind_parts (whole_kind v.kind)) in
+quiet_line : (b : ℕ) (bs words : List ℕ) → (b == 111) ≡ false → (b == 114) ≡ false → lacks 10 (b ∷ bs) ≡ true → lacks 10 words ≡ true → IsQuietLine ((b ∷ bs) ++ (words ++ 10 ∷ []))
+quiet_line b bs words one other name behind =
     record {
-      text = name ++ words;
-      line = sym (append_assoc name words (10 ∷ []));
-      whole = lacks_append name words (lacks_one 100 (decimal v.number.0) refl (decimal_lacks v.number.0)) (kind_lacks v.kind);
-      quiet = other_ends_not 100 (decimal v.number.0 ++ (words ++ 10 ∷ [])) refl refl;
+      text = (b ∷ bs) ++ words;
+      line = sym (append_assoc (b ∷ bs) words (10 ∷ []));
+      whole = lacks_append (b ∷ bs) words name behind;
+      quiet = other_ends_not b (bs ++ (words ++ 10 ∷ [])) one other;
     }
 
-volumes_quiet : (vs : List Volume) → All IsQuiet (map whole_volume vs)
-volumes_quiet [] = All-nil IsQuiet
-volumes_quiet (v ∷ vs) = All-cons IsQuiet (whole_volume v) (map whole_volume vs) (volume_quiet v) (volumes_quiet vs)
+volume_quiet : (v : Volume) → IsQuietLine (volume_line None v)
+volume_quiet v = quiet_line 100 (decimal v.number.0) (next_words None (kind_parts v.kind)) refl refl (word_lacks (Part.Volume v.number) refl) (words_lack (kind_parts v.kind) (safe_kind v.kind))
 
-lines_joined : (vs : List WholeVolume) → flat_map (volume_line None) vs ≡ concat (map (volume_line None) vs)
-lines_joined [] = refl
-lines_joined (v ∷ vs) = ap (λ (l : List ℕ). volume_line None v ++ l) (lines_joined vs)
+pool_quiet : (q : OnePool) → IsQuietLine (pool_line None q)
+pool_quiet q = quiet_line 104 (115 ∷ 112 ∷ pool_digits q.number.0) (next_words None (pool_parts q)) refl refl (word_lacks (Part.Pool q.number) refl) (words_lack (pool_parts q) (safe_pool q))
 
--- volumes with those below them have a line each
-volumes_are_lines : (p : Plan) (vs : List VolId) → IsOfQuietLines (volumes_text None (whole_of p) vs)
-volumes_are_lines p vs =
-    let told : List WholeVolume = with_below (whole_of p) vs in
-    let quiet : All IsQuiet told = walk_holds IsQuiet (whole_of p) (length (whole_of p).volumes) [] vs (volumes_quiet p.volumes) in
-    record { lines = map (volume_line None) told; quiet = All-map IsQuietLine (volume_line None) told quiet; joined = lines_joined told }
+joined : {X : Type 0} (line : X → List ℕ) (xs : List X) → flat_map line xs ≡ concat (map line xs)
+joined line [] = refl
+joined line (x ∷ xs) = ap (λ (l : List ℕ). line x ++ l) (joined line xs)
+
+-- a line for each
+lines_of : {X : Type 0} (line : X → List ℕ) → ((x : X) → IsQuietLine (line x)) → (xs : List X) → IsOfQuietLines (flat_map line xs)
+lines_of line each xs = record { lines = map line xs; quiet = All-map IsQuietLine line xs (λ k d within. each (get_or xs k d)); joined = joined line xs }
 
 no_lines : IsOfQuietLines []
 no_lines = record { lines = []; quiet = All-nil IsQuietLine; joined = refl }
+
+one_line : (text : List ℕ) → IsQuietLine text → IsOfQuietLines text
+one_line text quiet = record { lines = text ∷ []; quiet = All-cons IsQuietLine text [] quiet (All-nil IsQuietLine); joined = sym (append-nil text) }
 
 more_lines : (a b : List ℕ) → IsOfQuietLines a → IsOfQuietLines b → IsOfQuietLines (a ++ b)
 more_lines a b one other =
@@ -86,14 +56,22 @@ more_lines a b one other =
       joined = ap (λ (l : List ℕ). l ++ b) one.joined ∙ ap (λ (l : List ℕ). concat one.lines ++ l) other.joined ∙ sym (concat-append one.lines other.lines);
     }
 
-named_are_lines : (p : Plan) (name : Named) → IsOfQuietLines (named_text None (whole_of p) name)
-named_are_lines p (NamedVolume v) = volumes_are_lines p (v ∷ [])
-named_are_lines p (NamedPool q) = no_lines
+-- volumes with those below them have a line each
+volumes_are_lines : (p : Plan) (vs : List VolId) → IsOfQuietLines (volumes_text None p vs)
+volumes_are_lines p vs = lines_of (volume_line None) volume_quiet (with_below p vs)
 
-names_are_lines : (p : Plan) (names : List Named) → IsOfQuietLines (names_text None (whole_of p) names)
+found_is_line : (found : Option OnePool) → IsOfQuietLines (found_pool None found)
+found_is_line None = no_lines
+found_is_line (Some q) = one_line (pool_line None q) (pool_quiet q)
+
+named_are_lines : (p : Plan) (name : Named) → IsOfQuietLines (named_text None p name)
+named_are_lines p (NamedVolume v) = volumes_are_lines p (v ∷ [])
+named_are_lines p (NamedPool q) = found_is_line (find (λ (x : OnePool). x.number.0 == q.0) p.pools)
+
+names_are_lines : (p : Plan) (names : List Named) → IsOfQuietLines (names_text None p names)
 names_are_lines p [] = no_lines
-names_are_lines p (name ∷ names) = more_lines (named_text None (whole_of p) name) (names_text None (whole_of p) names) (named_are_lines p name) (names_are_lines p names)
+names_are_lines p (name ∷ names) = more_lines (named_text None p name) (names_text None p names) (named_are_lines p name) (names_are_lines p names)
 
 pub listings_are_lines : (p : Plan) (names : List Named) → IsOfQuietLines (listing_of p names)
-listings_are_lines p [] = more_lines (volumes_text None (whole_of p) (uppermost (whole_of p))) [] (volumes_are_lines p (uppermost (whole_of p))) no_lines
+listings_are_lines p [] = more_lines (volumes_text None p (uppermost p)) (flat_map (pool_line None) p.pools) (volumes_are_lines p (uppermost p)) (lines_of (pool_line None) pool_quiet p.pools)
 listings_are_lines p (name ∷ names) = names_are_lines p (name ∷ names)

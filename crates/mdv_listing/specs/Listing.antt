@@ -1,14 +1,13 @@
 -- The volumes of a plan as the text of an md.tab.
-use Rattle.std.specs.Prelude.{◌≡◌, ◌==◌, ℕ, Option, None, Some, List, [], ◌∷◌, All}
-use Rattle.std.specs.List.{concat, find}
+use Rattle.std.specs.Prelude.{◌≡◌, ℕ, Option, None, Some, List, [], ◌∷◌, All}
+use Rattle.std.specs.List.{concat}
 use Rattle.mdv_base.specs.declared.name.Named.TheVariants as named
-use Rattle.mdv_listing.specs.Below.{IsQuietLine, Named, Plan, Volume, names_text, tab_text, volume_line}
-use Rattle.mdv_listing.specs.Whole.{whole_of, whole_volume}
+use Rattle.mdv_listing.specs.Below.{IsQuietLine, Named, Plan, Volume, names_text, tab_text, volume_line, volume_of}
 
 -- those of these names, and all where no name is given
 abbrev pub listing_of : Plan → List Named → List ℕ
-listing_of p [] = tab_text None (whole_of p)
-listing_of p (name ∷ names) = names_text None (whole_of p) (name ∷ names)
+listing_of p [] = tab_text None p
+listing_of p (name ∷ names) = names_text None p (name ∷ names)
 
 -- a text of lines none of which ends a reply
 pub record IsOfQuietLines (text : List ℕ) : Type 0 where
@@ -18,7 +17,7 @@ pub record IsOfQuietLines (text : List ℕ) : Type 0 where
 
 -- a volume's line, as `metainit` takes it
 abbrev pub line_for : Volume → List ℕ
-line_for v = volume_line None (whole_volume v)
+line_for v = volume_line None v
 
 abbrev pub found_line : Option Volume → List ℕ
 found_line None = []
@@ -26,5 +25,5 @@ found_line (Some v) = line_for v
 
 -- the line of the volume of that name, where it is there
 abbrev pub name_line : Plan → Named → List ℕ
-name_line p (named.Volume v) = found_line (find (λ w. w.number.0 == v.0) p.volumes)
+name_line p (named.Volume v) = found_line (volume_of p v)
 name_line p (named.Pool q) = []

@@ -2,10 +2,9 @@ ghost use Rattle.std.specs.Prelude.{◌≡◌, None, IfOk};
 ghost use Rattle.mdv_listing.specs.Listing.{listing_of};
 ghost use Rattle.mdv_print.specs.Text.{set_of};
 
-use crate::whole::whole_table;
 use mdv_base::{Key, Name, Named};
+use mdv_plan::Table;
 use mdv_print::{print_named, print_tab};
-use mdv_table::Table;
 use std::alloc::{AllocError, Global};
 
 // The print of a local database names no host.
@@ -18,12 +17,11 @@ pub fn listing(alloc: Global, table: &Table, names: &[Named]) -> Result<Vec<u8>,
     ensures { IfOk result (λ text. text.items ≡ listing_of table.now.plan names.now) }
 {
     let key = local();
-    let whole = whole_table(alloc, table)?;
     let mut text = Vec::new(alloc);
     if names.is_empty() {
-        print_tab(&key, &whole, &mut text)?;
+        print_tab(&key, table, &mut text)?;
     } else {
-        print_named(&key, &whole, names, &mut text)?;
+        print_named(&key, table, names, &mut text)?;
     }
     Ok(text)
 }

@@ -6,7 +6,7 @@ use Rattle.mdv_survey.specs.Counts.{AreLinesBy, MadeFew, MadeReads}
 use Rattle.mdv_survey.specs.declared.choosing.Choice.TheVariants as chosen
 use Rattle.mdv_survey.specs.declared.replica.Newest.{Newest}
 use Rattle.mdv_survey.specs.declared.replica.Survey.{Survey}
-use Rattle.mdv_table.specs.declared.table.Table.{Table}
+use Rattle.mdv_plan.specs.declared.table.Table.{Table}
 use Rattle.mdv_look.specs.Below.{DriveNo, Drives, Geometry, Ghosts, Site, Tale, has_drive, last}
 use Rattle.mdv_look.specs.Looking.{AreAllCalm, IsLookedAt, most_reads, reads_by}
 use Rattle.mdv_look.specs.declared.peeking.PeekRefusal.{PeekRefusal}

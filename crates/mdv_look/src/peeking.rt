@@ -10,10 +10,10 @@ ghost use Rattle.mdv_look.specs.Peeking.{AreAllOf, IsPeekBy, IsPeeked, WasChosen
 use crate::looking::{Looked, look};
 use mdv_base::{DriveNo, DriveSet, Identity};
 use mdv_name::Geometry;
+use mdv_plan::Table;
 use mdv_shelf::Shelf;
 use mdv_shown::Site;
 use mdv_survey::{Choice, Survey, choose};
-use mdv_table::Table;
 use std::alloc::{AllocError, Global};
 
 /// Why a boot would take no table of what the drives that answered hold.

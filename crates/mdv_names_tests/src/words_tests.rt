@@ -1,5 +1,6 @@
 use mdv_base::{Block, DriveName, Named, PoolId, SliceName, VolId, ZERO_BLOCK};
-use mdv_tab::{Entry, TabFault, read_tab};
+use mdv_parts::Component;
+use mdv_tab::{Entry, Row, TabFault, read_tab};
 use mdv_words::*;
 use std::alloc::Global;
 
@@ -27,6 +28,11 @@ const TWO: &[SliceName] = &[SLICE, OTHER];
 
 const TWICE: &[SliceName] = &[SLICE, SLICE];
 
+// The slices of a row, and its interlace.
+type Slices = (&'static [SliceName], Option<u64>);
+
+const ONE_ROW: &[Slices] = &[(ONE, None)];
+
 // What a line asks, of c0t1d2s7, of d12, and of its block 5.
 enum Asked {
     Boot,
@@ -34,9 +40,10 @@ enum Asked {
     AddPlaces(&'static [SliceName], bool, u8, u32),
     AddListed(u8, bool),
     DropPlaces(&'static [SliceName], bool),
-    Stripe(u16),
+    Make(u16, &'static [Slices]),
     Read(u64, u64),
     Write(&'static [u8]),
+    Fill(u64, u64, u8),
     Print(&'static [Named]),
 }
 
@@ -103,12 +110,32 @@ const LINES: &[(&[u8], Asked)] = &[
         b"metadb -f -d c0t1d2s7 c0t1d2s7",
         Asked::DropPlaces(TWICE, true),
     ),
-    (b"metainit d0 1 1 c0t1d2s7", Asked::Stripe(0)),
-    (b"metainit -f d8191 1 1 c0t1d2s7", Asked::Stripe(8191)),
+    (b"metainit d0 1 1 c0t1d2s7", Asked::Make(0, ONE_ROW)),
+    (
+        b"metainit -f d8191 1 1 c0t1d2s7",
+        Asked::Make(8191, ONE_ROW),
+    ),
     (
         b"metainit  /dev/md/rdsk/d7 1 1\t/dev/rdsk/c0t1d2s7",
-        Asked::Stripe(7),
+        Asked::Make(7, ONE_ROW),
     ),
+    (
+        b"metainit d7 1 1 c0t1d2s7 -i 16k",
+        Asked::Make(7, &[(ONE, Some(32))]),
+    ),
+    (
+        b"metainit d7 1 2 c0t1d2s7 c0t2d2s0",
+        Asked::Make(7, &[(TWO, None)]),
+    ),
+    (
+        b"metainit -f d1 2 1 c0t1d2s7 2 c0t1d2s7 c0t2d2s0 -i 16b",
+        Asked::Make(1, &[(ONE, None), (TWO, Some(16))]),
+    ),
+    (
+        b"metainit d1 3 2 c0t1d2s7 c0t1d2s7 -i 1m 1 c0t1d2s7 2 c0t1d2s7 c0t2d2s0",
+        Asked::Make(1, &[(TWICE, Some(2048)), (ONE, None), (TWO, None)]),
+    ),
+    (b"metainit d7 1 0", Asked::Make(7, &[(&[], None)])),
     (b"read d12 0 1", Asked::Read(0, 1)),
     (b"read \td12  0 1025 ", Asked::Read(0, 1025)),
     (
@@ -119,6 +146,11 @@ const LINES: &[(&[u8], Asked)] = &[
     (
         b"write d12  5 aBCdeF9080\t",
         Asked::Write(&[0xab, 0xcd, 0xef, 0x90, 0x80]),
+    ),
+    (b"fill d12 0 8 ab", Asked::Fill(0, 8, 0xab)),
+    (
+        b" fill d12\t18446744073709551615  18446744073709551615 0F",
+        Asked::Fill(u64::MAX, u64::MAX, 15),
     ),
     (b"metastat -p", Asked::Print(&[])),
     (
@@ -171,10 +203,15 @@ const BAD: &[&[u8]] = &[
     b"metainit -s blue d7 1 1 c0t1d2s7",
     b"metainit blue/d7 1 1 c0t1d2s7",
     b"metainit d7 1 1 d8",
-    b"metainit d7 1 1 c0t1d2s7 -i 16k",
+    b"metainit d7 1 2 c0t1d2s7 d8",
+    b"metainit d7 2 1 c0t1d2s7 2 c0t2d2s0 d8 -i 16b",
+    b"metainit blue/d7 1 2 c0t1d2s7 c0t2d2s0 -i 16b",
+    b"metainit d7 1 2 c0t1d2s7 c0t2d2s0 -i 16b -h hsp001",
     b"metainit d7 1 1 c0t1d2s7 -h hsp001",
-    b"metainit d7 1 2 c0t1d2s7 c0t2d2s7",
-    b"metainit d7 2 1 c0t1d2s7 1 c0t2d2s7",
+    b"metainit d7 0",
+    b"metainit d7 1 1 c0t1d2s7 c0t2d2s0",
+    b"metainit d7 2 1 c0t1d2s7",
+    b"metainit d7 1 2 c0t1d2s7 c0t2d2s0 -i",
     b"metainit d7 -m d8",
     b"metainit d7 -r c0t1d2s7 c0t2d2s7 c0t3d2s7",
     b"metainit d7 -p c0t1d2s7 1g",
@@ -202,7 +239,11 @@ const BAD: &[&[u8]] = &[
     b"metastat -p c0t1d2s7",
     b"metaset",
     b"metaset -s blue -t",
-    b"fill d12 0 1 00",
+    b"fill blue/d12 0 1 00",
+    b"fill d12 0 0 00",
+    b"fill d12 0 1",
+    b"fill d12 0 1 0",
+    b"fill d12 0 1 100",
     b"idle 1",
     b"read blue/d12 0 1",
     b"read d12 0 0",
@@ -226,6 +267,52 @@ fn block_of(bytes: &[u8]) -> Block {
     block
 }
 
+fn is_row(row: &Row, wanted: &Slices) -> bool {
+    let components = row.components.as_slice();
+    row.interlace == wanted.1
+        && components.len() == wanted.0.len()
+        && components.iter().zip(wanted.0).all(|(component, slice)| *component
+            == Component::Slice(*slice))
+}
+
+fn are_rows(rows: &[Row], wanted: &[Slices]) -> bool {
+    rows.len() == wanted.len()
+        && rows
+            .iter()
+            .zip(wanted)
+            .all(|(row, slices)| is_row(row, slices))
+}
+
+fn is_made(entry: &Entry, number: u16, wanted: &[Slices]) -> bool {
+    match entry {
+        Entry::Stripe { name, rows, spares } => {
+            name.set.is_none()
+                && name.volume.0 == number
+                && spares.is_none()
+                && are_rows(rows.as_slice(), wanted)
+        }
+        _ => false,
+    }
+}
+
+fn is_written(written: Written, asked: &Asked) -> bool {
+    match (written, asked) {
+        (Written::One(block), Asked::Write(bytes)) => block == block_of(bytes),
+        (Written::Filled { count, byte }, Asked::Fill(_, blocks, value)) => {
+            count == *blocks && byte == *value
+        }
+        _ => false,
+    }
+}
+
+// Where `write` and `fill` write.
+fn address(asked: &Asked) -> u64 {
+    match asked {
+        Asked::Fill(at, _, _) => *at,
+        _ => 5,
+    }
+}
+
 fn is_command(command: &Command, asked: &Asked) -> bool {
     match (command, asked) {
         (
@@ -245,14 +332,17 @@ fn is_command(command: &Command, asked: &Asked) -> bool {
         (Command::DropPlaces { slices, force }, Asked::DropPlaces(named, forced)) => {
             slices.as_slice() == *named && force == forced
         }
-        (Command::MakeStripe { volume, slice }, Asked::Stripe(number)) => {
-            volume.0 == *number && *slice == SLICE
-        }
+        (
+            Command::Alter {
+                alteration: Alteration::Make(entry),
+            },
+            Asked::Make(number, rows),
+        ) => is_made(entry, *number, rows),
         (Command::Read { volume, at, count }, Asked::Read(from, blocks)) => {
             volume.0 == 12 && at == from && count == blocks
         }
-        (Command::Write { volume, at, block }, Asked::Write(bytes)) => {
-            volume.0 == 12 && *at == 5 && *block == block_of(bytes)
+        (Command::Write { volume, at, what }, _) => {
+            volume.0 == 12 && *at == address(asked) && is_written(*what, asked)
         }
         (Command::Print { names }, Asked::Print(wanted)) => names.as_slice() == *wanted,
         _ => false,

@@ -36,7 +36,7 @@ use Rattle.mdv_store.specs.Records.{Spells}
 use Rattle.mdv_store.specs.Seats.{replica_area, spot_of}
 use Rattle.mdv_store.specs.declared.seats.Need.TheVariants.{Half}
 use Rattle.mdv_store_law.specs.Log.{Version}
-use Rattle.mdv_table.specs.Plan.{first_of}
+use Rattle.mdv_config.specs.Lists.{first_of}
 use Rattle.mdv_votes.proofs.Meeting.{same_is}
 use Rattle.mdv_votes.specs.Spots.{is_in, is_named, same_spot}
 use Rattle.mdv_places.specs.Asked.{places_asked}

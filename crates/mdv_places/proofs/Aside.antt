@@ -14,7 +14,7 @@ use Rattle.mdv_shown.proofs.Elsewhere.{in_range, range_has}
 use Rattle.mdv_store.proofs.Passes.{mapped}
 use Rattle.mdv_store.proofs.Sitting.{seat_of}
 use Rattle.mdv_store.specs.Opened.{AreSeatsOf}
-use Rattle.mdv_table.specs.Table.{IsListsOf}
+use Rattle.mdv_config.specs.Table.{IsListsOf}
 use Rattle.mdv_places.specs.Asked.{Asks, dropped, list_after}
 use Rattle.mdv_places.specs.Below.{Geometry, IsOpenedAt, One, Opened, Place, PlaceAt, Replica, Seat, SliceAt, Tale, Two, at_of, places_of, range, replicas_of}
 use Rattle.mdv_places.specs.Moments.{IsFront, master_area}

@@ -4,7 +4,7 @@ use Rattle.std.specs.Prelude.{max}
 use Rattle.std.proofs.lemmas.Bool.{false≢true}
 use Rattle.mdv_acts.specs.Wipes.{place_in}
 use Rattle.mdv_name.specs.Sound.{IsSound}
-use Rattle.mdv_record.specs.Parsing.{read_of}
+use Rattle.mdv_encoding.specs.Parsing.{read_of}
 use Rattle.mdv_replica.specs.Images.{MayWipe, Overwrites, SameOutside, Wipes}
 use Rattle.mdv_replica.specs.Replica.{blank_master}
 use Rattle.mdv_replica.proofs.Heads.{no_blank_master}

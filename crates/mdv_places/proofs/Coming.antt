@@ -3,8 +3,8 @@ use Rattle.std.proofs.Common.{◌≡◌, ◌⊎◌, inl, inr, Bool, true, false,
 use Rattle.std.specs.Prelude.{not}
 use Rattle.std.specs.List.{list_any}
 use Rattle.mdv_acts.proofs.Members.{contains_behind, contains_first, first_or_behind}
-use Rattle.mdv_table.proofs.Beside.{among-true}
-use Rattle.mdv_table.proofs.Deciding.{not_so}
+use Rattle.mdv_config.proofs.Beside.{among-true}
+use Rattle.mdv_config.proofs.Deciding.{not_so}
 use Rattle.mdv_places.specs.Below.{Place, beside, same_place}
 
 -- where all pass the test, and where none does

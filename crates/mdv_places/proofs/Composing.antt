@@ -21,7 +21,7 @@ use Rattle.mdv_store.proofs.Sitting.{left_seats, replica_of, seat_of, some_activ
 use Rattle.mdv_store.proofs.Telling.{newest_tellable}
 use Rattle.mdv_store_law.proofs.Parts.{part_of_part}
 use Rattle.mdv_store_law.specs.Part.{IsPart}
-use Rattle.mdv_table.proofs.Settled.{settled_of}
+use Rattle.mdv_config.proofs.Settled.{settled_of}
 use Rattle.mdv_places.specs.Asked.{Asks, list_after, lists_after, seats_added}
 use Rattle.mdv_places.specs.Below.{AreLeft, Change, Core, Event, Geometry, IsReadyWith, Log, Mark, One, Opened, Place, Seat, Table, TakesSlot, Tale, asks_of, beside, last_of, next_mark, settled, site_of, spots_of}
 use Rattle.mdv_places.specs.Changing.{MayMove, both_of}

@@ -7,7 +7,7 @@ use Rattle.mdv_look.proofs.Quiet.{quiet_same}
 use Rattle.mdv_look.specs.Quiet.{IsQuiet}
 use Rattle.mdv_quorum.specs.Standing.{BootsAt}
 use Rattle.mdv_quorum.specs.declared.event.Event.TheVariants.{Wiped}
-use Rattle.mdv_record.specs.Parsing.{read_of}
+use Rattle.mdv_encoding.specs.Parsing.{read_of}
 use Rattle.mdv_replica.proofs.Leaving.{leaves_settled, leaves_settling}
 use Rattle.mdv_replica.specs.Images.{MayWipe, Wipes}
 use Rattle.mdv_replica.specs.Replica.{Wiping, blank_master}

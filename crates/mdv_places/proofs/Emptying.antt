@@ -9,7 +9,7 @@ use Rattle.mdv_look.specs.Quiet.{IsQuiet}
 use Rattle.mdv_look.proofs.Quiet.{quiet_more, quiet_same, quiet_wider}
 use Rattle.mdv_name.specs.Sound.{IsSound}
 use Rattle.mdv_quorum.specs.declared.event.Event.TheVariants.{Wiped}
-use Rattle.mdv_record.specs.Parsing.{read_of}
+use Rattle.mdv_encoding.specs.Parsing.{read_of}
 use Rattle.mdv_replica.specs.Form.{other_slot}
 use Rattle.mdv_replica.specs.Forms.{block_of}
 use Rattle.mdv_replica.specs.Images.{MayWipe, SameOutside, Wipes}
@@ -37,7 +37,7 @@ use Rattle.mdv_standing.proofs.Taking.{last_version, some_table}
 use Rattle.mdv_standing.proofs.Tracing.{trace_by, trace_here, trace_more}
 use Rattle.mdv_standing.proofs.Unlisting.{unlisted_wiping}
 use Rattle.mdv_standing.proofs.Within.{line_still, wipe_within}
-use Rattle.mdv_table.specs.Plan.{first_of, last_of, places_of}
+use Rattle.mdv_config.specs.Lists.{first_of, last_of, places_of}
 use Rattle.mdv_store.specs.Below.{Database, Event, Everywhere, Geometry, Identity, Image, IsOwn, Key, Log, Mark, Replica, RestStands, Site, SliceLine, Slot, Spot, Table, Tale, Traces, Version, at_of, lists_of_spots, is_named, same_spot, site_of}
 use Rattle.mdv_store.specs.Blank.{IsBlank, StayBlank}
 use Rattle.mdv_store.specs.Records.{Spells}

@@ -18,8 +18,8 @@ use Rattle.mdv_shelf.specs.Area.{AreApart}
 use Rattle.mdv_shown.proofs.Elsewhere.{in_range}
 use Rattle.mdv_shown.specs.Site.{line_area}
 use Rattle.mdv_shown.specs.Sites.{is_line_of, is_reached_at, is_slice_of, takes_replicas}
-use Rattle.mdv_table.proofs.Beside.{among-true}
-use Rattle.mdv_table.specs.Table.{IsListsOf, IsPlaceOf}
+use Rattle.mdv_config.proofs.Beside.{among-true}
+use Rattle.mdv_config.specs.Table.{IsListsOf, IsPlaceOf}
 use Rattle.mdv_places.specs.Asked.{Adds, Asks, Drops, KeepsFirst, dropped, is_on, list_after, places_asked}
 use Rattle.mdv_places.specs.Below.{Geometry, Key, Place, PlaceAt, SliceAt, SliceLine, Tale, Two, site_of}
 use Rattle.mdv_places.specs.Moments.{IsFront}

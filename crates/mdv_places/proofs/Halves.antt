@@ -12,9 +12,9 @@ use Rattle.mdv_store.proofs.Shares.{list_none, list_suffices, seat_at}
 use Rattle.mdv_store.specs.Listing.{is_listed_in, seats_in}
 use Rattle.mdv_store.specs.Shares.{has_active, is_active, is_active_at, is_seat_at, short_of}
 use Rattle.mdv_store.specs.declared.seats.Need.TheVariants.{Half}
-use Rattle.mdv_table.proofs.Beside.{among-true}
-use Rattle.mdv_table.proofs.Pairs.{AllPairs-first, AllPairs-rest}
-use Rattle.mdv_table.proofs.Testing.{same_place-true}
+use Rattle.mdv_config.proofs.Beside.{among-true}
+use Rattle.mdv_config.proofs.Pairs.{AllPairs-first, AllPairs-rest}
+use Rattle.mdv_config.proofs.Testing.{same_place-true}
 use Rattle.mdv_places.specs.Below.{One, Place, Replica, Seat, active_of, replicas_of, same_place}
 use Rattle.mdv_places.specs.Changing.{AreOnce}
 use Rattle.mdv_places.proofs.Coming.{keeps}

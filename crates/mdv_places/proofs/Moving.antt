@@ -3,8 +3,8 @@ use Rattle.std.proofs.Common.{◌≡◌, ◌⊎◌, inl, inr, ◌≤◌, ℕ, Bo
 use Rattle.std.proofs.lemmas.List.{length-append, length-map, map-append}
 use Rattle.std.proofs.lemmas.List.Elements.{All-contains, Contains-append_cases}
 use Rattle.mdv_acts.proofs.Members.{contains_first, first_or_behind}
-use Rattle.mdv_record.proofs.Rooms.{last_room}
-use Rattle.mdv_record.specs.Room.{least_slot_bytes}
+use Rattle.mdv_encoding.proofs.Rooms.{last_room}
+use Rattle.mdv_encoding.specs.Room.{least_slot_bytes}
 use Rattle.mdv_shelf.specs.Shelves.{DriveFailures}
 use Rattle.mdv_store.proofs.Finishing.{settled_less}
 use Rattle.mdv_store.proofs.Sitting.{left_places}
@@ -12,9 +12,9 @@ use Rattle.mdv_store.specs.Listing.{IsLast, IsSecond, MayList, WasListed, seats_
 use Rattle.mdv_store.specs.Opened.{AreSeatsOf}
 use Rattle.mdv_store.specs.Writing.{text_size}
 use Rattle.mdv_survey.specs.Newest.{HasNoneAbove}
-use Rattle.mdv_table.proofs.Beside.{among-true}
-use Rattle.mdv_table.proofs.Deciding.{not_so}
-use Rattle.mdv_table.proofs.Pairs.{AllPairs-first}
+use Rattle.mdv_config.proofs.Beside.{among-true}
+use Rattle.mdv_config.proofs.Deciding.{not_so}
+use Rattle.mdv_config.proofs.Pairs.{AllPairs-first}
 use Rattle.mdv_places.specs.Asked.{Adds, AreAskedOn, Asks, Drops, KeepsFirst, list_after, list_less, lists_after, places_added, seats_added}
 use Rattle.mdv_places.specs.Below.{AreLaid, Geometry, Ghosts, Lists, One, Opened, Place, Replica, Seat, TakesSlot, at_of, beside, last_of, next_mark, places_of, replicas_of, settled, with_lists}
 use Rattle.mdv_places.specs.Changing.{AreFree, MayMove, both_of}

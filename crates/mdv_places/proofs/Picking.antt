@@ -22,7 +22,7 @@ use Rattle.mdv_store.proofs.Shares.{some_enough}
 use Rattle.mdv_store.proofs.Sitting.{replica_of, seat_of, some_active}
 use Rattle.mdv_store_law.proofs.Parts.{part_itself, part_mapped, part_more}
 use Rattle.mdv_store_law.specs.Part.{IsPart}
-use Rattle.mdv_table.proofs.Beside.{among-true}
+use Rattle.mdv_config.proofs.Beside.{among-true}
 use Rattle.mdv_votes.proofs.Meeting.{same_self}
 use Rattle.mdv_places.specs.Below.{Place, same_place}
 use Rattle.mdv_places.specs.Moments.{replicas_in}

@@ -1,7 +1,7 @@
 -- What was taken of memory before anything is written.
 use Rattle.std.proofs.Common.{◌≡◌, ◌≤◌, ℕ, List, [], ◌∷◌, ◌++◌, length, take, vec_len, MatchOption, Option, None, Some, sym, ◌∙◌, ap, subst, append-nil, arith}
 use Rattle.std.proofs.lemmas.List.{length-map}
-use Rattle.mdv_record.proofs.Rooms.{room_most}
+use Rattle.mdv_encoding.proofs.Rooms.{room_most}
 use Rattle.mdv_store.proofs.Rooms.{first_most}
 use Rattle.mdv_store.specs.Listing.{IsRoomFor, IsRoomy, MayList, list_room, seats_then}
 use Rattle.mdv_store.specs.Settled.{first_room}

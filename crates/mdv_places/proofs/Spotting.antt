@@ -21,7 +21,7 @@ use Rattle.mdv_standing.specs.Listed.{HasPlace}
 use Rattle.mdv_standing.proofs.Named.{of_filter}
 use Rattle.mdv_store.specs.Below.{Everywhere, Geometry, Identity, Image, Key, Site, Tale, site_of}
 use Rattle.mdv_store.specs.Records.{Spells}
-use Rattle.mdv_table.proofs.Beside.{among-true}
+use Rattle.mdv_config.proofs.Beside.{among-true}
 use Rattle.mdv_places.specs.Asked.{Adds, Asks, Drops, KeepsFirst, dropped, is_on, list_after, places_asked}
 use Rattle.mdv_places.specs.Below.{Opened, Place, PlaceAt, SliceAt, SliceLine, SliceName, last_of, same_slice, slice_at}
 use Rattle.mdv_places.specs.Moments.{IsFront, found_at, places_dropped}

@@ -4,7 +4,7 @@ use Rattle.std.proofs.lemmas.List.Elements.{Contains-append_cases}
 use Rattle.mdv_acts.proofs.Members.{first_or_behind}
 use Rattle.mdv_acts.specs.Acts.{IsDoing, form_on}
 use Rattle.mdv_quorum.specs.declared.event.Event.TheVariants.{Formatted, Lists as NextLists, Wiped}
-use Rattle.mdv_record.specs.Parsing.{read_of}
+use Rattle.mdv_encoding.specs.Parsing.{read_of}
 use Rattle.mdv_replica.proofs.Leaving.{leaves_formatting}
 use Rattle.mdv_replica.specs.Images.{MayFormat, MayWipe}
 use Rattle.mdv_replica.specs.declared.forms.Master.{Master}

@@ -8,8 +8,9 @@ pub use Rattle.mdv_base.specs.declared.place.Place.{Place}
 pub use Rattle.mdv_base.specs.declared.drive.SliceName.{SliceName}
 pub use Rattle.mdv_name.specs.declared.geometry.Geometry.{Geometry}
 pub use Rattle.mdv_name.specs.declared.slice_lines.SliceLine.{SliceLine}
-pub use Rattle.mdv_record.specs.Text.{record_text, with_lists}
-pub use Rattle.mdv_record.specs.declared.record.TooLong.{TooLong}
+pub use Rattle.mdv_encoding.specs.Text.{record_bytes, record_text}
+pub use Rattle.mdv_config.specs.Lists.{with_lists}
+pub use Rattle.mdv_whole.specs.declared.encoding.TooLong.{TooLong}
 pub use Rattle.mdv_replica.specs.Replica.{IsPlaced}
 pub use Rattle.mdv_shelf.specs.Area.{Area, range}
 pub use Rattle.mdv_shelf.specs.Tale.{Tale}
@@ -23,6 +24,6 @@ pub use Rattle.mdv_survey.specs.Replica.{at_of}
 pub use Rattle.mdv_store.specs.declared.seats.Seat.{Seat}
 pub use Rattle.mdv_store.specs.declared.seats.Share.{Share}
 pub use Rattle.mdv_name.specs.SliceIndex.{same_slice, slice_at}
-pub use Rattle.mdv_table.specs.Plan.{beside, same_place}
-pub use Rattle.mdv_table.specs.declared.plan.Lists.{Lists}
-pub use Rattle.mdv_table.specs.declared.plan.Lists.TheVariants.{One, Two}
+pub use Rattle.mdv_config.specs.Lists.{beside, same_place}
+pub use Rattle.mdv_plan.specs.declared.lists.Lists.{Lists}
+pub use Rattle.mdv_plan.specs.declared.lists.Lists.TheVariants.{One, Two}

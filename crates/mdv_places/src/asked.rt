@@ -1,7 +1,7 @@
 // What is asked of the places of an open database, and the list that comes then.
 ghost use Rattle.std.specs.Prelude.{◌≡◌, ◌<◌, ◌≤◌, ◌+◌, ◌*◌, ◌^◌, ◌++◌, flat_map, length, take};
 ghost use Rattle.std.specs.List.{list_any};
-ghost use Rattle.mdv_table.specs.Plan.{beside, same_place};
+ghost use Rattle.mdv_config.specs.Lists.{beside, same_place};
 ghost use Rattle.mdv_places.specs.Asked.{IsShort, asked_of, is_on as spec_is_on, list_after as spec_list_after, list_less as spec_list_less, places_on};
 
 use mdv_base::{Place, Places, SliceName};

@@ -14,11 +14,12 @@ use crate::forming::{form, prepare};
 use crate::listing::{list_both, list_last};
 use mdv_acts::{wipe_each, wipe_order};
 use mdv_base::{DriveSet, Failed};
+use mdv_config::last_of;
 use mdv_name::Geometry;
-use mdv_record::TooLong;
+use mdv_plan::Lists;
 use mdv_shelf::Shelf;
 use mdv_store::{CommitFault, Share, Store};
-use mdv_table::Lists;
+use mdv_whole::TooLong;
 use std::alloc::{AllocError, Global};
 
 /// Why the places don't change.
@@ -104,7 +105,7 @@ pub fn change_places<S: Shelf>(
     ensures counted { IsMoveCounted S.Shelf shelf.old shelf.new geometry.now store.old (asked_of asked.now) store.new result }
     ensures kept { KeptAmong S.Shelf shelf.old shelf.new (drives_moved geometry.now store.old (asked_of asked.now)) }
 {
-    let was = copy_of(store.table().plan.lists.last());
+    let was = copy_of(last_of(&store.table().plan.lists));
     let next = list_after(was.as_slice(), asked);
     let dropped = list_beside(next.as_slice(), was.as_slice());
     let lists = Lists::Two(was, next);

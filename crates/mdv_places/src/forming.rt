@@ -10,11 +10,11 @@ use crate::asked::Move;
 use mdv_acts::{Owner, clear_all, format_all};
 use mdv_base::{Block, Failed};
 use mdv_name::SliceLine;
+use mdv_plan::Lists;
 use mdv_replica::Head;
 use mdv_shelf::Shelf;
 use mdv_store::{Seat, Store, room_of, seats_asked};
 use mdv_survey::Replica;
-use mdv_table::Lists;
 use mdv_votes::Row;
 use std::alloc::{AllocError, Global};
 

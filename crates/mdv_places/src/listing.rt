@@ -10,9 +10,10 @@ ghost use Rattle.mdv_places.specs.Losing.{AreApart, AreDrivesOf, AreLost, AreMis
 use crate::asked::has_place;
 use crate::forming::Hand;
 use mdv_base::{DriveNo, DriveSet, Place};
+use mdv_config::last_of;
+use mdv_plan::Lists;
 use mdv_shelf::Shelf;
 use mdv_store::{Seat, Share, Store};
-use mdv_table::Lists;
 
 // Writes the table with both lists. On `Ok` the drives on which a call failed are lost too.
 pub(crate) fn list_both<S: Shelf>(
@@ -53,7 +54,7 @@ pub(crate) fn list_last<S: Shelf>(
     ensures listed { WasListed S.Shelf shelf.old shelf.new (last_by store.old) store.new result }
     ensures lost { OnOk result (AreLost (DriveFailures S.Shelf shelf.old shelf.new) lost.old lost.new store.new.seats) }
 {
-    let tried = listed_drives(store.seats(), store.table().plan.lists.last());
+    let tried = listed_drives(store.seats(), last_of(&store.table().plan.lists));
     store.list_last(shelf)?;
     leave(lost, &tried, &active_drives(store.seats()));
     Ok(())

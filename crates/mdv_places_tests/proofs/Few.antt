@@ -19,8 +19,8 @@ use Rattle.mdv_places.proofs.Lists.{places_count}
 use Rattle.mdv_places.specs.Asked.{AreAskedOn, Asks, is_on, list_after, list_less, places_asked, places_on}
 use Rattle.mdv_places.specs.Changing.{AreFree, IsEnough, MayMove}
 use Rattle.mdv_store.specs.Opened.{Opened}
-use Rattle.mdv_table.specs.Plan.{last_of}
-use Rattle.mdv_table.specs.declared.plan.Lists.TheVariants.{One}
+use Rattle.mdv_config.specs.Lists.{last_of}
+use Rattle.mdv_plan.specs.declared.lists.Lists.TheVariants.{One}
 use Rattle.mdv_replica.specs.Replica.{IsPlaced}
 use Rattle.mdv_places_tests.specs.Few.{AreFew, IsBare}
 

@@ -12,13 +12,13 @@ ghost use Rattle.mdv_store.specs.declared.seats.Need.TheVariants.{Half};
 ghost use Rattle.mdv_places_tests.specs.Few.{AreFew, IsBare, IsOnly};
 
 use mdv_base::{Place, Places, SliceName};
+use mdv_config::last_of;
 use mdv_name::{Geometry, SliceLine};
 use mdv_places::{Move, list_first, list_less};
-use mdv_plan::same_slice;
+use mdv_plan::{Lists, same_slice};
 use mdv_shelf::{MemShelf, Shelf};
 use mdv_store::{Need, Seat, Store, short};
 use mdv_store_tests::may_ask;
-use mdv_table::Lists;
 
 // Whether the change may be asked of the open database on these drives.
 pub(crate) fn may_move(shelf: &MemShelf, geometry: &Geometry, store: &Store, asked: &Move) -> bool
@@ -109,7 +109,7 @@ fn is_bare(line: &SliceLine, places: &[Place]) -> bool
 fn is_enough(store: &Store, asked: &Move) -> bool
     ensures { IsTrue result → IsEnough store.now (asked_of asked.now) }
 {
-    let places = store.table().plan.lists.last();
+    let places = last_of(&store.table().plan.lists);
     match asked {
         Move::Add { .. } => true,
         Move::Drop { slices } => is_half_active(store, list_less(places, slices)),

@@ -151,24 +151,40 @@ fn next_boots(alloc: Global, host: &mut Host, world: &mut World) -> Result<bool,
     Ok(true)
 }
 
+// The call of the story, with the calls that fail in it.
+fn is_stopped(
+    alloc: Global,
+    host: &mut Host,
+    world: &mut World,
+    story: &Story,
+    stop: &Stop,
+) -> Result<bool, Fail> {
+    arm(host, story.base, stop.fails)?;
+    world.fail(stop.fails);
+    is_answered(alloc, host, world, &story.call)
+}
+
+// The crash, and the boots behind it.
+fn comes_back(
+    alloc: Global,
+    host: &mut Host,
+    world: &mut World,
+    stop: &Stop,
+) -> Result<bool, Fail> {
+    host.crash(alloc, Image::LastOn(stop.kept))?;
+    world.crash(stop.kept);
+    Ok(boots_with(alloc, host, world, stop.first, 2)? && next_boots(alloc, host, world)?)
+}
+
 // Whether all goes as in the world.
 fn is_kept(alloc: Global, story: &Story, stop: &Stop) -> Result<bool, Fail> {
     let ground = local_on(Layout::Five)?;
     let mut host = Host::new(alloc, TEXT, ground.own)?;
     let mut world = World::new(story.on, story.places);
-    if !is_ready(alloc, &mut host, &mut world, story)? {
-        return Ok(false);
-    }
-    arm(&mut host, story.base, stop.fails)?;
-    world.fail(stop.fails);
-    if !is_answered(alloc, &mut host, &mut world, &story.call)? {
-        return Ok(false);
-    }
-    host.crash(alloc, Image::LastOn(stop.kept))?;
-    world.crash(stop.kept);
     Ok(
-        boots_with(alloc, &mut host, &mut world, stop.first, 2)?
-            && next_boots(alloc, &mut host, &mut world)?,
+        is_ready(alloc, &mut host, &mut world, story)?
+            && is_stopped(alloc, &mut host, &mut world, story, stop)?
+            && comes_back(alloc, &mut host, &mut world, stop)?,
     )
 }
 

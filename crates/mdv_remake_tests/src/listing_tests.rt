@@ -1,55 +1,32 @@
-//! Tables of an engine, printed.
+//! Tables of local databases, printed.
 
-use mdv_base::{DriveName, Named, Places, PoolId, SliceName, VolId};
+use crate::tables::made;
+use mdv_base::{Named, PoolId, VolId};
 use mdv_listing::listing;
-use mdv_table::{Table, Volume};
+use mdv_plan::Table;
 use std::alloc::Global;
 use std::test::Fail;
 
-// The number of each volume, and of its slice on one drive.
-const VOLUMES: &[(u16, u8)] = &[(0, 0), (7, 3), (8191, 7)];
+// Two volumes of one slice, and one of a row of one slice and a row of two.
+const VOLUMES: &[u8] =
+    b"d8191 1 1 c0t0d0s6\nd7 2 1 c0t0d0s1 2 c0t0d0s3 c0t0d0s4 -i 16b\nd0 1 1 c0t0d0s0\n";
 
 // Names, and what is printed of them.
 const LISTED: &[(&[Named], &[u8])] = &[
     (
         &[],
-        b"d0 1 1 c0t0d0s0\nd7 1 1 c0t0d0s3\nd8191 1 1 c0t0d0s7\n",
+        b"d0 1 1 c0t0d0s0\nd7 2 1 c0t0d0s1 2 c0t0d0s3 c0t0d0s4 -i 16b\nd8191 1 1 c0t0d0s6\n",
     ),
     (
         &[Named::Volume(VolId(8191)), Named::Volume(VolId(0))],
-        b"d8191 1 1 c0t0d0s7\nd0 1 1 c0t0d0s0\n",
+        b"d8191 1 1 c0t0d0s6\nd0 1 1 c0t0d0s0\n",
     ),
     (
-        &[Named::Volume(VolId(7)), Named::Volume(VolId(7))],
-        b"d7 1 1 c0t0d0s3\nd7 1 1 c0t0d0s3\n",
+        &[Named::Volume(VolId(0)), Named::Volume(VolId(0))],
+        b"d0 1 1 c0t0d0s0\nd0 1 1 c0t0d0s0\n",
     ),
     (&[Named::Volume(VolId(1)), Named::Pool(PoolId(0))], b""),
 ];
-
-fn slice(number: u8) -> SliceName {
-    let drive = DriveName {
-        controller: 0,
-        target: 0,
-        disk: 0,
-    };
-    SliceName {
-        drive,
-        slice: number,
-    }
-}
-
-fn table(alloc: Global, volumes: &[(u16, u8)]) -> Result<Table, Fail> {
-    let mut table = Table::empty(alloc, Places::new());
-    for place in 0..volumes.len() {
-        let number = VolId(volumes[place].0);
-        if number.0 >= 8192 || !table.plan.volumes.is_behind(number) {
-            Err::<(), _>("not in order")?;
-        }
-        let volume = Volume::stripe_on(number, slice(volumes[place].1), 1000);
-        table.plan.volumes.push(volume)?;
-    }
-    Ok(table)
-}
 
 // The place of the first names of which another text is printed.
 fn first_other(alloc: Global, table: &Table) -> Result<Option<usize>, Fail> {
@@ -64,14 +41,14 @@ fn first_other(alloc: Global, table: &Table) -> Result<Option<usize>, Fail> {
 
 #[test]
 fn volumes_are_listed(rt: HostRuntime) -> Result<(), Fail> {
-    let table = table(rt.alloc(), VOLUMES)?;
+    let table = made(rt.alloc(), VOLUMES)?;
     assert_eq!(rt; first_other(rt.alloc(), &table)?, None);
     Ok(())
 }
 
 #[test]
 fn no_volume_has_no_line(rt: HostRuntime) -> Result<(), Fail> {
-    let table = table(rt.alloc(), &[])?;
+    let table = made(rt.alloc(), b"")?;
     let text = listing(rt.alloc(), &table, &[])?;
     assert!(rt; text.as_slice().is_empty());
     Ok(())

@@ -25,22 +25,22 @@ use Rattle.mdv_acts.specs.Asked.{blanked_asked}
 use Rattle.mdv_acts.proofs.Acting.{calls_more}
 use Rattle.mdv_acts.proofs.Counting.{blanks_calls, forms_calls}
 use Rattle.mdv_acts.proofs.Ordering.{order_length}
-use Rattle.mdv_dev.specs.Pieces.{count_to, is_new, is_start}
-use Rattle.mdv_engine_law.specs.Efforts.{deletion_calls, drives_in, map_open, pieces_in, places_on}
+use Rattle.mdv_dev.specs.Pieces.{count_to, drives, is_new, is_start, pieces}
+use Rattle.mdv_engine_law.specs.Efforts.{deletion_calls, map_open, pieces_in, places_on, write_calls_in}
 use Rattle.mdv_engine_law.specs.Places.{are_all}
 use Rattle.mdv_places.specs.Asked.{Adds, Asks, Drops, KeepsFirst, acts_moved, claims, list_after, seats_added}
 use Rattle.mdv_places.specs.Counts.{dropped_count, first_count, last_count, move_calls}
 use Rattle.mdv_store.proofs.Spotting.{asked_length}
 use Rattle.mdv_store.specs.Create.{seats_asked}
 use Rattle.mdv_store.specs.Listing.{is_listed_in, seats_in}
-use Rattle.mdv_table.specs.Plan.{beside, last_of, same_place}
-use Rattle.mdv_table.specs.Table.{IsListsOf}
-use Rattle.mdv_table.specs.declared.plan.Lists.{Lists}
-use Rattle.mdv_table.specs.declared.plan.Lists.TheVariants.{One, Two}
+use Rattle.mdv_config.specs.Lists.{beside, last_of, same_place}
+use Rattle.mdv_config.specs.Table.{IsListsOf}
+use Rattle.mdv_plan.specs.declared.lists.Lists.{Lists}
+use Rattle.mdv_plan.specs.declared.lists.Lists.TheVariants.{One, Two}
 use Rattle.mdv_base.specs.declared.drive.SliceName.{SliceName}
 use Rattle.mdv_base.specs.declared.mark.Identity.{Identity}
 use Rattle.mdv_base.specs.declared.name.Key.{Key}
-use Rattle.mdv_base.specs.declared.name.VolId.{VolId}
+use Rattle.mdv_engine_law.specs.Below.{Map}
 use Rattle.mdv_engine_law.specs.Hosts.{line_at, lines_asked}
 use Rattle.mdv_name.specs.SliceIndex.{slice_at}
 use Rattle.mdv_name.specs.declared.geometry.Geometry.{Geometry}
@@ -54,6 +54,7 @@ use Rattle.mdv_run_law.specs.Run.{IsNoCommand}
 use Rattle.mdv_store.proofs.Sitting.{active_most}
 use Rattle.mdv_store.specs.Opened.{Opened}
 use Rattle.mdv_words.specs.Line as words
+use Rattle.mdv_words.specs.declared.command.Alteration.{Alteration}
 use Rattle.mdv_words.specs.declared.command.Command.TheVariants as asked
 use Rattle.mdv_words.proofs.Lines.{one_line}
 
@@ -214,6 +215,10 @@ count_most test (suc n) = by (test n) (count_most test n) where
   by true rest = omega (arith, rest)
   by false rest = omega (arith, rest)
 
+-- a write makes two calls for each block at most
+write_most : (v : Map) (at count : ℕ) → pieces v at count + drives v at count ≤ 2 * count
+write_most v at count = omega (arith, count_most (is_start v at) count, count_most (is_new v at) count)
+
 -- a command, where the open database is one of the host's
 pub exec_calls : (host : Host) (memory : Memory) → IsWell host memory → (command : Command) (old new : Option ℕ) → RoseByAtMost (1 + calls_of host memory.opened (meant memory.entries command)) old new → RoseByAtMost 2 old new ⊎ IsFew (meant memory.entries command)
     → RoseByAtMost (1 + command_calls host command) old new
@@ -221,9 +226,9 @@ exec_calls host memory well command old new took few = by command took few where
   wide : (calls most : ℕ) → calls ≤ most → RoseByAtMost (1 + calls) old new → RoseByAtMost (1 + most) old new
   wide calls most less took = wider old new (1 + calls) (1 + most) (omega (arith, less)) took
 
-  stripe : (opened : Option Opened) → IfSome opened (IsHeldBy host) → (volume : VolId) (slice : SliceName) → calls_of host opened (asked.MakeStripe volume slice) ≤ 6 * 50
-  stripe None held volume slice = omega arith
-  stripe (Some o) held volume slice = (let few = held.few in let active = active_most o.seats in omega (arith, few, active))
+  altered : (opened : Option Opened) → IfSome opened (IsHeldBy host) → (alteration : Alteration) → calls_of host opened (asked.Alter alteration) ≤ 6 * 50
+  altered None held alteration = omega arith
+  altered (Some o) held alteration = (let few = held.few in let active = active_most o.seats in omega (arith, few, active))
 
   listed : (number : ℕ) (force : Bool) (said : Option Replicas) → RoseByAtMost (1 + calls_of host memory.opened (as_listed number force said)) old new → RoseByAtMost 2 old new ⊎ IsFew (as_listed number force said) → RoseByAtMost (1 + 34 * 50) old new
   listed number force said took (inl two) = wide 1 (34 * 50) (omega arith) two
@@ -238,11 +243,11 @@ exec_calls host memory well command old new took few = by command took few where
   by (AddPlaces slices force count blocks) took few = wide (calls_of host memory.opened (AddPlaces slices force count blocks)) (command_calls host (AddPlaces slices force count blocks)) (added_calls host memory.opened well.database slices force count blocks) took
   by (AddListed number force) took few = listed number force (listed_by memory.entries number) took few
   by (DropPlaces slices force) took few = wide (calls_of host memory.opened (DropPlaces slices force)) (14 * 50 + 2) (less memory.opened well.database slices force) took
-  by (asked.MakeStripe volume slice) took few = wide (calls_of host memory.opened (asked.MakeStripe volume slice)) (6 * 50) (stripe memory.opened well.database volume slice) took
+  by (asked.Alter alteration) took few = wide (calls_of host memory.opened (asked.Alter alteration)) (6 * 50) (altered memory.opened well.database alteration) took
   by (Read volume at count) took few = (let k = min count 1024 in wide (pieces_in host memory.opened volume at k) k (count_most (is_start (map_open host.drives memory.opened volume) at) k) took)
-  by (Write volume at block) took few =
-      let v = map_open host.drives memory.opened volume in
-      wide (pieces_in host memory.opened volume at 1 + drives_in host memory.opened volume at 1) 2 (omega (arith, count_most (is_start v at) 1, count_most (is_new v at) 1)) took
+  by (Write volume at what) took few =
+      let k = min (length (words.blocks_of what)) 1024 in
+      wide (write_calls_in host memory.opened volume at k) (2 * k) (write_most (map_open host.drives memory.opened volume) at k) took
   by (asked.Print names) took few = took
 
 -- a boot

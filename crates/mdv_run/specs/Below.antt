@@ -35,5 +35,5 @@ pub use Rattle.mdv_shown.specs.declared.site.Site.{Site}
 pub use Rattle.mdv_status.specs.Telling.{replies_in}
 pub use Rattle.mdv_words.specs.Line.{Boot, IsCommand, IsInForm, IsLine, Line as Spelled, tab_text}
 pub use Rattle.mdv_words.specs.declared.command.Command.{Command}
-pub use Rattle.mdv_words.specs.declared.command.Command.TheVariants.{AddListed, AddPlaces, DropPlaces, MakeStripe, Read, Write}
+pub use Rattle.mdv_words.specs.declared.command.Command.TheVariants.{AddListed, AddPlaces, Alter, DropPlaces, Read, Write}
 pub use Rattle.mdv_words.specs.Listed.{Replicas, listed_by, meant}

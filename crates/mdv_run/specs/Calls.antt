@@ -19,14 +19,14 @@ boot_calls host = 2 * length host.site.drives + most_reads host.site + most_call
 
 -- What a command takes. A change of places twelve for each of fifty and two for each that is wiped, where places are added or some are dropped; with each that is added another eighteen, and two
 -- for each that is blanked before, an entry fifty places at most; and where all are dropped two more. A change of volumes takes six for each of fifty places; a read one for each block at most, and
--- 1,024 at most, a write two, and a print none.
+-- 1,024 at most, a write twice as many, and a print none.
 abbrev pub command_calls : Host → Command → ℕ
 command_calls host (AddPlaces slices force count blocks) = 14 * 50 + (18 * places_on (lines_asked host slices) count + 2 * blanked_asked (lines_asked host slices) count)
 command_calls host (AddListed number force) = 34 * 50
 command_calls host (DropPlaces slices force) = 14 * 50 + 2
-command_calls host (command.MakeStripe volume slice) = 6 * 50
+command_calls host (command.Alter alteration) = 6 * 50
 command_calls host (Read volume at count) = min count 1024
-command_calls host (Write volume at block) = 2
+command_calls host (Write volume at what) = 2 * min (length (words.blocks_of what)) 1024
 command_calls host (command.Print names) = 0
 
 -- what a line takes, its reply among it: a block of entries its reply's alone

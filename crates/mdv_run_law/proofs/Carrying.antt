@@ -14,7 +14,7 @@ use Rattle.mdv_dev.proofs.Copies.{has_place, one_reading}
 use Rattle.mdv_map.specs.Maps.{HasDriveBlock}
 use Rattle.mdv_words.proofs.Tabs.{entries_are_in_form}
 use Rattle.mdv_run_law.proofs.Meaning.{formed_as, meant_in_form}
-use Rattle.mdv_run_law.specs.Below.{ArePut, AreSeen, Answer, BadLine, CameTo, Command, ComesTo, AddListed, AddPlaces, DropPlaces, Entry, HasBlocks, Host, Image, IsCommitted, IsCreated, IsSame, IsSameBeside, IsTab, IsTurnedDown, Kept, Line, Map, Memory, Opened, Print, Read, Refusal, SliceLine, Spells, Table, TooMany, VolId, Write, covers, meant, entries_reply, identity_of, key_of, listing_of, printed_reply, record_text, site_area, site_of, values_reply}
+use Rattle.mdv_run_law.specs.Below.{ArePut, AreSeen, Answer, BadLine, CameTo, Command, ComesTo, AddListed, AddPlaces, DropPlaces, Entry, HasBlocks, Host, Image, IsCommitted, IsCreated, IsSame, IsSameBeside, IsTab, IsTurnedDown, Kept, Line, Map, Memory, Opened, Print, Read, Refusal, SliceLine, Spells, Table, TooMany, VolId, Write, blocks_of, covers, meant, entries_reply, identity_of, key_of, listing_of, printed_reply, record_bytes, site_area, site_of, table_by, values_reply}
 use Rattle.std.specs.Bool.{MatchBool}
 use Rattle.std.proofs.lemmas.Bool.Decides.{nat_tests}
 use Rattle.std.proofs.lemmas.Bool.{cases_Bool, false_from_ne_true, false≢true}
@@ -30,10 +30,10 @@ use Rattle.mdv_name.specs.declared.geometry.Geometry.{Geometry}
 use Rattle.mdv_shown.specs.declared.site.Site.{Site}
 use Rattle.mdv_store.proofs.Sitting.{contains_first, first_or_behind}
 use Rattle.mdv_store.specs.Opened.{shortage}
-use Rattle.mdv_table.specs.Plan.{last_of}
-use Rattle.mdv_table.specs.Table.{IsListsOf}
-use Rattle.mdv_table.specs.declared.plan.Lists.{Lists}
-use Rattle.mdv_table.specs.declared.plan.Lists.TheVariants.{One as OneList, Two}
+use Rattle.mdv_config.specs.Lists.{last_of}
+use Rattle.mdv_config.specs.Table.{IsListsOf}
+use Rattle.mdv_plan.specs.declared.lists.Lists.{Lists}
+use Rattle.mdv_plan.specs.declared.lists.Lists.TheVariants.{One as OneList, Two}
 use Rattle.mdv_words.specs.declared.command.Command.TheVariants as command
 use Rattle.mdv_words.specs.Line as words
 use Rattle.mdv_words.specs.Line.{IsInForm}
@@ -64,8 +64,6 @@ use Rattle.mdv_store.specs.Create.{seats_asked, table_of}
 use Rattle.mdv_store.specs.Seats.{TakesSlot, active_of, replica_area, replicas_of, seats_area}
 use Rattle.mdv_store.specs.declared.seats.Seat.{Seat}
 use Rattle.mdv_survey.specs.declared.replica.Replica.{Replica}
-use Rattle.mdv_table.specs.Change.{table_after}
-use Rattle.mdv_table.specs.declared.change.Change.TheVariants.{MakeStripe}
 use Rattle.mdv_volumes.specs.Tables.{AreLaid}
 use Rattle.mdv_volumes.proofs.Tables.{tables_lie}
 use Rattle.mdv_run_law.specs.Run.{AreOnce, ChangesPlaces, IsAnswered, IsOfTable, IsSaid, IsSameMemory}
@@ -141,9 +139,9 @@ module _ (host : Host) (memory : Memory) (up unsteady : Drives) where
     one_refusal_of (AddPlaces slices force count blocks) = refl
     one_refusal_of (AddListed number force) = refl
     one_refusal_of (DropPlaces slices force) = one_drop memory.opened slices force
-    one_refusal_of (command.MakeStripe volume slice) = refl
+    one_refusal_of (command.Alter alteration) = refl
     one_refusal_of (Read volume at count) = refl
-    one_refusal_of (Write volume at block) = refl
+    one_refusal_of (Write volume at what) = refl
     one_refusal_of (Print names) = refl
 
 -- the same in memory, each command is refused for the same cause
@@ -188,7 +186,7 @@ module _ (calls also : Outcomes) (calm : NoneFailed calls) (calm_too : NoneFaile
         asked = seats_asked (key_of host) (identity_of host memory.begun) lines count blocks
 
         abbrev bytes : ℕ
-        bytes = length (record_text (table_of asked))
+        bytes = record_bytes (table_of asked)
 
         abbrev new : Opened
         new = record { key = key_of host; identity = identity_of host memory.begun; mark = first_mark; table = table_of asked; seats = seats_with (slotted first_mark bytes) asked }
@@ -243,7 +241,7 @@ module _ (calls also : Outcomes) (calm : NoneFailed calls) (calm_too : NoneFaile
         mark = next_mark o.mark
 
         abbrev size : ℕ
-        size = length (record_text table)
+        size = record_bytes table
 
         abbrev next_open : Opened
         next_open = record o { mark = mark; table = table; seats = seats_with (slotted mark size) o.seats }
@@ -416,11 +414,11 @@ module _ (calls also : Outcomes) (calm : NoneFailed calls) (calm_too : NoneFaile
               told ∙ sym told_too,
               λ said. dropped slices force (still free) o opened (are_all o slices) refl one (subst (λ (x : Opened). MatchBool (are_all x slices) (IsDeletedOn also host x j m) (HasMovedOn also host x (Drops slices) j m)) is two),
             )
-        effects (command.MakeStripe volume slice) still form free (told, o, opened, one) (told_too, other, opened_too, two) =
+        effects (command.Alter alteration) still form free (told, o, opened, one) (told_too, other, opened_too, two) =
             let is : other ≡ o = opened_twice memory.opened o other opened opened_too in (
               told ∙ sym told_too,
-              λ said. weaker (committed o (table_after host.drives (MakeStripe volume slice) o.table) (same.one o opened) (same.other o opened) one
-                  (subst (λ (x : Opened). IsCommitted also host x (table_after host.drives (MakeStripe volume slice) x.table) j m) is two)),
+              λ said. weaker (committed o (table_by host.drives alteration o.table) (same.one o opened) (same.other o opened) one
+                  (subst (λ (x : Opened). IsCommitted also host x (table_by host.drives alteration x.table) j m) is two)),
             )
         effects (Read volume at count) still form free (quiet, v, there, blocks, size, seen, text, stays) (quiet_too, w, there_too, others, size_too, seen_too, text_too, stays_too) =
             let laid = laid_open there.o there.opened in
@@ -428,12 +426,12 @@ module _ (calls also : Outcomes) (calm : NoneFailed calls) (calm_too : NoneFaile
             let read = same_blocks v at count c d (one_copy_each host has.site memory volume there.o there.opened laid at count v there)
             (λ k drive block below lies. same.beside drive block (at_beside host has.site memory volume there.o there.opened laid at count v there k drive block below lies)) blocks others size size_too seen (subst (λ (x : Map). AreSeen x at others d) maps seen_too) in
             (text ∙ ap (λ (bs : List (List ℕ)). telling (values_reply at bs)) read ∙ sym text_too, λ said. weaker (stays_same host has once may k j n m same stays stays_too))
-        effects (Write volume at block) still form free (quiet, v, there, told, kept, put) (quiet_too, w, there_too, told_too, kept_too, put_too) =
+        effects (Write volume at what) still form free (quiet, v, there, told, kept, put) (quiet_too, w, there_too, told_too, kept_too, put_too) =
             let laid = laid_open there.o there.opened in
-            let maps = one_map host has.site memory volume there.o there.opened laid at 1 w v (as_there volume at 1 w there_too) there in (
+            let maps = one_map host has.site memory volume there.o there.opened laid at (length (blocks_of what)) w v (as_there volume at (length (blocks_of what)) w there_too) there in (
               told ∙ sym told_too,
-              λ said. weaker (put_same host has once v at (block ∷ []) (one_copy_each host has.site memory volume there.o there.opened laid at 1 v there) (at_beside host has.site memory volume there.o there.opened laid at 1 v there) may k j n m same kept kept_too put
-                  (subst (λ (x : Map). ArePut x at (block ∷ []) d m.content) maps put_too)),
+              λ said. weaker (put_same host has once v at (blocks_of what) (one_copy_each host has.site memory volume there.o there.opened laid at (length (blocks_of what)) v there)
+                  (at_beside host has.site memory volume there.o there.opened laid at (length (blocks_of what)) v there) may k j n m same kept kept_too put (subst (λ (x : Map). ArePut x at (blocks_of what) d m.content) maps put_too)),
             )
         effects (Print names) still form free (quiet, o, opened, text, stays) (quiet_too, other, opened_too, text_too, stays_too) =
             let same_open = opened_twice memory.opened other o opened_too opened in
@@ -451,9 +449,9 @@ module _ (calls also : Outcomes) (calm : NoneFailed calls) (calm_too : NoneFaile
       never_faulted failed quiet (AddPlaces slices force count blocks) x y fault = unmade_never failed quiet x.memory.opened (lines_asked host slices) count blocks x y fault
       never_faulted failed quiet (AddListed number force) x y fault = fault
       never_faulted failed quiet (DropPlaces slices force) x y fault = undeleted_never failed quiet fault.0 x y fault.3
-      never_faulted failed quiet (command.MakeStripe volume slice) x y fault = fault
+      never_faulted failed quiet (command.Alter alteration) x y fault = fault
       never_faulted failed quiet (Read volume at count) x y fault = quiet fault.0.drive fault.0.failed.here
-      never_faulted failed quiet (Write volume at block) x y fault = quiet fault.0.drive fault.0.failed.here
+      never_faulted failed quiet (Write volume at what) x y fault = (let one = fault.0.some in quiet one.0 (fault.0.failed one.0 one.1))
       never_faulted failed quiet (Print names) x y fault = fault
 
       -- no places are lost
@@ -474,9 +472,9 @@ module _ (calls also : Outcomes) (calm : NoneFailed calls) (calm_too : NoneFaile
       OverBy opened (AddPlaces slices force count blocks) end = MatchOption opened ⊥ (λ o. IsOver host.drives o (Adds (lines_asked host slices) count blocks) end)
       OverBy opened (AddListed number force) end = ⊥
       OverBy opened (DropPlaces slices force) end = (o : Opened) × (opened ≡ Some o) × IsOver host.drives o (drop_of o slices) end
-      OverBy opened (command.MakeStripe volume slice) end = (o : Opened) × (opened ≡ Some o) × (end ≡ ended.Spent) × (2 ^ 63 ≤ o.mark.count + 1)
+      OverBy opened (command.Alter alteration) end = (o : Opened) × (opened ≡ Some o) × (end ≡ ended.Spent) × (2 ^ 63 ≤ o.mark.count + 1)
       OverBy opened (Read volume at count) end = ⊥
-      OverBy opened (Write volume at block) end = ⊥
+      OverBy opened (Write volume at what) end = ⊥
       OverBy opened (Print names) end = ⊥
 
       module _ (failed : Outcomes) (quiet : NoneFailed failed) (x y : Kept) where
@@ -501,14 +499,14 @@ module _ (calls also : Outcomes) (calm : NoneFailed calls) (calm_too : NoneFaile
         over_by (DropPlaces slices force) ended.Memory is = absurd is
         over_by (DropPlaces slices force) (ended.NoQuorum readable needed) is = absurd is
         over_by (DropPlaces slices force) (ended.TwoDatabases one other) is = absurd is
-        over_by (command.MakeStripe volume slice) (ended.Lost active listed) is =
-            absurd (never_uncommitted failed quiet is.0 (table_after host.drives (MakeStripe volume slice) is.0.table) active listed is.2.lost)
-        over_by (command.MakeStripe volume slice) ended.Spent is = (is.1, is.2, refl, is.3)
-        over_by (command.MakeStripe volume slice) ended.Memory is = absurd is
-        over_by (command.MakeStripe volume slice) (ended.NoQuorum readable needed) is = absurd is
-        over_by (command.MakeStripe volume slice) (ended.TwoDatabases one other) is = absurd is
+        over_by (command.Alter alteration) (ended.Lost active listed) is =
+            absurd (never_uncommitted failed quiet is.0 (table_by host.drives alteration is.0.table) active listed is.2.lost)
+        over_by (command.Alter alteration) ended.Spent is = (is.1, is.2, refl, is.3)
+        over_by (command.Alter alteration) ended.Memory is = absurd is
+        over_by (command.Alter alteration) (ended.NoQuorum readable needed) is = absurd is
+        over_by (command.Alter alteration) (ended.TwoDatabases one other) is = absurd is
         over_by (Read volume at count) end is = absurd is
-        over_by (Write volume at block) end is = absurd is
+        over_by (Write volume at what) end is = absurd is
         over_by (Print names) end is = absurd is
 
         -- what is done doesn't end the run
@@ -525,12 +523,12 @@ module _ (calls also : Outcomes) (calm : NoneFailed calls) (calm_too : NoneFaile
         done_over (AddListed number force) answer end effect over = over
         done_over (DropPlaces slices force) answer end (told, o, opened, effect) (other, opened_too, over) =
             dropped_done o slices end (are_all o slices) effect (subst (λ (z : Opened). IsOver host.drives z (drop_of z slices) end) (opened_twice x.memory.opened o other opened opened_too) over)
-        done_over (command.MakeStripe volume slice) answer end (told, o, opened, effect) (other, opened_too, is, high) =
+        done_over (command.Alter alteration) answer end (told, o, opened, effect) (other, opened_too, is, high) =
             let count = ap (λ (z : Opened). z.mark.count) (opened_twice x.memory.opened o other opened opened_too) in
             let small = effect.committed.tried.small in
             absurd (omega (arith, count, high, small))
         done_over (Read volume at count) answer end effect over = over
-        done_over (Write volume at block) answer end effect over = over
+        done_over (Write volume at what) answer end effect over = over
         done_over (Print names) answer end effect over = over
 
       added_once : (lines : List SliceLine) (count blocks : ℕ) (one other : Ended) (opened : Option Opened) → MatchOption opened ⊥ (λ o. IsOver host.drives o (Adds lines count blocks) one) → MatchOption opened ⊥ (λ o. IsOver host.drives o (Adds lines count blocks) other) → one ≡ other
@@ -542,9 +540,9 @@ module _ (calls also : Outcomes) (calm : NoneFailed calls) (calm_too : NoneFaile
       over_once opened (AddListed number force) one other first second = absurd first
       over_once opened (DropPlaces slices force) one other (o, is, first) (p, is_too, second) =
           one_over host.drives o (drop_of o slices) one other first (subst (λ (z : Opened). IsOver host.drives z (drop_of z slices) other) (opened_twice opened o p is is_too) second)
-      over_once opened (command.MakeStripe volume slice) one other first second = first.2 ∙ sym second.2
+      over_once opened (command.Alter alteration) one other first second = first.2 ∙ sym second.2
       over_once opened (Read volume at count) one other first second = absurd first
-      over_once opened (Write volume at block) one other first second = absurd first
+      over_once opened (Write volume at what) one other first second = absurd first
       over_once opened (Print names) one other first second = absurd first
 
       never : (cmd : Command) (r : Refusal) → refusal_of (case_of host k) cmd ≡ Some r → IsAllowed (case_of host k) cmd → ⊥

@@ -5,7 +5,7 @@ use Rattle.mdv_base.specs.declared.refusal.Refusal.TheVariants.{IoFault}
 use Rattle.mdv_base.proofs.Causes.{rose_of_once, rose_within}
 use Rattle.mdv_listing.proofs.Lines.{listings_are_lines}
 use Rattle.mdv_status.specs.Values.{printed_reply}
-use Rattle.mdv_run_law.specs.Below.{Memory, Entry, AreInForm, Image, Refusal, BadLine, OutOfMemory, TooMany, Script, at_end, spent, too_long, line, replies_in, Command, AddListed, AddPlaces, DropPlaces, MakeStripe, Print, Read, Write, Boot, Line, Answer, Host, Kept, CameTo, ComesTo, IsRebooted, IsPlain, Spells, IsPlainAnswer, IsReply, meant, refusal_line}
+use Rattle.mdv_run_law.specs.Below.{Memory, Entry, AreInForm, Image, Refusal, BadLine, OutOfMemory, TooMany, Script, at_end, spent, too_long, line, replies_in, Command, AddListed, AddPlaces, Alter, DropPlaces, Print, Read, Write, Boot, Line, Answer, Host, Kept, CameTo, ComesTo, IsRebooted, IsPlain, Spells, IsPlainAnswer, IsReply, meant, refusal_line}
 use Rattle.mdv_words.specs.Line as words
 use Rattle.mdv_engine_law.specs.declared.answer.Answer.TheVariants.{Said, Over as Ends}
 use Rattle.mdv_engine_law.specs.declared.answer.Ended.{Ended}
@@ -53,9 +53,9 @@ module _ (calls : Outcomes) (host : Host) (kept next : Kept) (answer : Answer) w
   effect_plain (AddPlaces slices force count blocks) is = ok_plain is.0
   effect_plain (AddListed number force) is = absurd is
   effect_plain (DropPlaces slices force) is = ok_plain is.0
-  effect_plain (MakeStripe volume slice) is = ok_plain is.0
+  effect_plain (Alter alteration) is = ok_plain is.0
   effect_plain (Read volume at count) is = subst IsPlainAnswer (sym is.6) (inl (record { at = at; blocks = _; is = refl }))
-  effect_plain (Write volume at block) is = ok_plain is.3
+  effect_plain (Write volume at what) is = ok_plain is.3
   effect_plain (Print names) is = (let are = listings_are_lines is.1.table.plan names in subst IsPlainAnswer (sym is.3) (inr (inr (record { lines = are.lines; quiet = are.quiet; is = ap printed_reply are.joined }))))
 
   came_plain : (command : Command) → CameTo calls host kept command answer next → IsPlainAnswer answer
@@ -310,9 +310,9 @@ module _ (host : Host) (content : Image) (has : IsOfTable host) (once : AreOnce 
   places_back k j same (AddPlaces slices force count blocks) (granted, there) = (sym (same_refusal_of host k j same (AddPlaces slices force count blocks)) ∙ granted, λ none. there (sym same.opened ∙ none))
   places_back k j same (AddListed number force) changes = changes
   places_back k j same (DropPlaces slices force) granted = sym (same_refusal_of host k j same (DropPlaces slices force)) ∙ granted
-  places_back k j same (MakeStripe volume slice) changes = changes
+  places_back k j same (Alter alteration) changes = changes
   places_back k j same (Read volume at count) changes = changes
-  places_back k j same (Write volume at block) changes = changes
+  places_back k j same (Write volume at what) changes = changes
   places_back k j same (Print names) changes = changes
 
   changes_back : (k j : Memory) → IsSameMemory k j → (script : Script) → NextChanges host j script → NextChanges host k script

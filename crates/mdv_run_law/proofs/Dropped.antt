@@ -12,7 +12,7 @@ use Rattle.mdv_store_law.specs.Below.{Never, Place, last_of, same_slice, since_a
 use Rattle.mdv_store_law.specs.Changes.{AddListed, AddPlaces, DropPlaces, FirstPlace, IsMadeBy, OfPlan, is_on, list_less, places_from, places_on}
 use Rattle.mdv_store_law.specs.Log as log
 use Rattle.mdv_store_law.specs.Log.{IsLog, IsMade, IsPlaceable, IsRising, Log, answered, begins_in, log_after, log_after_all, since_of}
-use Rattle.mdv_store_law.proofs.Anew.{plan_lists}
+use Rattle.mdv_keeping.proofs.Places.{lists_stay}
 use Rattle.mdv_store_law.proofs.Families.{contains_cases}
 use Rattle.mdv_volumes.specs.Happening.{MayBeFound}
 use Rattle.mdv_volumes.proofs.Found.{newest_found, older_found, only_found}
@@ -73,7 +73,7 @@ each_of P xs is k d lt = is (slice_index_or xs k d) (Contains-get_or xs k d lt)
 module _ (g : Geometry) (Gone : SliceName → Type 0) where
   -- a change leaves a listed place, or drops it
   kept_or_gone : (change : Change) (old new : Table) → IsMadeBy g change old new → ((s : SliceName) → DropsFrom change s → Gone s) → (p : Place) → begins_in (last_of old.plan.lists) p ≡ true → (begins_in (last_of new.plan.lists) p ≡ true) ⊎ Gone p.slice
-  kept_or_gone (OfPlan change) old new made drops p begins = inl (subst (λ (l : _). begins_in (last_of l) p ≡ true) (sym (plan_lists g change old new made)) begins)
+  kept_or_gone (OfPlan change) old new made drops p begins = inl (subst (λ (l : _). begins_in (last_of l) p ≡ true) (sym (lists_stay g change old new made.1)) begins)
   kept_or_gone (AddPlaces slices count blocks) old new made drops p begins =
       inl (subst (λ (t : Table). begins_in (last_of t.plan.lists) p ≡ true) (sym made) (more_begins (last_of old.plan.lists) (flat_map (places_on count blocks) slices) p begins))
   kept_or_gone (AddListed number) old new made drops p begins =

@@ -7,14 +7,14 @@ use Rattle.std.proofs.lemmas.List.Folds.{list_any_at}
 use Rattle.mdv_base.specs.declared.mark.Identity.{Identity}
 use Rattle.mdv_base.specs.declared.name.Key.{Key}
 use Rattle.mdv_base.specs.declared.place.Place.{Place}
-use Rattle.mdv_record.specs.Text.{record_text}
+use Rattle.mdv_encoding.specs.Text.{record_bytes}
 use Rattle.mdv_replica.specs.Replica.{slot_blocks}
 use Rattle.mdv_shelf.specs.Failing.{Outcomes}
 use Rattle.mdv_shown.specs.declared.site.Site.{Site}
-use Rattle.mdv_table.specs.Plan.{last_of, places_of, settled}
-use Rattle.mdv_table.specs.declared.plan.Lists.{Lists}
-use Rattle.mdv_table.specs.declared.plan.Lists.TheVariants.{One, Two}
-use Rattle.mdv_table.specs.declared.table.Table.{Table}
+use Rattle.mdv_config.specs.Lists.{last_of, places_of, settled}
+use Rattle.mdv_plan.specs.declared.lists.Lists.{Lists}
+use Rattle.mdv_plan.specs.declared.lists.Lists.TheVariants.{One, Two}
+use Rattle.mdv_plan.specs.declared.table.Table.{Table}
 use Rattle.mdv_survey.specs.Choice.{IsChoiceAmong, IsEnough, IsNotEnough, IsTheOne, failing, is_found_at, is_of, is_read, is_there, needed_of, place_of, readable_of, same_identity, same_place, shows_other, shows_table}
 use Rattle.mdv_survey.specs.declared.choosing.Choice.TheVariants as chosen
 use Rattle.mdv_survey.specs.declared.replica.Newest.{Newest}
@@ -41,7 +41,7 @@ use Rattle.mdv_databases.proofs.Finding.{count_weaker}
 use Rattle.std.specs.Prelude.{count_by}
 
 abbrev text_blocks : Table → ℕ
-text_blocks table = blocks_for (length (record_text table))
+text_blocks table = blocks_for (record_bytes table)
 
 -- step by step, from the replicas that were read and the newest table that they show
 abbrev by_lists : List Replica → Replica → Share → Option (List Place) → BootEnd

@@ -1,7 +1,7 @@
 -- Which entries are kept behind a line that isn't `boot`.
 use Rattle.std.proofs.Common.{◌≡◌, inl, inr, ℕ, Bool, true, false, List, ◌++◌, length, MatchBool, MatchOption, Option, None, Some, refl, sym, ◌∙◌, ap, subst}
 use Rattle.std.proofs.lemmas.List.{append_cancel_left}
-use Rattle.mdv_run_law.specs.Below.{Refusal, OutOfMemory, IsLine, entries_reply, refusal_line, told, Command, AddListed, AddPlaces, DropPlaces, MakeStripe, Print, Read, Write, Tale, Answer, Reply, Host, Memory, Opened, Kept, kept_at, CameTo, IsTold, IsReplied, Executed, meant}
+use Rattle.mdv_run_law.specs.Below.{Refusal, OutOfMemory, IsLine, entries_reply, refusal_line, told, Command, AddListed, AddPlaces, Alter, DropPlaces, Print, Read, Write, Tale, Answer, Reply, Host, Memory, Opened, Kept, kept_at, CameTo, IsTold, IsReplied, Executed, meant}
 use Rattle.mdv_words.specs.Line as words
 use Rattle.mdv_engine_law.specs.declared.answer.Answer.TheVariants.{Said, Over}
 use Rattle.mdv_shelf.specs.Failing.{Outcomes}
@@ -40,27 +40,27 @@ module _ (calls : Outcomes) (host : Host) (kept next : Kept) (answer : Answer) w
   effect_entries (AddPlaces slices force count blocks) is = placed_entries (λ made. ap (λ (m : Memory). m.entries) made.memory) (λ o moved. ap (λ (m : Memory). m.entries) moved.1.memory) kept.memory.opened is.1
   effect_entries (AddListed number force) is = absurd is
   effect_entries (DropPlaces slices force) is = dropped_entries (λ gone. ap (λ (m : Memory). m.entries) gone.memory) (λ moved. ap (λ (m : Memory). m.entries) moved.1.memory) (are_all is.1 slices) is.3
-  effect_entries (MakeStripe volume slice) is = ap (λ (m : Memory). m.entries) is.3.memory
+  effect_entries (Alter alteration) is = ap (λ (m : Memory). m.entries) is.3.memory
   effect_entries (Read volume at count) is = entries_same is.7.memory
-  effect_entries (Write volume at block) is = entries_same is.4
+  effect_entries (Write volume at what) is = entries_same is.4
   effect_entries (Print names) is = entries_same is.4.memory
 
   fault_entries : (command : Command) → Fault calls host kept command next → next.memory.entries ≡ kept.memory.entries
   fault_entries (AddPlaces slices force count blocks) is = placed_entries (λ none. ap (λ (m : Memory). m.entries) none.memory) (λ o unmoved. entries_same unmoved.memory) kept.memory.opened is
   fault_entries (AddListed number force) is = absurd is
   fault_entries (DropPlaces slices force) is = elim is.3 [ inl moved ↦ ap (λ (m : Memory). m.entries) moved.memory | inr unblanked ↦ ap (λ (m : Memory). m.entries) unblanked.memory ]
-  fault_entries (MakeStripe volume slice) is = absurd is
+  fault_entries (Alter alteration) is = absurd is
   fault_entries (Read volume at count) is = entries_same is.1.memory
-  fault_entries (Write volume at block) is = ap (λ (m : Memory). m.entries) is.1.beside
+  fault_entries (Write volume at what) is = ap (λ (m : Memory). m.entries) is.1.beside
   fault_entries (Print names) is = absurd is
 
   wanting_entries : (command : Command) → Wanting host kept command next → next.memory.entries ≡ kept.memory.entries
   wanting_entries (AddPlaces slices force count blocks) is = placed_entries (λ unbegun. ap (λ (m : Memory). m.entries) unbegun.memory) (λ o stays. entries_same stays.memory) kept.memory.opened is.1
   wanting_entries (AddListed number force) is = absurd is
   wanting_entries (DropPlaces slices force) is = entries_same is.4.memory
-  wanting_entries (MakeStripe volume slice) is = entries_same is.1.memory
+  wanting_entries (Alter alteration) is = entries_same is.2.memory
   wanting_entries (Read volume at count) is = entries_same is.1.memory
-  wanting_entries (Write volume at block) is = absurd is
+  wanting_entries (Write volume at what) is = entries_same is.2.memory
   wanting_entries (Print names) is = entries_same is.1.memory
 
   came_entries : (command : Command) → CameTo calls host kept command answer next → IsSaid answer → next.memory.entries ≡ kept.memory.entries

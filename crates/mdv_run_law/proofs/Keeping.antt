@@ -12,12 +12,12 @@ use Rattle.mdv_name.specs.declared.geometry.Geometry.{Geometry}
 use Rattle.mdv_dev.specs.Pieces.{LiesAt}
 use Rattle.mdv_dev.proofs.Copies.{one_place, reads_there}
 use Rattle.mdv_map.specs.Maps.{HasDriveBlock}
-use Rattle.mdv_record.proofs.Parsed.{is_read}
-use Rattle.mdv_record.specs.Text.{record_text}
+use Rattle.mdv_encoding.proofs.Reading.{is_read}
+use Rattle.mdv_encoding.specs.Text.{record_bytes}
 use Rattle.mdv_replica.specs.declared.replica.Head.{Head}
 use Rattle.mdv_shown.specs.Found.{IsFound}
 use Rattle.mdv_run_law.proofs.Meaning.{formed_as, none_formed}
-use Rattle.mdv_run_law.specs.Below.{Among, Answer, AreInForm, ArePut, DriveNo, Drives, Host, Image, IsPlanOf, IsRebooted, IsSameBeside, Kept, Map, Memory, Opened, OutOfMemory, Site, SliceLine, Spells, Stays, key_of, readings, site_area, site_of}
+use Rattle.mdv_run_law.specs.Below.{Among, Answer, AreInForm, ArePut, DriveNo, Drives, Host, Image, IsOfGeometry, IsRebooted, IsSameBeside, Kept, Map, Memory, Opened, OutOfMemory, Site, SliceLine, Spells, Stays, key_of, readings, site_area, site_of}
 use Rattle.mdv_shelf.specs.Failing.{Outcomes}
 use Rattle.mdv_shown.proofs.Sites.{law_sites}
 use Rattle.mdv_shown.specs.Site.{IsSite}
@@ -34,11 +34,11 @@ use Rattle.mdv_store.specs.Boot.{IsEndBy, TakesAll, TakesBoth, gone_found, great
 use Rattle.mdv_store.specs.Settled.{gone_of}
 use Rattle.mdv_survey.specs.Replica.{at_of}
 use Rattle.mdv_survey.specs.declared.replica.Newest.{Newest}
-use Rattle.mdv_table.proofs.Beside.{among-true}
-use Rattle.mdv_table.specs.Plan.{beside, last_of, same_place}
-use Rattle.mdv_table.specs.declared.plan.Lists.{Lists}
-use Rattle.mdv_table.specs.declared.plan.Lists.TheVariants.{One as OneList, Two}
-use Rattle.mdv_table.specs.declared.table.Table.{Table}
+use Rattle.mdv_config.proofs.Beside.{among-true}
+use Rattle.mdv_config.specs.Lists.{beside, last_of, same_place}
+use Rattle.mdv_plan.specs.declared.lists.Lists.{Lists}
+use Rattle.mdv_plan.specs.declared.lists.Lists.TheVariants.{One as OneList, Two}
+use Rattle.mdv_plan.specs.declared.table.Table.{Table}
 use Rattle.mdv_store.specs.Booting.{boot_area, has_written}
 use Rattle.mdv_store.specs.Progress.{all_written}
 use Rattle.mdv_store.specs.Seats.{AreLeft, active_of, drive_of, replica_area, replicas_of, seats_area}
@@ -48,7 +48,7 @@ use Rattle.mdv_store.specs.declared.booting.BootEnd.TheVariants as end
 use Rattle.mdv_store.specs.declared.seats.Seat.{Seat}
 use Rattle.mdv_survey.specs.declared.replica.Replica.{Replica}
 use Rattle.mdv_survey.specs.declared.replica.Survey.{Survey}
-use Rattle.mdv_table.specs.Plan.{places_of}
+use Rattle.mdv_config.specs.Lists.{places_of}
 use Rattle.mdv_engine_law.specs.Answers.{accepted, refusing}
 use Rattle.mdv_engine_law.specs.Line.{IsLeftBy, IsOpenOn, IsReadOf, IsUpBy, LeftHoldOn, WritesBy, answered_by, booted_with, open_under, opened_by}
 use Rattle.mdv_engine_law.specs.declared.answer.Answer.TheVariants.{Over}
@@ -130,7 +130,7 @@ module _ (host : Host) (calls also : Outcomes) (calm : NoneFailed calls) (calm_t
 
 -- those that the new list lacks, as what was read settles it
 abbrev gone_now : List Replica → Newest → Replica → List Seat
-gone_now all it r = seats_with (rewritten (greatest_number r.head.master.identity all + 1) (length (record_text it.table))) (seats_of all r.head.master.identity (blocks_for (length (record_text it.table))) (gone_of it.table.plan.lists))
+gone_now all it r = seats_with (rewritten (greatest_number r.head.master.identity all + 1) (record_bytes it.table)) (seats_of all r.head.master.identity (blocks_for (record_bytes it.table)) (gone_of it.table.plan.lists))
 
 module _ (host : Host) (has : IsOfTable host) (once : AreOnce host.drives.slices) where
   -- where a boot looks
@@ -188,7 +188,7 @@ module _ (host : Host) (has : IsOfTable host) (once : AreOnce host.drives.slices
   there_each o content held = its_each host.drives host.site ok o (its_site o held.key) content held.on
 
   -- its table is one of the host's drives
-  pub plan_of : (o : Opened) (content : Image) → IsHeld o content → IsPlanOf host.drives o.table.plan
+  pub plan_of : (o : Opened) (content : Image) → IsHeld o content → IsOfGeometry host.drives o.table
   plan_of o content held =
       let one = first_of (replicas_of o.seats) held.some in
       ((is_read host.drives has.sound _ o.table).0 (held.on.shown one.0 one.1).1.shows.text).of_geometry
@@ -303,14 +303,14 @@ module _ (host : Host) (has : IsOfTable host) (once : AreOnce host.drives.slices
       lists = newest.table.plan.lists
 
       abbrev found : List Place → List Seat
-      found = seats_of rs is.by.replica.head.master.identity (blocks_for (length (record_text newest.table)))
+      found = seats_of rs is.by.replica.head.master.identity (blocks_for (record_bytes newest.table))
 
       -- the database as both passes left it there
       abbrev left_open : Opened
       left_open = open_under host.site.key is.by.written.hand.identity is.by.written.hand.number 0 newest.table is.by.gone
 
       gone_on : IsOpenOn host.drives left_open n.content
-      gone_on = gone_hold host.drives host.site.key is.by.written.hand.identity is.by.written.hand.number newest.table calls (TakesBoth is.by.number (length (record_text newest.table))) rs is.by.replica.head.master.identity (blocks_for (length (record_text newest.table))) lists o.seats is.by.gone n.content is.by.over is.by.written.wrote.hold
+      gone_on = gone_hold host.drives host.site.key is.by.written.hand.identity is.by.written.hand.number newest.table calls (TakesBoth is.by.number (record_bytes newest.table)) rs is.by.replica.head.master.identity (blocks_for (record_bytes newest.table)) lists o.seats is.by.gone n.content is.by.over is.by.written.wrote.hold
 
       abbrev written_at : List Replica
       written_at = replicas_of (o.seats ++ is.by.gone)
@@ -324,7 +324,7 @@ module _ (host : Host) (has : IsOfTable host) (once : AreOnce host.drives.slices
         | inr gone ↦ Contains-append_right (replicas_of o.seats) (replicas_of is.by.gone) r gone
       ])
 
-      stay : (r m : Replica) → TakesBoth is.by.number (length (record_text newest.table)) r m → m ≡ record r { head = m.head }
+      stay : (r m : Replica) → TakesBoth is.by.number (record_bytes newest.table) r m → m ≡ record r { head = m.head }
       stay r m took = took.2 ∙ ap (λ (h : Head). record r { head = h }) (sym (ap (λ (x : Replica). x.head) took.2))
 
       -- each of them was found
@@ -334,7 +334,7 @@ module _ (host : Host) (has : IsOfTable host) (once : AreOnce host.drives.slices
             let one = left_replica calls (TakesAll is.by.number newest.table) (last_found is.survey newest is.by.replica) o.seats m is.by.left here in
             (one.0, found_read is.survey newest is.by.replica is.by.seats is.by.drawn.hand (last_of lists) one.0 one.1, takes_stay is.by.number newest.table one.0 m one.2))
         | inr gone ↦ (
-            let one = left_replica calls (TakesBoth is.by.number (length (record_text newest.table))) (gone_found is.survey newest is.by.replica) is.by.gone m is.by.over gone in
+            let one = left_replica calls (TakesBoth is.by.number (record_bytes newest.table)) (gone_found is.survey newest is.by.replica) is.by.gone m is.by.over gone in
             (one.0, found_read is.survey newest is.by.replica is.by.seats is.by.drawn.hand (gone_of lists) one.0 one.1, stay one.0 m one.2))
       ]
 
@@ -365,21 +365,21 @@ module _ (host : Host) (has : IsOfTable host) (once : AreOnce host.drives.slices
             by true is rest = elim (first_or_behind x p xs has) [ inl here ↦ absurd (false≢true (sym away ∙ ap (λ (q : Place). list_any (same_place q) new) (sym here) ∙ is)) | inr behind ↦ rest behind ]
             by false is rest = elim (first_or_behind x p xs has) [ inl here ↦ subst (Contains (x ∷ beside new xs)) here (contains_first x (beside new xs)) | inr behind ↦ contains_behind x p (beside new xs) (rest behind) ]
 
-      of_place : (places : List Place) (p : Place) (r : Replica) → Contains places p → find (is_seated is.by.replica.head.master.identity p (blocks_for (length (record_text newest.table)))) rs ≡ Some r → Contains (replicas_of (found places)) r
-      of_place places p r there some = replica_of (found places) (seat_for rs is.by.replica.head.master.identity (blocks_for (length (record_text newest.table))) p) r (mapped (seat_for rs is.by.replica.head.master.identity (blocks_for (length (record_text newest.table)))) places p there) some
+      of_place : (places : List Place) (p : Place) (r : Replica) → Contains places p → find (is_seated is.by.replica.head.master.identity p (blocks_for (record_bytes newest.table))) rs ≡ Some r → Contains (replicas_of (found places)) r
+      of_place places p r there some = replica_of (found places) (seat_for rs is.by.replica.head.master.identity (blocks_for (record_bytes newest.table)) p) r (mapped (seat_for rs is.by.replica.head.master.identity (blocks_for (record_bytes newest.table))) places p there) some
 
       -- so each block outside them is as it was
       out_there : (drive block : ℕ) → areas written_at drive block ≡ false → (r : Replica) → Contains (replicas_of is.by.seats) r → replica_area r drive block ≡ false
       out_there drive block out r has =
           let seat = seat_of (found (places_of lists)) r (subst (λ (ss : List Seat). Contains (replicas_of ss) r) is.by.drawn.hand.seats_are has) in
-          let place = unmapped (seat_for rs is.by.replica.head.master.identity (blocks_for (length (record_text newest.table)))) (places_of lists) seat.0 seat.1 in
+          let place = unmapped (seat_for rs is.by.replica.head.master.identity (blocks_for (record_bytes newest.table))) (places_of lists) seat.0 seat.1 in
           let some = ap (λ (s : Seat). s.replica) place.2 ∙ seat.2 in
           elim (one_of lists place.0 place.1) [
             | inl last ↦ (elim (left_told calls (TakesAll is.by.number newest.table) (last_found is.survey newest is.by.replica) o.seats is.by.left r (of_place (last_of lists) place.0 r last some)) [
               | inl failed ↦ absurd (calm (drive_of r) failed)
               | inr m ↦ ap (λ (x : Replica). replica_area x drive block) (sym (takes_stay is.by.number newest.table r m.0 m.3)) ∙ none_of (λ (x : Replica). replica_area x drive block) written_at m.0 out (of_both m.0 (inl m.1))
             ])
-            | inr gone ↦ (elim (left_told calls (TakesBoth is.by.number (length (record_text newest.table))) (gone_found is.survey newest is.by.replica) is.by.gone is.by.over r (of_place (gone_of lists) place.0 r gone some)) [
+            | inr gone ↦ (elim (left_told calls (TakesBoth is.by.number (record_bytes newest.table)) (gone_found is.survey newest is.by.replica) is.by.gone is.by.over r (of_place (gone_of lists) place.0 r gone some)) [
               | inl failed ↦ absurd (calm (drive_of r) failed)
               | inr m ↦ ap (λ (x : Replica). replica_area x drive block) (sym (stay r m.0 m.3)) ∙ none_of (λ (x : Replica). replica_area x drive block) written_at m.0 out (of_both m.0 (inr m.1))
             ])
@@ -393,8 +393,8 @@ module _ (host : Host) (has : IsOfTable host) (once : AreOnce host.drives.slices
       adopted_changed key = changed_written (Spells host.drives) (one_text host.drives) host.site ok written_at k.content n.content same_out before (each key)
 
       gone_is : is.by.gone ≡ gone_now rs newest is.by.replica
-      gone_is = left_is calls calm (TakesBoth is.by.number (length (record_text newest.table))) (rewritten is.by.number (length (record_text newest.table))) (rewritten_is is.by.number (length (record_text newest.table))) (gone_found is.survey newest is.by.replica) is.by.gone is.by.over
-          ∙ ap (λ (number : ℕ). seats_with (rewritten number (length (record_text newest.table))) (gone_found is.survey newest is.by.replica)) is.by.drawn.number_is
+      gone_is = left_is calls calm (TakesBoth is.by.number (record_bytes newest.table)) (rewritten is.by.number (record_bytes newest.table)) (rewritten_is is.by.number (record_bytes newest.table)) (gone_found is.survey newest is.by.replica) is.by.gone is.by.over
+          ∙ ap (λ (number : ℕ). seats_with (rewritten number (record_bytes newest.table)) (gone_found is.survey newest is.by.replica)) is.by.drawn.number_is
 
     no_database : (e : BootEnd) (is : Booted calls k n e) → IsSaid (answered_by e) → opened_by e ≡ None → Settled n
     no_database e is said none o opened = absurd (let never : None ≡ Some o = sym none ∙ sym (ap (λ (m : Memory). m.opened) (is.memory said)) ∙ opened in cc (never))

@@ -19,7 +19,7 @@ use Rattle.mdv_store_law.proofs.Families.{extends_more, newest_extends}
 use Rattle.mdv_store_law.proofs.Machine.{after_more, all_more, course_more}
 use Rattle.mdv_store_law.proofs.Orders.{IsToldPart, all_told, all_written, none_struck, oldest_extended, told_since}
 use Rattle.mdv_store_law.specs.Changes.{OfPlan}
-use Rattle.mdv_table.specs.declared.change.Change.{Change as PlanChange}
+use Rattle.mdv_change.specs.declared.change.Change.{Change as PlanChange}
 use Rattle.mdv_store_law.proofs.Parts.{part_of_part}
 use Rattle.mdv_home.proofs.Viewing.{view_is_own}
 use Rattle.mdv_volumes.specs.Happening.{begins, deed_of, tells}

@@ -2,7 +2,7 @@
 use Rattle.std.proofs.Common.{◌≡◌, List, [], Option, Some, None, refl, sym, subst}
 use Rattle.mdv_words.specs.Line.{IsInForm}
 use Rattle.mdv_words.specs.Listed.{as_listed}
-use Rattle.mdv_run_law.specs.Below.{AddListed, AddPlaces, AreInForm, Command, DropPlaces, Entry, MakeStripe, Memory, Print, Read, Replicas, Write, listed_by, meant}
+use Rattle.mdv_run_law.specs.Below.{AddListed, AddPlaces, Alter, AreInForm, Command, DropPlaces, Entry, Memory, Print, Read, Replicas, Write, listed_by, meant}
 
 pub formed_as : (next kept : Memory) → next.entries ≡ kept.entries → AreInForm kept.entries → AreInForm next.entries
 formed_as next kept same are = subst (λ (entries : List Entry). AreInForm entries) (sym same) are
@@ -17,7 +17,7 @@ meant_in_form entries are (AddListed number force) form = by (listed_by entries 
   by None is = tt
 meant_in_form entries are (AddPlaces slices force count blocks) form = form
 meant_in_form entries are (DropPlaces slices force) form = form
-meant_in_form entries are (MakeStripe volume slice) form = form
+meant_in_form entries are (Alter alteration) form = form
 meant_in_form entries are (Read volume at count) form = form
-meant_in_form entries are (Write volume at block) form = form
+meant_in_form entries are (Write volume at what) form = form
 meant_in_form entries are (Print names) form = form

@@ -8,9 +8,9 @@ use Rattle.mdv_shelf.specs.Area.{Area, range}
 use Rattle.mdv_shelf.specs.Everywhere.{Image}
 use Rattle.mdv_shown.specs.Below.{First, Second, Head, IsBelow, IsHead, IsMasterAt, Mark, Master, Open, PlaceAt, SliceLine, Slot, gate_of, slot_blocks, body_at, other_slot}
 use Rattle.mdv_name.specs.declared.geometry.Geometry.{Geometry}
-use Rattle.mdv_record.specs.Parsing.{read_of}
+use Rattle.mdv_encoding.specs.Parsing.{read_of}
 use Rattle.mdv_store.specs.Records.{Spells}
-use Rattle.mdv_table.specs.declared.table.Table.{Table}
+use Rattle.mdv_plan.specs.declared.table.Table.{Table}
 use Rattle.mdv_survey.specs.declared.replica.Replica.{Replica}
 use Rattle.mdv_shown.specs.Found.{IsFound, IsInChain}
 use Rattle.mdv_shown.specs.Shown.{IsNewestOf, SlotShows}

@@ -1,9 +1,9 @@
 -- Whose databases a history of runs has: the host's own, each with the word of one of them.
-use Rattle.std.proofs.Common.{◌≡◌, inl, inr, ℕ, Bool, true, false, cond, ◌||◌, List, [], ◌∷◌, ◌++◌, Contains, if◌then◌else◌, sym, ◌∙◌, subst, arith}
+use Rattle.std.proofs.Common.{◌≡◌, inl, inr, ℕ, Bool, true, false, cond, ◌||◌, List, [], ◌∷◌, ◌++◌, Option, None, Some, Contains, if◌then◌else◌, sym, ◌∙◌, subst, arith}
 use Rattle.std.proofs.lemmas.List.Elements.{Contains-append_cases, Contains-append_left, Contains-append_right}
 use Rattle.std.specs.Str.{bytes_eq}
 use Rattle.mdv_base.specs.declared.refusal.Refusal.TheVariants.{IoFault}
-use Rattle.mdv_run_law.specs.Below.{Acknowledges, AreOwn, Ask, Command, Crashes, AddPlaces, Change, Changed, Created, Deed, Deleted, Event, Geometry, History, Host, Identity, IsOfRun, Key, Line, Local, MakeStripe, Print, Read, Script, Stops, Write, asked_by_line, at_end, history_after, history_after_all, is_front_of, issuable, issuable_front, issued_by, key_of, left_in, line, new_history, ok_line, refusal_line, replies_in, spent, too_long, Deletes, AddListed, DropPlaces}
+use Rattle.mdv_run_law.specs.Below.{Acknowledges, AreOwn, Ask, Command, Crashes, AddPlaces, Alter, Change, Changed, Created, Deed, Deleted, Event, Geometry, History, Host, Identity, IsOfRun, Key, Line, Local, PlanChange, Print, Read, Script, Stops, Write, asked_by_line, at_end, change_asked, change_of, history_after, history_after_all, is_front_of, issuable, issuable_front, issued_by, key_of, left_in, line, new_history, ok_line, refusal_line, replies_in, spent, too_long, Deletes, AddListed, DropPlaces}
 use Rattle.mdv_engine_law.specs.Line.{deeds}
 use Rattle.mdv_store_law.specs.Changes.{FirstPlace}
 use Rattle.mdv_store_law.specs.Log.{Issue, OfChange, OfCreation, OfEnd, OfPlaces}
@@ -115,13 +115,17 @@ module _ (host : Host) where
       (its_more_one (Changed (key_of host) FirstPlace) (Deleted (key_of host) ∷ []) (λ other same. absurd (cc (same))) (its_more_one (Deleted (key_of host)) [] (λ other same. absurd (cc (same))) its_none))
   its_dropped false change = its_more_one (Changed (key_of host) change) [] (λ other same. absurd (cc (same))) its_none
 
+  its_change : (change : Option PlanChange) → its (deeds (change_asked host change))
+  its_change None = its_none
+  its_change (Some change) = its_more_one _ [] (λ other same. absurd (cc (same))) its_none
+
   its_command : (command : Command) → its (deeds (asked_by_line host (words.Exec command)))
   its_command (AddPlaces slices force count blocks) = its_made _
   its_command (AddListed number force) = its_made _
   its_command (DropPlaces slices force) = its_dropped force _
-  its_command (MakeStripe volume slice) = its_more_one _ [] (λ other same. absurd (cc (same))) its_none
+  its_command (Alter alteration) = its_change (change_of alteration)
   its_command (Read volume at count) = its_none
-  its_command (Write volume at block) = its_more_one _ [] (λ other same. absurd (cc (same))) its_none
+  its_command (Write volume at what) = its_more_one _ [] (λ other same. absurd (cc (same))) its_none
   its_command (Print names) = its_none
 
   its_line : (spelled : Line) → its (deeds (asked_by_line host spelled))

@@ -13,18 +13,18 @@ use Rattle.mdv_replica.specs.declared.replica.Slot.TheVariants.{First, Second}
 use Rattle.mdv_shelf.specs.Failing.{Outcomes}
 use Rattle.mdv_votes.specs.Family.{mark_below}
 use Rattle.mdv_survey.specs.declared.replica.Replica.{Replica}
-use Rattle.mdv_record.specs.Text.{record_text}
+use Rattle.mdv_encoding.specs.Text.{record_bytes}
 use Rattle.mdv_store.specs.Boot.{TakesAll, TakesBoth, TakesBy}
-use Rattle.mdv_table.specs.Plan.{settled}
-use Rattle.mdv_table.specs.declared.plan.Lists.TheVariants.{One, Two}
-use Rattle.mdv_table.specs.declared.table.Table.{Table}
+use Rattle.mdv_config.specs.Lists.{settled}
+use Rattle.mdv_plan.specs.declared.lists.Lists.TheVariants.{One, Two}
+use Rattle.mdv_plan.specs.declared.table.Table.{Table}
 use Rattle.mdv_store.specs.Seats.{AreLeft, IsSpareOf, TakesSlot, active_of, drive_of, replicas_of}
 use Rattle.mdv_store.specs.declared.seats.Seat.{Seat}
 use Rattle.mdv_store.specs.Shares.{short_of, suffices}
 use Rattle.mdv_store.specs.declared.seats.Need.{Need}
 use Rattle.mdv_store.specs.declared.seats.Share.{Share}
 use Rattle.mdv_store.proofs.Shares.{short_fewer}
-use Rattle.mdv_table.specs.declared.plan.Lists.{Lists}
+use Rattle.mdv_plan.specs.declared.lists.Lists.{Lists}
 
 -- the slot that takes the next table
 abbrev pub spare_of : Gate → Gate → Slot
@@ -73,16 +73,16 @@ rewritten_is number bytes r n takes = takes.2 ∙ ap (λ (s : Slot). record r { 
 
 -- and with all that a boot writes
 abbrev pub rewritten_by : Lists → ℕ → Table → Replica → Replica
-rewritten_by (One list) number table r = rewritten number (length (record_text table)) r
-rewritten_by (Two old new) number table r = slotted (record { boot = number; count = 1 }) (length (record_text (settled table))) (rewritten number (length (record_text table)) r)
+rewritten_by (One list) number table r = rewritten number (record_bytes table) r
+rewritten_by (Two old new) number table r = slotted (record { boot = number; count = 1 }) (record_bytes (settled table)) (rewritten number (record_bytes table) r)
 
 pub all_is : (number : ℕ) (table : Table) (r n : Replica) → TakesAll number table r n → n ≡ rewritten_by table.plan.lists number table r
 all_is number table r n takes = by table.plan.lists takes where
   by : (l : Lists) → TakesBy l number table r n → n ≡ rewritten_by l number table r
-  by (One list) took = rewritten_is number (length (record_text table)) r n took
+  by (One list) took = rewritten_is number (record_bytes table) r n took
   by (Two old new) (m, first, second) =
-      slotted_is (record { boot = number; count = 1 }) (length (record_text (settled table))) m n second
-      ∙ ap (slotted (record { boot = number; count = 1 }) (length (record_text (settled table)))) (rewritten_is number (length (record_text table)) r m first)
+      slotted_is (record { boot = number; count = 1 }) (record_bytes (settled table)) m n second
+      ∙ ap (slotted (record { boot = number; count = 1 }) (record_bytes (settled table))) (rewritten_is number (record_bytes table) r m first)
 
 -- the seats with what became of their replicas
 abbrev pub became : (Replica → Replica) → Option Replica → Option Replica

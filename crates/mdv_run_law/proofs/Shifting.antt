@@ -38,9 +38,9 @@ use Rattle.mdv_store.specs.declared.seats.Need.TheVariants.{Half}
 use Rattle.mdv_store.specs.declared.seats.Seat.{Seat}
 use Rattle.mdv_store.specs.declared.seats.Share.{Share}
 use Rattle.mdv_survey.specs.declared.replica.Replica.{Replica}
-use Rattle.mdv_table.specs.Plan.{beside, last_of, same_place, settled}
-use Rattle.mdv_table.specs.declared.plan.Lists.{Lists}
-use Rattle.mdv_table.specs.declared.plan.Lists.TheVariants.{One, Two}
+use Rattle.mdv_config.specs.Lists.{beside, last_of, same_place, settled}
+use Rattle.mdv_plan.specs.declared.lists.Lists.{Lists}
+use Rattle.mdv_plan.specs.declared.lists.Lists.TheVariants.{One, Two}
 
 -- Seats whose replicas took something are as active as before.
 module _ (f : Replica → Replica) where

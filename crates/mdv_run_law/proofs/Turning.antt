@@ -1,11 +1,11 @@
 -- One turn, told by the script before it.
-use Rattle.std.proofs.Common.{◌≡◌, ◌⊎◌, inl, inr, ℕ, Bool, true, false, ◌||◌, cond, List, [], ◌∷◌, ◌++◌, Some, None, refl, sym, ◌∙◌, ap, subst}
+use Rattle.std.proofs.Common.{◌≡◌, ◌⊎◌, inl, inr, ℕ, Bool, true, false, ◌||◌, cond, List, [], ◌∷◌, ◌++◌, Option, Some, None, refl, sym, ◌∙◌, ap, subst}
 use Rattle.std.specs.Str.{bytes_eq}
 use Rattle.std.proofs.lemmas.Slice.Eq.{bytes_eq-Decides}
 use Rattle.mdv_base.specs.declared.refusal.Refusal.TheVariants.{IoFault}
 use Rattle.mdv_engine_law.specs.Standing.{HasMet}
 use Rattle.mdv_shelf.specs.Moments.{IsSince}
-use Rattle.mdv_run_law.specs.Below.{AddListed, AddPlaces, Command, DropPlaces, History, MakeStripe, Print, Read, Write, asked_by, Drives, Script, too_long, line, Tale, Said, StaysHome, left_in, replies_in, Boot, IsLine, Deed, Event, Host, key_of, Ask, Nothing, Memory, IsFront, IsReply, Acks, AcksBy, AcksFront, AcksIn, is_front_of, issuable, issuable_front, issuable_in, issuable_of, ok_line, refusal_line, BootBegins, Does, Knows, TurnMoment, Turned}
+use Rattle.mdv_run_law.specs.Below.{AddListed, AddPlaces, Alter, Command, DropPlaces, History, PlanChange, Print, Read, Write, asked_by, change_asked, change_of, Drives, Script, too_long, line, Tale, Said, StaysHome, left_in, replies_in, Boot, IsLine, Deed, Event, Host, key_of, Ask, Nothing, Memory, IsFront, IsReply, Acks, AcksBy, AcksFront, AcksIn, is_front_of, issuable, issuable_front, issuable_in, issuable_of, ok_line, refusal_line, BootBegins, Does, Knows, TurnMoment, Turned}
 use Rattle.mdv_run_law.specs.Standing.{AsksBy, AreIdle, AreOfLine, ComeOf, context_of, HasEntries, InWork, IsWanting, NothingLeft, AreReplies, behind, LinesMoment, RanTo}
 use Rattle.mdv_run_law.proofs.Coming.{behind_none, no_ok, in_work_none, come_line, come_long}
 use Rattle.mdv_shelf.proofs.Moments.{some_is}
@@ -34,13 +34,18 @@ went_on host ask t none h (inr went) = went
 pub nothing_met : (host : Host) (t : Tale) → MeetsNone host Nothing t
 nothing_met host t h met = met
 
+-- nor does a change of volumes
+change_met : (host : Host) (change : Option PlanChange) (t : Tale) → MeetsNone host (change_asked host change) t
+change_met host None t h met = met
+change_met host (Some change) t h met = met
+
 pub command_met : (host : Host) (command : Command) (t : Tale) → MeetsNone host (asked_by host command) t
 command_met host (AddPlaces slices force count blocks) t h met = met
 command_met host (AddListed number force) t h met = met
 command_met host (DropPlaces slices force) t h met = met
-command_met host (MakeStripe volume slice) t h met = met
+command_met host (Alter alteration) t h met = change_met host (change_of alteration) t h met
 command_met host (Read volume at count) t h met = met
-command_met host (Write volume at block) t h met = met
+command_met host (Write volume at what) t h met = met
 command_met host (Print names) t h met = met
 
 -- one turn, told by the script before it

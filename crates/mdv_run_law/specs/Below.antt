@@ -14,13 +14,14 @@ pub use Rattle.mdv_base.specs.declared.refusal.Refusal.TheVariants.{OutOfMemory,
 pub use Rattle.mdv_base.specs.declared.refusal.Refusal.TheVariants.{TooMany, WrongState}
 pub use Rattle.mdv_base.specs.declared.state_word.StateWord.{StateWord}
 pub use Rattle.mdv_base.specs.DriveSet.{Drives}
+pub use Rattle.mdv_engine_law.specs.Altering.{change_of, table_by}
 pub use Rattle.mdv_engine_law.specs.Awake.{Happening, BootBegins, IsAwakeAt}
 pub use Rattle.mdv_engine_law.specs.Hosts.{StaysHome, host_area, identity_of, key_of}
 pub use Rattle.mdv_engine_law.specs.Commands.{CameTo, ComesTo}
 pub use Rattle.mdv_engine_law.specs.Line.{ArePut, AreSeen, HasBlocks}
 pub use Rattle.mdv_engine_law.specs.Line.{HasNoTableOn, IsCommitted, IsCreated}
 pub use Rattle.mdv_engine_law.specs.Line.{IsRebooted, IsSame, IsSameBeside, IsTurnedDown, Kept}
-pub use Rattle.mdv_engine_law.specs.Line.{Ask, Memory, Nothing, Stays, ToBoot, ToDo, ToMake, ToMakeListed, ToSee, asked_by, asked_by_line, contents}
+pub use Rattle.mdv_engine_law.specs.Line.{Ask, Memory, Nothing, Stays, ToBoot, ToDo, ToMake, ToMakeListed, ToSee, asked_by, asked_by_line, change_asked, contents}
 pub use Rattle.mdv_engine_law.specs.Line.{kept_at, record_room, unbooted}
 pub use Rattle.mdv_engine_law.specs.Replies.{Acks, AcksBy, AcksFront, AcksIn, IsFront, IsPlain, IsRefusal, IsPlainAnswer, IsReplied, IsReply, IsTold, is_front_of, issuable, issuable_front, issuable_in, issuable_of}
 pub use Rattle.mdv_engine_law.specs.Replies.{ok_line, refusal_line}
@@ -39,7 +40,7 @@ pub use Rattle.mdv_name.specs.declared.geometry.Geometry.{Geometry}
 pub use Rattle.mdv_name.specs.declared.slice_lines.SliceAt.{SliceAt}
 pub use Rattle.mdv_name.specs.declared.slice_lines.SliceLine.{SliceLine}
 pub use Rattle.mdv_port.specs.Script.{Script, at_end, line, spent, too_long}
-pub use Rattle.mdv_record.specs.Text.{record_text}
+pub use Rattle.mdv_encoding.specs.Text.{record_bytes, record_text}
 pub use Rattle.mdv_replica.specs.Form.{shows}
 pub use Rattle.mdv_replica.specs.declared.replica.Head.{Head}
 pub use Rattle.mdv_replica.specs.declared.replica.Slot.{Slot}
@@ -61,23 +62,22 @@ pub use Rattle.mdv_store_law.specs.Changes.{Change}
 pub use Rattle.mdv_store_law.specs.Log.{AreMade, Extends, IsLog, Log, Version, answered, empty_log, is_firm, with_asked}
 pub use Rattle.mdv_tab.specs.Text.{IsTab}
 pub use Rattle.mdv_tab.specs.declared.entry.Entry.{Entry}
-pub use Rattle.mdv_table.specs.Slices.{HasBlock, IsSound}
-pub use Rattle.mdv_table.specs.Table.{IsComponentOn, IsKindOf, IsPlanOf, IsWholeSlice}
-pub use Rattle.mdv_table.specs.Volume.{stripe_on}
-pub use Rattle.mdv_table.specs.Volumes.{HasVolume, IsAscending, with_volume}
-pub use Rattle.mdv_table.specs.declared.plan.Plan.{Plan}
-pub use Rattle.mdv_table.specs.declared.table.Table.{Table}
-pub use Rattle.mdv_table.specs.declared.volume.Base.{Base}
-pub use Rattle.mdv_table.specs.declared.volume.Base.TheVariants.{Slice}
-pub use Rattle.mdv_table.specs.declared.volume.Component.{Component}
-pub use Rattle.mdv_table.specs.declared.volume.Volume.{Volume}
-pub use Rattle.mdv_table.specs.declared.volume.VolumeKind.{VolumeKind}
-pub use Rattle.mdv_table.specs.declared.volume.VolumeKind.TheVariants.{Stripe}
+pub use Rattle.mdv_change.specs.declared.change.Change.{Change as PlanChange}
+pub use Rattle.mdv_config.specs.Slices.{HasBlock, IsSound}
+pub use Rattle.mdv_config.specs.Table.{IsKindOf, IsOfGeometry}
+pub use Rattle.mdv_plan.specs.declared.plan.Plan.{Plan}
+pub use Rattle.mdv_plan.specs.declared.table.Table.{Table}
+pub use Rattle.mdv_plan.specs.declared.volume.Base.{Base}
+pub use Rattle.mdv_plan.specs.declared.volume.Base.TheVariants.{Slice}
+pub use Rattle.mdv_plan.specs.declared.volume.Component.{Component}
+pub use Rattle.mdv_plan.specs.declared.volume.Volume.{Volume}
+pub use Rattle.mdv_plan.specs.declared.volume.VolumeKind.{VolumeKind}
+pub use Rattle.mdv_plan.specs.declared.volume.VolumeKind.TheVariants.{Stripe}
 pub use Rattle.mdv_volumes.specs.Databases.{Database, log_of, same_key}
 pub use Rattle.mdv_volumes.specs.Happening.{IsCourse, IsNamed, MayHappen, issued_by, told_by}
 pub use Rattle.mdv_volumes.specs.History.{Acknowledges, Changed, Crashes, Created, Deed, Deleted, Deletes, Event, History, Saw, Stops, Wrote, history_after, history_after_all}
 pub use Rattle.mdv_volumes.specs.HistoryLaws.{Lasts, new_history}
-pub use Rattle.mdv_words.specs.Line.{Boot, IsCommand, IsInForm, IsLine, Line, Tab}
+pub use Rattle.mdv_words.specs.Line.{Boot, IsCommand, IsInForm, IsLine, Line, Tab, blocks_of}
 pub use Rattle.mdv_words.specs.declared.command.Command.{Command}
-pub use Rattle.mdv_words.specs.declared.command.Command.TheVariants.{AddListed, AddPlaces, DropPlaces, MakeStripe, Print, Read, Write}
+pub use Rattle.mdv_words.specs.declared.command.Command.TheVariants.{AddListed, AddPlaces, Alter, DropPlaces, Print, Read, Write}
 pub use Rattle.mdv_words.specs.Listed.{AreInForm, Replicas, listed_by, meant}

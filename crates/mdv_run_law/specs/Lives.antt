@@ -10,7 +10,7 @@ use Rattle.mdv_survey.specs.Choice.{IsChoice}
 use Rattle.mdv_survey.specs.Survey.{IsSurvey, IsSurveyOf, answers_in}
 use Rattle.mdv_survey.specs.declared.choosing.Choice.TheVariants as chosen
 use Rattle.mdv_survey.specs.declared.replica.Survey.{Survey}
-use Rattle.mdv_table.specs.declared.change.Change.{Change as PlanChange}
+use Rattle.mdv_change.specs.declared.change.Change.{Change as PlanChange}
 use Rattle.mdv_volumes.specs.HistoryLaws.{database_deeds}
 use Rattle.mdv_volumes.specs.Standing.{LeavesNoMore}
 use Rattle.mdv_run_law.specs.Run.{IsOfTable}

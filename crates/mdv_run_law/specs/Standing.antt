@@ -188,7 +188,7 @@ pub record ShowsMade (host : Host) (t : Tale) : Type 0 where
 -- by the events of the boot and of the lines so far, in their order; each line's events begin what it asks only where it was answered
 -- `ok`, or that a call failed, or where no more of its reply was told than a front of one of these, and tell exactly what its reply
 -- acknowledges: a deed where it is `ok`, and of a read the values that it tells, each of which its block may have. Blocks of a volume are read and written only
--- where the last boot in the history, if it brought up the volume's drives, has found one value of each, or the volume was made since. Where a creation was told, and no end of the host's database may have begun in the run, whatever a crash leaves shows a table of
+-- where the last boot in the history, if it brought up the volume's drives and each is steady since, has found one value of each, or the volume was made since. Where a creation was told, and no end of the host's database may have begun in the run, whatever a crash leaves shows a table of
 -- it, if the drives stood with some such history. The histories are of the host's own databases, none of which has the word of this run as it begins.
 pub record RunMoment (host : Host) (script : Script) (t m : Tale) : Type 0 where
   pub bytes : List ℕ

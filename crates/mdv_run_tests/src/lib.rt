@@ -45,6 +45,10 @@ mod status_tests;
 #[cfg(test)]
 mod story;
 #[cfg(test)]
+mod stripes;
+#[cfg(test)]
+mod stripes_tests;
+#[cfg(test)]
 mod tab_tests;
 #[cfg(test)]
 mod torn_tests;

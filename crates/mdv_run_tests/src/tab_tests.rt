@@ -218,9 +218,8 @@ const UNBUILT: &[&str] = &[
     "metainit -a",
     "metainit d1",
     "metainit hsp001 c0t0d0s1",
-    "metainit d1 2 1 c0t0d0s1 1 c0t1d0s0",
-    "metainit d1 1 2 c0t0d0s1 c0t1d0s0",
-    "metainit d1 1 1 c0t0d0s1 -i 16b",
+    "metainit d1 2 1 c0t0d0s1 1 d0",
+    "metainit d1 1 2 c0t0d0s1 d0",
     "metainit d1 1 1 c0t0d0s1 -h hsp001",
     "metainit d1 1 1 d0",
     "metainit d1 -m d0",
@@ -244,7 +243,7 @@ const UNBUILT: &[&str] = &[
     "metaset -s blue -a -h alpha",
     "read blue/d0 0 1",
     "write blue/d0 0 ab",
-    "fill d0 0 1 ab",
+    "fill blue/d0 0 1 ab",
     "idle 1",
 ];
 

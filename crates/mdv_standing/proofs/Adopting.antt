@@ -13,7 +13,7 @@ use Rattle.mdv_shown.specs.Steps.{claim_at}
 use Rattle.mdv_shown.specs.Worlds.{IsClaimable}
 use Rattle.mdv_shown.proofs.Choice.{chosen_voted, enough, greatest_is}
 use Rattle.mdv_shown.proofs.Worlds.{claim_ends, claim_goes}
-use Rattle.mdv_table.specs.Plan.{places_of}
+use Rattle.mdv_config.specs.Lists.{places_of}
 use Rattle.mdv_standing.specs.Below.{IsBelow, Identity, Mark, Geometry, SliceLine, Master, Head, Place, Slot, Seen, HaveRead, IsChosen, greatest_seen, spot_seen, spots_seen, Site, place_on, spot_on, Claims, MayClaim, Image, Core, Stage, Claiming, Claimed, Slotted, LeftClosed, Log, MayHappen, Version, WritesLog, log_after, Table, FamilyTable, Spot, SpotLists, covers, is_claimed, is_in, is_majority, is_named, is_none, is_read, knows_above, last_list, no_table, place_at, table_at, Shows}
 use Rattle.mdv_standing.specs.Listed.{HasPlace, HavePlaces, IsShut}
 use Rattle.mdv_standing.specs.Matching.{HasStaleVote, IsVersionAt, by_majority_of, is_set, lists_of, spot_floor, tables_of, version_at}

@@ -4,7 +4,7 @@ use Rattle.std.proofs.lemmas.List.Elements.{All-cons}
 use Rattle.mdv_shown.proofs.Slots.{never_below}
 use Rattle.mdv_store_law.specs.Anew.{IsAnew}
 use Rattle.mdv_store_law.specs.Log.{IsNotOlder, IsRising}
-use Rattle.mdv_table.specs.Plan.{places_of}
+use Rattle.mdv_config.specs.Lists.{places_of}
 use Rattle.mdv_standing.specs.Below.{Identity, Image, IsBelow, Lists, Log, Place, Site, Table, Version}
 use Rattle.mdv_standing.specs.Listed.{HasPlace, HavePlaces}
 

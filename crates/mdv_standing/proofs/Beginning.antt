@@ -5,7 +5,7 @@ use Rattle.mdv_quorum.specs.May.{may}
 use Rattle.mdv_quorum.specs.Standing.{ArePlaced}
 use Rattle.mdv_quorum.specs.World.{happens, settled, with_table}
 use Rattle.mdv_shown.proofs.Worlds.{begun_shows}
-use Rattle.mdv_table.specs.Plan.{places_of}
+use Rattle.mdv_config.specs.Lists.{places_of}
 use Rattle.mdv_standing.specs.Below.{Core, FamilyTable, Identity, Image, LeftClosed, Lives, Log, Place, Shows, Site, Slotted, Spot, Table, Version, Writing, is_in, is_written, last_list, last_table, table_at}
 use Rattle.mdv_standing.specs.Listed.{HasPlace, HavePlaces}
 use Rattle.mdv_standing.specs.Matching.{IsVersionAt, Matches, tables_of}

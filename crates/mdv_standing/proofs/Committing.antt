@@ -12,8 +12,8 @@ use Rattle.mdv_quorum.specs.Standing.{BootsAt, IsLastFirm}
 use Rattle.mdv_quorum.specs.World.{changed, happens, lists_at}
 use Rattle.mdv_shown.proofs.Slots.{never_below}
 use Rattle.mdv_store_law.specs.Log.{IsMade, with_asked}
-use Rattle.mdv_table.specs.Plan.{beside, places_of}
-use Rattle.mdv_table.proofs.Settled.{all_of_last}
+use Rattle.mdv_config.specs.Lists.{beside, places_of}
+use Rattle.mdv_config.proofs.Settled.{all_of_last}
 use Rattle.mdv_standing.specs.Below.{Change, Core, FamilyTable, Geometry, Identity, Image, IsBelow, LeftClosed, Lists, Log, Mark, MayHappen, NextLists, One, Two, Place, Ready, Site, Slotted, Spot, SpotLists, Stage, Table, Version, WritesLog, is_named, is_none, last_list, last_number, last_of, last_table, log_after, place_at, slice_at, table_at}
 use Rattle.mdv_standing.specs.Listed.{HasPlace, HavePlaces}
 use Rattle.mdv_standing.specs.Matching.{IsVersionAt, Matches, Reached, lists_of, spot_in, spots_in, spots_of, version_at}

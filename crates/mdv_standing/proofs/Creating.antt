@@ -20,7 +20,7 @@ use Rattle.mdv_shown.specs.Wipes.{spots_behind, wiped_all}
 use Rattle.mdv_shown.proofs.Elsewhere.{places_step}
 use Rattle.mdv_shown.proofs.Formatting.{first_ends, first_goes, later_ends, later_goes}
 use Rattle.mdv_shown.proofs.Wiped.{IsFrom, IsWiped, all_wiped, in_from}
-use Rattle.mdv_store_law.specs.Log.{HasOneList, IsAbove as IsAboveAll, IsNotOver}
+use Rattle.mdv_store_law.specs.Log.{IsAbove as IsAboveAll, IsEmpty, IsNotOver}
 use Rattle.mdv_standing.specs.Below.{Core, Creating, FamilyTable, FirstIs, Formatted, Formats, Geometry, HasFirst, Head, Identity, Image, IsBelow, IsInChain, LeftClosed, Lists, Log, Mark, Master, MayFormat, MayHappen, NextLists, Shows, Site, SliceLine, Slotted, Spot, SpotLists, Stage, Table, Version, WritesLog, after_all, is_in, is_named, is_none, log_after, master_on, place_at, place_on, spot_on, start}
 use Rattle.mdv_standing.specs.Laws.{HasNone}
 use Rattle.mdv_standing.specs.Matching.{IsVersionAt, Matches, is_set, spot_floor, spots_of, tables_of}
@@ -375,10 +375,10 @@ module _ (Spells : List ℕ → Table → Type 0) (site : Site) (identity : Iden
         };
       }
 
-pub may_write_first : (g : Geometry) (identity : Identity) (log : Log) (table : Table) → log.issued ≡ Some identity → log.family ≡ [] → IsNotOver log.fate → table.plan.volumes ≡ [] → HasOneList table → MayHappen g log (WritesLog first_mark None [] table)
-may_write_first g identity log table issued empty there none one = (
-  (subst (λ (l : List Version). IsAboveAll first_mark l) (sym empty) (All-nil (λ (x : Version). IsBelow x.mark first_mark)), there),
-  inl (record { begun = (identity, issued); none = empty; unasked = refl; unchanged = refl; empty = none; one = one }),
+pub may_write_first : (g : Geometry) (identity : Identity) (log : Log) (table : Table) → log.issued ≡ Some identity → log.family ≡ [] → IsNotOver log.fate → IsEmpty table → MayHappen g log (WritesLog first_mark None [] table)
+may_write_first g identity log table issued none there empty = (
+  (subst (λ (l : List Version). IsAboveAll first_mark l) (sym none) (All-nil (λ (x : Version). IsBelow x.mark first_mark)), there),
+  inl (record { begun = (identity, issued); none = none; unasked = refl; unchanged = refl; empty = empty }),
 )
 
 -- The first table begins to be written.

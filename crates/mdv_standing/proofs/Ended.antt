@@ -1,5 +1,5 @@
 -- A database whose only place was blanked: its last table is firm, and that place, which alone it lists, holds nothing.
-use Rattle.std.proofs.Common.{◌≡◌, inl, inr, ℕ, ◌-◌, ◌<◌, ◌&&◌, ◌||◌, Bool, true, false, cond, List, [], ◌∷◌, length, not, Option, None, Some, Contains, refl, sym, ◌∙◌, ap, subst}
+use Rattle.std.proofs.Common.{◌≡◌, inl, inr, ℕ, ◌-◌, ◌<◌, ◌||◌, Bool, true, false, cond, List, [], ◌∷◌, length, not, Option, None, Some, Contains, refl, sym, ◌∙◌, ap, subst}
 use Rattle.std.proofs.lemmas.Bool.{and_parts, false_from_ne_true, false≢true, or_cases, or_left}
 use Rattle.std.proofs.lemmas.List.Elements.{All-contains, All-head}
 use Rattle.mdv_quorum.specs.May.{IsReady, MayAll, is_firm_in, is_only, is_only_place, is_single, may, may_wipe}
@@ -9,12 +9,12 @@ use Rattle.mdv_quorum.specs.declared.event.Event.TheVariants as event
 use Rattle.mdv_quorum.specs.declared.event.SlotEnd.{SlotEnd}
 use Rattle.mdv_shown.proofs.Wiped.{all_wiped}
 use Rattle.mdv_store_law.proofs.Families.{contains_cases}
-use Rattle.mdv_store_law.specs.Log.{IsAbove, IsNotOlder, IsRising}
+use Rattle.mdv_store_law.specs.Log.{IsNotOlder, IsRising}
 use Rattle.mdv_votes.proofs.Meeting.{same_is, same_self}
 use Rattle.mdv_votes.proofs.PlacesAt.{put_cases}
 use Rattle.mdv_votes.specs.Family.{change_at, put_at, with_claim, wiped}
 use Rattle.mdv_votes.specs.Spots.{in_second}
-use Rattle.mdv_standing.specs.Below.{Claiming, Core, Creating, Event, FamilyTable, Head, Identity, Image, IsBelow, IsOwn, Log, Master, Over, Reading, Ready, Site, SliceLine, Spot, SpotLists, Stage, Table, Version, Writing, after_all, is_in, is_named, is_written, last_table, place_at, same_spot, spot_on, start, table_at}
+use Rattle.mdv_standing.specs.Below.{Claiming, Core, Creating, Event, FamilyTable, Identity, Image, IsBelow, Log, Over, Reading, Ready, Site, SliceLine, Spot, SpotLists, Stage, Table, Version, Writing, after_all, is_in, is_named, is_written, last_table, place_at, same_spot, spot_on, start, table_at}
 use Rattle.mdv_standing.specs.Matching.{Reached, is_set, lists_of}
 use Rattle.mdv_standing.specs.Others.{IsLoose}
 use Rattle.mdv_standing.specs.Worlds.{IsWorld}

@@ -3,7 +3,7 @@ use Rattle.std.proofs.Common.{◌≡◌, ℕ, false, true, List, [], ◌∷◌, 
 use Rattle.mdv_quorum.specs.Standing.{BootsAt}
 use Rattle.mdv_shelf.specs.Tale.{last}
 use Rattle.mdv_shelf.proofs.Everywhere.{last_image}
-use Rattle.mdv_store_law.specs.Log.{HasOneList, IsNotOver}
+use Rattle.mdv_store_law.specs.Log.{IsEmpty, IsNotOver}
 use Rattle.mdv_standing.specs.Below.{Core, Everywhere, FirstIs, Formats, Geometry, Identity, Image, IsImage, Leaves, Lists, Log, Master, MayFormat, Site, SliceLine, Spot, Table, Tale, after_all, is_in, is_named, is_none, master_on, place_on, spot_on}
 use Rattle.mdv_standing.specs.Creating.{AreAllPlaced, IsCreating, IsFormatting, first_mark, issued_log}
 use Rattle.mdv_standing.specs.Forming.{IsBehind, IsForming, IsToFormat}
@@ -73,11 +73,11 @@ module _ (Spells : List ℕ → Table → Type 0) (site : Site) (identity : Iden
       let w = forming.each (last t) (last_image t) in
       not_over site log w.0 w.1.matches (subst (BootsAt w.0) w.2.stage (standing site w.0 w.1.reached).boots)
 
-  pub all_formed : (g : Geometry) (log : Log) (t : Tale) (p : Spot) (table : Table) (done : List Spot) → table.plan.volumes ≡ [] → HasOneList table → is_none (spots_of site table.plan.lists).first ≡ false → is_in done p ≡ true → is_named (spots_of site table.plan.lists) p ≡ true
+  pub all_formed : (g : Geometry) (log : Log) (t : Tale) (p : Spot) (table : Table) (done : List Spot) → IsEmpty table → is_none (spots_of site table.plan.lists).first ≡ false → is_in done p ≡ true → is_named (spots_of site table.plan.lists) p ≡ true
       → Everywhere (AreAllPlaced Spells site identity table.plan.lists) t → IsForming Spells site identity log t table.plan.lists done → Begins Spells g site identity false log t first_mark None table
-  all_formed g log t p table done none one some has named formed forming = record {
+  all_formed g log t p table done none some has named formed forming = record {
     before = [];
-    may = may_write_first g identity log table forming.issued forming.empty (forming_there log t table.plan.lists done forming) none one;
+    may = may_write_first g identity log table forming.issued forming.empty (forming_there log t table.plan.lists done forming) none;
     writing = record {
       newest = record { version = _; older = log.family; family = refl; marked = refl; same = refl };
       each = λ image is.

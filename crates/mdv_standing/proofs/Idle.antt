@@ -10,7 +10,7 @@ use Rattle.mdv_shown.specs.Site.{line_area}
 use Rattle.mdv_shown.specs.Wipes.{wiped_all}
 use Rattle.mdv_shown.proofs.Elsewhere.{found_kept}
 use Rattle.mdv_shown.proofs.Wiped.{IsWiped, all_wiped}
-use Rattle.mdv_table.specs.Plan.{beside, places_of}
+use Rattle.mdv_config.specs.Lists.{beside, places_of}
 use Rattle.mdv_votes.specs.Family.{change_at, wiped}
 use Rattle.mdv_votes.specs.Spots.{in_second}
 use Rattle.mdv_votes.proofs.Meeting.{same_self}

@@ -13,7 +13,7 @@ use Rattle.mdv_shown.proofs.Framed.{found_same}
 use Rattle.mdv_shown.proofs.Kept.{IsRewrite, claim_rewrites, claims_still, closed_rewrites, filled_rewrites, slots_still}
 use Rattle.mdv_shown.proofs.Rewritten.{own_new}
 use Rattle.mdv_store_law.specs.Log.{IsNotOlder, IsNotOver, answered}
-use Rattle.mdv_table.specs.Plan.{places_of}
+use Rattle.mdv_config.specs.Lists.{places_of}
 use Rattle.mdv_standing.specs.Below.{Claiming, Core, Creating, IsBelow, Ready, Writing, Claims, FirstIs, Head, Identity, Image, IsOwn, IsSite, IsTable, Key, Log, Mark, Master, MayClaim, MayFill, Place, PlaceAt, Reading, Site, SliceLine, Slot, Spot, Stage, Table, Version, place_on, site_area}
 use Rattle.mdv_standing.specs.Listed.{HasPlace, HavePlaces, IsShut}
 use Rattle.mdv_standing.specs.Matching.{LiesOn, Matches, Reached}

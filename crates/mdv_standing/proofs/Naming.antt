@@ -6,7 +6,7 @@ use Rattle.mdv_shown.specs.Site.{line_area}
 use Rattle.mdv_shown.specs.Wipes.{HasFirst}
 use Rattle.mdv_shown.proofs.Elsewhere.{places_step, range_has}
 use Rattle.mdv_shown.proofs.Wiped.{in_from}
-use Rattle.mdv_table.specs.Plan.{first_of, last_of}
+use Rattle.mdv_config.specs.Lists.{first_of, last_of}
 use Rattle.mdv_votes.specs.Spots.{in_second}
 use Rattle.mdv_votes.proofs.Meeting.{same_is}
 use Rattle.mdv_standing.specs.Below.{Image, IsSite, Lists, Master, One, Place, Site, SliceAt, SliceLine, Spot, Two, Version, is_in, is_named, same_spot, slice_at}

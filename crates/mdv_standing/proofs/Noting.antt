@@ -9,8 +9,8 @@ use Rattle.mdv_name.specs.SliceIndex.{same_slice}
 use Rattle.mdv_shown.specs.Site.{line_area}
 use Rattle.mdv_shown.proofs.Elsewhere.{range_has}
 use Rattle.mdv_store_law.specs.Log.{Again, Clearing, Gone, Placing, begins_in, is_firm, placed_again, since_of}
-use Rattle.mdv_table.specs.Plan.{places_of}
-use Rattle.mdv_table.proofs.Settled.{all_of_last}
+use Rattle.mdv_config.specs.Lists.{places_of}
+use Rattle.mdv_config.proofs.Settled.{all_of_last}
 use Rattle.mdv_votes.proofs.Meeting.{same_is, same_self}
 use Rattle.mdv_standing.specs.Below.{Core, Ends, Identity, Image, IsSite, Lists, Lives, Log, One, Over, Place, Since, Site, SliceAt, SliceLine, Spot, Table, Two, Version, is_in, last_list, last_of, log_after, place_on, raised, same_spot, since_after, slice_at, spot_on}
 use Rattle.mdv_standing.specs.Laws.{ShowsNoTable}

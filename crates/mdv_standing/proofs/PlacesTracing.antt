@@ -1,5 +1,5 @@
 -- The same in each world, with the events of each call, while places are blanked and formatted again, and while a database is deleted.
-use Rattle.std.proofs.Common.{Contains, None, ◌*◌, ◌≡◌, ◌⊎◌, ℕ, ◌+◌, ◌<◌, ◌^◌, true, List, [], refl, sym, subst, Option}
+use Rattle.std.proofs.Common.{Contains, None, ◌*◌, ◌≡◌, ◌⊎◌, ℕ, ◌+◌, ◌<◌, ◌^◌, true, List, [], refl, Option}
 use Rattle.mdv_replica.specs.Images.{Wipes}
 use Rattle.mdv_shelf.proofs.Everywhere.{last_image}
 use Rattle.mdv_shelf.specs.Tale.{last}
@@ -7,10 +7,10 @@ use Rattle.mdv_shown.specs.Formats.{lost_beside, lost_with}
 use Rattle.mdv_shown.specs.Wipes.{spots_behind, wiped_all}
 use Rattle.mdv_shown.proofs.Slots.{OneTable}
 use Rattle.mdv_store_law.specs.Log.{Clearing, Gone, IsLog, Placing, is_firm}
-use Rattle.mdv_standing.specs.Below.{Reads, Core, Everywhere, FirstIs, Formats, Geometry, Identity, Image, IsChosen, IsImage, IsSite, Leaves, Log, Mark, Master, MayFormat, MayWipe, Over, Place, Seen, Site, SliceLine, Slot, Spot, Table, Tale, Version, after_all, covers, greatest_seen, is_in, is_majority, log_after, master_on, place_on, spot_on, spots_seen}
+use Rattle.mdv_standing.specs.Below.{Reads, Core, Everywhere, FirstIs, Formats, Geometry, Identity, Image, IsImage, IsSite, Leaves, Log, Mark, Master, MayFormat, MayWipe, Over, Place, Seen, Site, SliceLine, Slot, Spot, Table, Tale, Version, greatest_seen, log_after, master_on, place_on, spot_on}
 use Rattle.mdv_standing.specs.Forming.{IsBehind}
 use Rattle.mdv_standing.specs.Laws.{ShowsNoTable}
-use Rattle.mdv_standing.specs.Matching.{HasStaleVote, IsDeleted, spots_of}
+use Rattle.mdv_standing.specs.Matching.{HasStaleVote, IsDeleted}
 use Rattle.mdv_standing.specs.Others.{Anything}
 use Rattle.mdv_standing.specs.Placing.{AreWipedOrNone, IsAdded, IsAdding, IsBare, IsEnding, IsIdle, IsUnlisted}
 use Rattle.mdv_standing.specs.PlacesTracing.{IsAnswered, IsToAdd, IsToEnd}

@@ -7,7 +7,7 @@ use Rattle.mdv_votes.specs.Spots.{same_spot}
 use Rattle.mdv_votes.specs.declared.version.SpotState.{SpotState}
 use Rattle.mdv_votes.proofs.Growing.{writes_grow}
 use Rattle.mdv_votes.proofs.PlacesAt.{put_cases}
-use Rattle.mdv_table.specs.Plan.{places_of}
+use Rattle.mdv_config.specs.Lists.{places_of}
 use Rattle.mdv_quorum.specs.May.{IsReady, may, may_slot, may_tell}
 use Rattle.mdv_quorum.specs.Standing.{ArePlaced, IsLastFirm, Standing}
 use Rattle.mdv_quorum.specs.World.{happens, settled, slotted, told_at, told_of}

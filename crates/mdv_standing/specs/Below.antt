@@ -40,10 +40,10 @@ pub use Rattle.mdv_shown.specs.declared.site.Site.{Site}
 pub use Rattle.mdv_shown.specs.Steps.{IsAbove, IsBodyOf, last_number}
 pub use Rattle.mdv_store_law.specs.Changes.{Change}
 pub use Rattle.mdv_store_law.specs.Log.{Again, Ends, Lives, Log, MayHappen, Over, Version, Writing as WritesLog, Written, log_after}
-pub use Rattle.mdv_table.specs.Plan.{last_of}
-pub use Rattle.mdv_table.specs.declared.plan.Lists.{Lists}
-pub use Rattle.mdv_table.specs.declared.plan.Lists.TheVariants.{One, Two}
-pub use Rattle.mdv_table.specs.declared.table.Table.{Table}
+pub use Rattle.mdv_config.specs.Lists.{last_of}
+pub use Rattle.mdv_plan.specs.declared.lists.Lists.{Lists}
+pub use Rattle.mdv_plan.specs.declared.lists.Lists.TheVariants.{One, Two}
+pub use Rattle.mdv_plan.specs.declared.table.Table.{Table}
 pub use Rattle.mdv_votes.specs.Family.{greatest_of, knows_above, newest_of, no_table, place_at, raised, since_after, table_at}
 pub use Rattle.mdv_votes.specs.Laws.{IsWithin}
 pub use Rattle.mdv_votes.specs.Quorum.{is_claimed, is_read, is_written}

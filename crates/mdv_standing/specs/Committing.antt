@@ -2,7 +2,7 @@
 use Rattle.std.specs.Prelude.{◌≡◌, ◌⊎◌, ℕ, ◌+◌, ◌<◌, ◌^◌, true, false, List, [], ◌∷◌, Option, Contains, IsTrue}
 use Rattle.mdv_store_law.specs.Log.{IsMade}
 use Rattle.mdv_standing.specs.Below.{Change, Core, Geometry, Identity, Image, IsOwnAt, LeftClosed, Lists, Log, Mark, MayHappen, NextLists, One, Place, Two, Reads, Site, Slotted, Spot, Table, Version, WritesLog, is_named, last_of, log_after}
-use Rattle.mdv_table.specs.Plan.{beside}
+use Rattle.mdv_config.specs.Lists.{beside}
 use Rattle.mdv_standing.specs.Listed.{HasPlace}
 use Rattle.mdv_standing.specs.Matching.{spots_of}
 use Rattle.mdv_standing.specs.Worlds.{IsReadyWith, IsTaking, IsWorld, Turned}

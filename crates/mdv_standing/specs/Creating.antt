@@ -1,8 +1,8 @@
 -- How a database's worlds and its log go on while it is created.
 use Rattle.std.specs.Prelude.{◌≡◌, ◌⊎◌, ℕ, ◌+◌, ◌*◌, ◌<◌, ◌≤◌, true, false, List, [], ◌∷◌, Option, Some, None, Contains, IsTrue}
-use Rattle.mdv_store_law.specs.Log.{HasOneList, IsNotOver, Issued, empty_log}
+use Rattle.mdv_store_law.specs.Log.{IsEmpty, IsNotOver, Issued, empty_log}
 use Rattle.mdv_standing.specs.Below.{Core, Creating, FamilyTable, FirstIs, Formatted, Formats, Geometry, HasFirst, Head, Identity, Image, IsFormat, IsInChain, LeftClosed, Lists, Log, Mark, Master, MayFormat, MayHappen, NextLists, Place, Reads, Site, SliceLine, Slotted, Spot, SpotLists, Table, WritesLog, is_in, is_named, is_none, log_after, master_on, place_at, place_on, spot_on, start}
-use Rattle.mdv_table.specs.Plan.{places_of}
+use Rattle.mdv_config.specs.Lists.{places_of}
 use Rattle.mdv_standing.specs.Laws.{HasNone}
 use Rattle.mdv_standing.specs.Listed.{HasPlace}
 use Rattle.mdv_standing.specs.Matching.{is_set, spots_of}
@@ -70,8 +70,8 @@ pub record CreationsGo : Type 0 where
       → 0 < k → IsFormatting (Reads read) site identity log w old line first.blocks first.count k lists done → HasFirst site old line first
       → ((j : ℕ) → j < k → (h : Head) × IsInChain (Reads read) site line j (old line.at.drive.0) first h) → Formats (place_on line first.blocks first.count k) (master_on site identity line first.blocks first.count k) 1 old new
       → Turned (Reads read) site identity log w new (λ es. es ≡ Formatted (spot_on line first.blocks k) ∷ []) (IsCreating (spots_of site lists) (spot_on line first.blocks k ∷ done))
-  -- once each of its places was formatted the first table may be written, which has one list of places and no volumes
-  pub may : (g : Geometry) (identity : Identity) (log : Log) (table : Table) → log.issued ≡ Some identity → log.family ≡ [] → IsNotOver log.fate → table.plan.volumes ≡ [] → HasOneList table → MayHappen g log (WritesLog first_mark None [] table)
+  -- once each of its places was formatted the first table may be written, which has one list of places and nothing else
+  pub may : (g : Geometry) (identity : Identity) (log : Log) (table : Table) → log.issued ≡ Some identity → log.family ≡ [] → IsNotOver log.fate → IsEmpty table → MayHappen g log (WritesLog first_mark None [] table)
   -- and so it begins to be; from then on slots take it, and it is answered
   pub writes : (read : List ℕ → Option Table) (site : Site) (identity : Identity) (log : Log) (w : Core) (image : Image) (p : Spot) (table : Table) (done : List Spot)
       → IsCreation (Reads read) site identity log w image table.plan.lists done → is_none (spots_of site table.plan.lists).first ≡ false → IsTrue (is_in done p) → IsTrue (is_named (spots_of site table.plan.lists) p)

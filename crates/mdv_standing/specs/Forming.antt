@@ -1,6 +1,6 @@
 -- The same while a database is created.
 use Rattle.std.specs.Prelude.{◌≡◌, ℕ, ◌+◌, ◌*◌, ◌<◌, ◌≤◌, false, List, [], ◌∷◌, Option, Some, None, IsTrue}
-use Rattle.mdv_store_law.specs.Log.{HasOneList}
+use Rattle.mdv_store_law.specs.Log.{IsEmpty}
 use Rattle.mdv_standing.specs.Below.{Everywhere, FirstIs, Formats, Geometry, HasFirst, Head, Identity, IsFormat, IsInChain, Leaves, Lists, Log, Master, MayFormat, Reads, Site, SliceLine, Spot, Table, Tale, is_in, is_named, is_none, master_on, place_on, spot_on}
 use Rattle.mdv_standing.specs.Creating.{AreAllPlaced, IsCreating, first_mark, issued_log}
 use Rattle.mdv_standing.specs.Laws.{HasNone}
@@ -43,7 +43,7 @@ pub record CreationsTurn : Type 0 where
   pub later_formatted : (read : List ℕ → Option Table) (site : Site) (identity : Identity) (log : Log) (t m : Tale) (line : SliceLine) (k : ℕ) (first : Master) (lists : Lists) (done : List Spot)
       → IsToFormat site identity t line first.blocks first.count k lists done → IsBehind (Reads read) site t line k first → IsForming (Reads read) site identity log t lists done
       → Leaves (Formats (place_on line first.blocks first.count k) (master_on site identity line first.blocks first.count k) 1) t m → IsForming (Reads read) site identity log m lists (spot_on line first.blocks k ∷ done)
-  -- once each place of the first table was formatted it begins to be written, which has one list of places and no volumes
-  pub writes : (read : List ℕ → Option Table) (g : Geometry) (site : Site) (identity : Identity) (log : Log) (t : Tale) (p : Spot) (table : Table) (done : List Spot) → table.plan.volumes ≡ [] → HasOneList table → is_none (spots_of site table.plan.lists).first ≡ false
+  -- once each place of the first table was formatted it begins to be written, which has one list of places and nothing else
+  pub writes : (read : List ℕ → Option Table) (g : Geometry) (site : Site) (identity : Identity) (log : Log) (t : Tale) (p : Spot) (table : Table) (done : List Spot) → IsEmpty table → is_none (spots_of site table.plan.lists).first ≡ false
       → IsTrue (is_in done p) → IsTrue (is_named (spots_of site table.plan.lists) p) → Everywhere (AreAllPlaced (Reads read) site identity table.plan.lists) t → IsForming (Reads read) site identity log t table.plan.lists done
       → Begins (Reads read) g site identity false log t first_mark None table

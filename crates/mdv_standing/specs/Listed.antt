@@ -1,7 +1,7 @@
 -- The places that the tables of a database list: each has a replica as soon as a table was begun that lists it, as long as a boot may find that table.
 use Rattle.std.specs.Prelude.{◌≡◌, ◌⊎◌, ℕ, true, List, Some, Contains}
 use Rattle.mdv_store_law.specs.Log.{IsNotOlder}
-use Rattle.mdv_table.specs.Plan.{places_of}
+use Rattle.mdv_config.specs.Lists.{places_of}
 use Rattle.mdv_standing.specs.Below.{Core, Head, Identity, Image, IsOwn, Log, Master, Place, Reading, Site, SliceLine, Spot, Table, Version, place_at, place_on}
 use Rattle.mdv_standing.specs.Matching.{IsDeleted}
 

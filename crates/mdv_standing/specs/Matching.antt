@@ -1,7 +1,8 @@
 -- What a world of the votes has to do with the log of its database.
 use Rattle.std.specs.Prelude.{◌≡◌, ◌<◌, ◌≤◌, ◌+◌, ◌&&◌, ℕ, Bool, true, false, cond, max, List, [], ◌∷◌, length, map, reverse, slice_index_or, Option, None, Some, Contains, IsTrue}
 use Rattle.std.specs.List.{filter_map}
-use Rattle.mdv_table.specs.Plan.{places_of}
+use Rattle.mdv_config.specs.Lists.{places_of}
+use Rattle.mdv_plan.specs.Table.{empty_table}
 use Rattle.mdv_standing.specs.Below.{Key, Local, Mark, Set, Place, Seen, SliceAt, SliceLine, slice_at, Site, Core, MayAll, after_all, start, Event, Log, Again, Lives, Over, Version, Change, Lists, One, Two, Table, FamilyTable, Spot, SpotLists, Since, Never, Listed, Dropped, is_in, is_named, is_none, last_list, no_table, place_at, same_spot, shows, since_after, spot_seen, table_at}
 
 abbrev pub is_set : Key → Bool
@@ -10,7 +11,7 @@ is_set (Set name) = true
 
 -- what stands where a log has no version
 abbrev pub no_version : Version
-no_version = record { mark = record { boot = 0; count = 0 }; table = record { plan = record { lists = One []; volumes = [] }; status = record {} }; changes = []; is_written = false }
+no_version = record { mark = record { boot = 0; count = 0 }; table = empty_table []; changes = []; is_written = false }
 
 -- the version of this number: the oldest one has number 0
 abbrev pub version_at : List Version → ℕ → Version

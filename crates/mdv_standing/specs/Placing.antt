@@ -4,7 +4,7 @@ use Rattle.mdv_shown.specs.Formats.{lost_beside, lost_with}
 use Rattle.mdv_shown.specs.Wipes.{spots_behind, wiped_all}
 use Rattle.mdv_store_law.specs.Log.{Clearing, Gone, IsLog, IsRising, Placing, is_firm}
 use Rattle.mdv_replica.specs.Images.{Wipes}
-use Rattle.mdv_table.specs.Plan.{first_of, last_of}
+use Rattle.mdv_config.specs.Lists.{first_of, last_of}
 use Rattle.mdv_standing.specs.Below.{Core, Ends, Event, FirstIs, Formatted, Formats, Geometry, HasFirst, HaveRead, Head, Identity, Image, IsChosen, IsFormat, IsInChain, IsSite, Log, Master, MayFormat, MayWipe, NextLists, One, Over, Place, Reads, Seen, Site, SliceLine, Slot, Spot, Table, Two, Version, covers, greatest_seen, is_in, is_majority, is_named, log_after, master_on, place_on, raised, slice_at, spot_on, spots_seen}
 use Rattle.mdv_standing.specs.Laws.{ShowsNoTable}
 use Rattle.mdv_standing.specs.Matching.{HasStaleVote, IsDeleted, LiesOn, lists_of, spot_floor, spot_of_place, spot_since, spots_of, tables_of}

@@ -1,6 +1,6 @@
 -- By which events a call leads from each world that an image of its start shows to one that an image of the moment shows.
 use Rattle.std.specs.Prelude.{◌≡◌, ℕ, ◌+◌, ◌<◌, ◌^◌, Bool, false, List, [], ◌∷◌, ◌++◌, map, Option, None, Some, IsTrue}
-use Rattle.mdv_store_law.specs.Log.{Adds, ChangesAlone, Event as LogEvent, HasOneList, IsCourse, IsMade, IsNotOver, Issue, log_after_all}
+use Rattle.mdv_store_law.specs.Log.{Adds, ChangesAlone, Event as LogEvent, IsCourse, IsEmpty, IsMade, IsNotOver, Issue, log_after_all}
 use Rattle.mdv_store_law.specs.Part.{IsPart}
 use Rattle.mdv_standing.specs.Below.{Lives, Change, Claimed, Claims, Core, Event, Everywhere, Filled, Fills, FirstIs, Formatted, Formats, Geometry, Head, Identity, IsAbove, IsBodyOf, IsSpareSlot, LeftClosed, Leaves, Lists, Log, Mark, Master, MayClaim, MayFill, MayFormat, MayHappen, MayWipe, NextLists, PlaceAt, Reads, Seen, Site, SliceLine, Slot, Slotted, Spot, SpotLists, Table, Tale, Told, Version, WritesLog, Written, greatest_seen, is_claimed, is_in, is_named, is_none, is_written, log_after, master_on, place_on, spot_on, spots_seen, start}
 use Rattle.mdv_standing.specs.Adopting.{IsLook, IsMarked, drawn}
@@ -162,8 +162,8 @@ pub record CreationsTrace : Type 0 where
   pub later_formatted : (read : List ℕ → Option Table) (site : Site) (identity : Identity) (log : Log) (t m : Tale) (line : SliceLine) (k : ℕ) (first : Master) (lists : Lists) (done : List Spot) → log.family ≡ []
       → IsToFormat site identity t line first.blocks first.count k lists done → IsBehind (Reads read) site t line k first → Leaves (Formats (place_on line first.blocks first.count k) (master_on site identity line first.blocks first.count k) 1) t m
       → Traces (Reads read) site identity log log (IsCreating (spots_of site lists) done) (λ es. es ≡ Formatted (spot_on line first.blocks k) ∷ []) (IsCreating (spots_of site lists) (spot_on line first.blocks k ∷ done)) t m
-  -- once each place of the first table was formatted that may be written, which has one list of places and no volumes, and begins to be
-  pub may : (g : Geometry) (identity : Identity) (log : Log) (table : Table) → log.issued ≡ Some identity → log.family ≡ [] → IsNotOver log.fate → table.plan.volumes ≡ [] → HasOneList table → MayHappen g log (WritesLog first_mark None [] table)
+  -- once each place of the first table was formatted that may be written, which has one list of places and nothing else, and begins to be
+  pub may : (g : Geometry) (identity : Identity) (log : Log) (table : Table) → log.issued ≡ Some identity → log.family ≡ [] → IsNotOver log.fate → IsEmpty table → MayHappen g log (WritesLog first_mark None [] table)
   pub writes : (read : List ℕ → Option Table) (site : Site) (identity : Identity) (log : Log) (t : Tale) (p : Spot) (table : Table) (done : List Spot) → log.family ≡ [] → is_none (spots_of site table.plan.lists).first ≡ false
       → IsTrue (is_in done p) → IsTrue (is_named (spots_of site table.plan.lists) p) → Everywhere (AreAllPlaced (Reads read) site identity table.plan.lists) t
       → Traces (Reads read) site identity log (log_after log (WritesLog first_mark None [] table)) (IsCreating (spots_of site table.plan.lists) done) (λ es. es ≡ Slotted p LeftClosed ∷ []) (IsTaking false first_mark []) t t

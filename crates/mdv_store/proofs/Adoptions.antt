@@ -1,5 +1,5 @@
 -- What a boot makes of the newest table: what follows for its moments, its end and its answer.
-use Rattle.std.proofs.Common.{◌≡◌, ◌⊎◌, inl, inr, ◌<◌, ◌+◌, ◌-◌, ◌^◌, ℕ, zero, suc, Bool, true, false, List, [], ◌∷◌, Option, Some, Contains, length, slice_get, refl, sym, ◌∙◌, subst, ap, arith, None}
+use Rattle.std.proofs.Common.{◌≡◌, inl, inr, ◌<◌, ◌≤◌, ◌+◌, ◌-◌, ◌/◌, ◌^◌, ℕ, zero, suc, Bool, true, false, List, [], ◌∷◌, Option, Some, Contains, length, slice_get, refl, sym, ◌∙◌, subst, ap, arith, None}
 use Rattle.std.specs.List.{list_any}
 use Rattle.std.proofs.lemmas.Bool.{or_left, or_right}
 use Rattle.std.proofs.lemmas.Bool.Decides.{nat_tests}
@@ -24,8 +24,8 @@ use Rattle.mdv_survey.specs.Replica.{IsOnShelf, IsSeated}
 use Rattle.mdv_survey.specs.declared.replica.Newest.{Newest}
 use Rattle.mdv_survey.specs.declared.replica.Survey.{Survey}
 use Rattle.mdv_store.specs.Adopting.{AdoptEnds, AdoptMoment, AreJustOn, IsAdoptAnswer, WasReadOf, WroteOf}
-use Rattle.mdv_store.specs.Below.{DriveNo, Drives, Failures, Geometry, Ghosts, Identity, IsReadyWith, Lists, One, Place, Replica, Site, SliceLine, Table, Tale, Two, at_of, greatest, last, last_of, places_of, record_text, range, settled, site_area, site_of}
-use Rattle.mdv_store.specs.Boot.{IfAdopted, IsDrawn, IsEndBy, IsInHand, IsShortAt, IsWrittenTo, TakesAll, TakesBoth, TakesBy, gone_found, greatest_number, last_found, seats_of}
+use Rattle.mdv_store.specs.Below.{DriveNo, Drives, Failures, Geometry, Ghosts, Identity, IsReadyWith, Lists, One, Replica, Site, SliceLine, Table, Tale, Two, at_of, greatest, last, places_of, record_bytes, range, settled, site_area, site_of}
+use Rattle.mdv_store.specs.Boot.{IfAdopted, IsDrawn, IsEndBy, IsInHand, IsShortAt, IsWrittenTo, TakesAll, TakesBoth, TakesBy, WasChosen, gone_found, greatest_number, last_found, seats_of}
 use Rattle.mdv_store.specs.BootCounts.{most_blocks, most_calls}
 use Rattle.mdv_store.specs.Booting.{BootGoes, BootMomentOn, HasShown, WasReadOn, Writes, WritesFor, boot_area, has_written}
 use Rattle.mdv_store.specs.Commit.{AnyLog, AnyWorld, IsLiveWith}
@@ -33,7 +33,7 @@ use Rattle.mdv_store.specs.Opened.{Opened}
 use Rattle.mdv_store.specs.Progress.{Progress, all_written}
 use Rattle.mdv_store.specs.Settled.{gone_of, seats_now, settles}
 use Rattle.mdv_store.specs.Seats.{AreLaid, AreLeft, IsLaid, drives_of, replica_area, replicas_of, seats_area, spots_of}
-use Rattle.mdv_store.specs.Taking.{IsCalmOver, IsHandOf, IsLostWith, IsRewriteAnswer, IsRewriteEnd, IsTakingCounted, IsToAdopt, RewriteEnds, RewriteMoment, Rewrites, StaySynced, drives_read, last_in}
+use Rattle.mdv_store.specs.Taking.{IsCalmOver, IsHandOf, IsLostWith, IsRewriteAnswer, IsRewriteEnd, IsTakingCounted, IsToAdopt, RewriteEnds, RewriteMoment, StaySynced, drives_read, last_in}
 use Rattle.mdv_store.specs.Text.{blocks_for}
 use Rattle.mdv_store.specs.declared.booting.BootEnd.{BootEnd}
 use Rattle.mdv_store.specs.declared.booting.BootEnd.TheVariants as end
@@ -163,8 +163,8 @@ module _ (site : Site) (replicas : List Replica) (newest : Newest) (hand : Hand)
     in_hand_of = record {
       newest_is = newest_is;
       the = subst (λ (rs : List Replica). IsTheOne rs newest replica) (sym reps) the;
-      seats_are = is.seats_are ∙ ap (λ (i : Identity). seats_of replicas i (blocks_for (length (record_text newest.table))) (places_of newest.table.plan.lists)) identity_is
-          ∙ ap (λ (rs : List Replica). seats_of rs replica.head.master.identity (blocks_for (length (record_text newest.table))) (places_of newest.table.plan.lists)) (sym reps);
+      seats_are = is.seats_are ∙ ap (λ (i : Identity). seats_of replicas i (blocks_for (record_bytes newest.table)) (places_of newest.table.plan.lists)) identity_is
+          ∙ ap (λ (rs : List Replica). seats_of rs replica.head.master.identity (blocks_for (record_bytes newest.table)) (places_of newest.table.plan.lists)) (sym reps);
     }
 
     pub number_of : hand.number ≡ greatest_number replica.head.master.identity survey.replicas + 1
@@ -191,7 +191,7 @@ module _ (site : Site) (replicas : List Replica) (newest : Newest) (hand : Hand)
         number = hand.number;
         drawn = drawn_of;
         gone = gone;
-        over = subst (λ (ss : List Seat). AreLeft failed (TakesBoth hand.number (length (record_text newest.table))) ss gone) (gone_is survey newest replica hand.seats in_hand_of) by.over;
+        over = subst (λ (ss : List Seat). AreLeft failed (TakesBoth hand.number (record_bytes newest.table)) ss gone) (gone_is survey newest replica hand.seats in_hand_of) by.over;
         written = written_of Wrote (all_written newest.table.plan.lists o.seats gone) (subst (Wrote hand newest.table) whole wrote);
         left = subst (λ (ss : List Seat). AreLeft failed (TakesAll hand.number newest.table) ss o.seats) (last_is survey newest replica hand.seats in_hand_of) by.left;
         enough = by.enough;
@@ -203,6 +203,36 @@ module _ (site : Site) (replicas : List Replica) (newest : Newest) (hand : Hand)
       end_of failed Wrote progress wrote (end.Lost active listed) by = record { newest = newest; replica = replica; seats = hand.seats; number = hand.number; drawn = drawn_of; progress = progress; written = written_of Wrote progress wrote; short = lost_by failed progress (record { active = active; listed = listed }) by }
       end_of failed Wrote progress wrote end.Spent by = absurd by
       end_of failed Wrote progress wrote end.Memory by = absurd by
+
+  -- nothing is written behind the look
+  unwritten_answer : {S : Type 0} (shelf : Ghosts S) (now : S) (answer : BootEnd) → has_written answer ≡ false
+      → ((survey : Survey) (replica : Replica) → survey.replicas ≡ replicas → survey.newest ≡ Some newest → IsTheOne replicas newest replica → WasChosen survey → IsEndBy (DriveFailures shelf now now) (WroteOf shelf now now site replicas newest true) site survey answer)
+      → (taken : Taken) → taken.end ≡ answer → taken.calm ≡ true → IsAdoptAnswer shelf now now site replicas newest taken
+  unwritten_answer shelf now answer still by taken ends calm = subst (IsAdoptAnswer shelf now now site replicas newest) (λ i. record { end = sym ends i; calm = sym calm i }) (record {
+    ended = inr by;
+    calm = λ drive. refl;
+    once = λ drive. inl refl;
+    still = λ so. refl;
+    laid = not_adopted answer (λ o. AreLaid (shelf.sizes now) o.seats) still;
+  })
+
+  -- too few places have room
+  pub unread_answer : {S : Type 0} (shelf : Ghosts S) (now : S) (share : Share) → short_of More hand.seats newest.table.plan.lists ≡ Some share
+      → (taken : Taken) → taken.end ≡ end.NoQuorum share.active (share.listed / 2 + 1) → taken.calm ≡ true → IsAdoptAnswer shelf now now site replicas newest taken
+  unread_answer shelf now share short = unwritten_answer shelf now (end.NoQuorum share.active (share.listed / 2 + 1)) refl
+      (λ survey replica reps newest_is the was. inr (was, newest, replica, hand.seats, in_hand_of survey replica reps newest_is the, share, short, refl, refl))
+
+  -- no number is left
+  pub spent_answer : {S : Type 0} (shelf : Ghosts S) (now : S) → short_of More hand.seats newest.table.plan.lists ≡ None → 2 ^ 63 ≤ hand.number
+      → (taken : Taken) → taken.end ≡ end.Spent → taken.calm ≡ true → IsAdoptAnswer shelf now now site replicas newest taken
+  spent_answer shelf now enough over = unwritten_answer shelf now end.Spent refl (λ survey replica reps newest_is the was. record {
+    newest = newest;
+    replica = replica;
+    seats = hand.seats;
+    hand = in_hand_of survey replica reps newest_is the;
+    enough = enough;
+    spent = subst (λ (n : ℕ). 2 ^ 63 ≤ n) (number_of survey replica reps newest_is the) over;
+  })
 
   module _ (enough : short_of More hand.seats newest.table.plan.lists ≡ None) where
     pub hand_laid : (sizes : List ℕ) → IsOnShelf sizes site → AreLaid sizes hand.seats

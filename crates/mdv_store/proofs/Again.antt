@@ -9,9 +9,9 @@ use Rattle.std.proofs.lemmas.List.{length-map}
 use Rattle.std.proofs.lemmas.List.Elements.{All-contains, All-cons, All-nil}
 use Rattle.mdv_shelf.proofs.Frame.{neither}
 use Rattle.mdv_survey.proofs.Identities.{find_none, find_some}
-use Rattle.mdv_table.proofs.Pairs.{AllPairs-cons, AllPairs-first, AllPairs-rest}
-use Rattle.mdv_table.proofs.Testing.{same_place-true}
-use Rattle.mdv_table.specs.Tests.{same_place}
+use Rattle.mdv_config.proofs.Pairs.{AllPairs-cons, AllPairs-first, AllPairs-rest}
+use Rattle.mdv_config.proofs.Testing.{same_place-true}
+use Rattle.mdv_config.specs.Lists.{same_place}
 use Rattle.mdv_votes.proofs.Meeting.{same_is, same_self}
 use Rattle.mdv_votes.specs.Laws.{IsWithin}
 use Rattle.mdv_votes.specs.Spots.{is_in}

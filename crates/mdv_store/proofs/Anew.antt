@@ -9,7 +9,7 @@ use Rattle.mdv_base.specs.declared.name.Key.TheVariants.{Local, Set}
 use Rattle.mdv_look.proofs.Among.{among_calm, is_one_of}
 use Rattle.mdv_look.proofs.Bringing.{one_number, same_drive}
 use Rattle.mdv_look.proofs.Quiet.{quiet_more, quiet_wider}
-use Rattle.mdv_record.proofs.Rooms.{last_room}
+use Rattle.mdv_encoding.proofs.Rooms.{last_room}
 use Rattle.mdv_shelf.proofs.Between.{between_then, between_wider}
 use Rattle.mdv_shelf.proofs.Counts.{took_more}
 use Rattle.mdv_shelf.proofs.Everywhere.{last_image}
@@ -27,25 +27,25 @@ use Rattle.mdv_standing.specs.Others.{Anything}
 use Rattle.mdv_standing.specs.Tracing.{GoesTraced, Traces}
 use Rattle.mdv_standing.proofs.Tracing.{fewer_ready, goes_more, trace_weaker, traced}
 use Rattle.mdv_store_law.specs.Log.{log_after_all}
-use Rattle.mdv_table.proofs.Listed.{beside_apart}
-use Rattle.mdv_table.proofs.Settled.{settled_of}
-use Rattle.mdv_table.specs.Plan.{beside, same_place}
+use Rattle.mdv_config.proofs.Listed.{beside_apart}
+use Rattle.mdv_config.proofs.Settled.{settled_of}
+use Rattle.mdv_config.specs.Lists.{beside, same_place}
 use Rattle.std.proofs.lemmas.List.Elements.{All-contains}
 use Rattle.mdv_store_law.specs.Part.{IsPart}
 use Rattle.mdv_votes.proofs.Meeting.{same_self}
-use Rattle.mdv_table.specs.Table.{IsListsOf}
+use Rattle.mdv_config.specs.Table.{IsListsOf}
 use Rattle.mdv_votes.specs.Laws.{IsWithin}
 use Rattle.mdv_votes.specs.Spots.{is_in}
-use Rattle.mdv_store.specs.Below.{CoversWith, DriveNo, Event, Geometry, Ghosts, IsCommitRun, IsOfGeometry, IsReadyWith, Key, Lists, Log, One, Place, Replica, Site, Spot, Table, Tale, Two, at_of, last as last_tale, last_of, lists_of_spots, record_text, settled, site_of, same_spot}
+use Rattle.mdv_store.specs.Below.{CoversWith, DriveNo, Event, Geometry, Ghosts, IsCommitRun, IsOfGeometry, IsReadyWith, Key, Lists, Log, One, Place, Replica, Site, Spot, Table, Tale, Two, at_of, last as last_tale, last_of, lists_of_spots, record_bytes, settled, site_of, same_spot}
 use Rattle.mdv_store.specs.Boot.{IfAdopted, IsOnce, TakesAll, TakesBoth, TakesBy, need_of}
 use Rattle.mdv_store.specs.BootCounts.{IsAnewCounted, blocks_at, calls_at, most_blocks, most_calls}
 use Rattle.mdv_store.specs.Booting.{AreOfBoot, AreSettling, HasNoStaleVote}
 use Rattle.mdv_store.specs.Commit.{AnyLog, AnyWorld, IsLiveWith, IsNewestWritten, room_in}
-use Rattle.mdv_store.specs.Opened.{AreSeatsOf, IsOpen, IsOpenedAt, Opened, least_room}
+use Rattle.mdv_store.specs.Opened.{AreSeatsOf, IsOpen, IsOpenedAt, Opened}
 use Rattle.mdv_store.specs.Progress.{Rewritten, Settled, all_written}
 use Rattle.mdv_store.specs.Records.{Spells}
 use Rattle.mdv_store.specs.Seats.{AreLaid, AreLeft, AreNamed, IsLaid, IsShown, TakesSlot, active_of, drive_of, drives_of, replica_area, replicas_of, seats_area, spot_of, spots_of}
-use Rattle.mdv_store.specs.Settled.{again_of, first_room, gone_of, seats_now, settles}
+use Rattle.mdv_store.specs.Settled.{again_of, gone_of, seats_now, settles}
 use Rattle.mdv_store.specs.Settling.{IsDraft}
 use Rattle.mdv_store.specs.Shares.{short_of, suffices}
 use Rattle.mdv_store.specs.Taking.{IsCalmOver, IsReadied, IsRewriteAnswer, IsTakingCounted, IsToAdopt, LeftHoldOf, MadeRewriteCalls, RewriteEnds, RewriteMoment, StaySynced, WereSettled, WereSlotted, last_in, open_with, room_of, second_mark}
@@ -89,7 +89,7 @@ same_need key share so = so
 
 module _ {S : Type 0} (shelf : Ghosts S) (key : Key) (hand : Hand) (table : Table) (ready : IsReadied hand table) (old mid : S) (last : List Seat) (w : IsTwice shelf key hand table old mid last) where
   abbrev Both : Replica → Replica → Type 0
-  Both = TakesBoth hand.number (length (record_text table))
+  Both = TakesBoth hand.number (record_bytes table)
 
   abbrev opened : Opened
   opened = record { key = key; identity = hand.identity; mark = drawn hand.number; table = table; seats = last }
@@ -122,7 +122,7 @@ module _ {S : Type 0} (shelf : Ghosts S) (key : Key) (hand : Hand) (table : Tabl
     whole = omega (arith, is);
     first = omega (arith, is);
     short = room_short hand table ready room is;
-    marks = λ half n has. (let one = left_replica (DriveFailures shelf old mid) Both hand.seats last n w.took has in both_none_above hand.number (length (record_text table)) one.0 n (ready.above one.0 one.1) one.2);
+    marks = λ half n has. (let one = left_replica (DriveFailures shelf old mid) Both hand.seats last n w.took has in both_none_above hand.number (record_bytes table) one.0 n (ready.above one.0 one.1) one.2);
   }
 
   pub anew_laid : (sizes next : List ℕ) → next ≡ sizes → AreLaid sizes hand.seats → AreLaid next last
@@ -153,10 +153,10 @@ module _ {S : Type 0} (shelf : Ghosts S) (key : Key) (hand : Hand) (table : Tabl
       calm = first_calm calm calm_is;
       once = pass_once shelf old mid hand.seats last Both w.kept w.took;
       wrote = w.wrote;
-      made = between_wider shelf.calls shelf.written old mid 1 (8 * active_of hand.seats) ((3 + blocks_for (length (record_text table))) * active_of hand.seats) 1 (calls_at hand.seats table) (blocks_at hand.seats table) (omega arith) (omega arith) (omega arith) w.made;
+      made = between_wider shelf.calls shelf.written old mid 1 (8 * active_of hand.seats) ((3 + blocks_for (record_bytes table)) * active_of hand.seats) 1 (calls_at hand.seats table) (blocks_at hand.seats table) (omega arith) (omega arith) (omega arith) w.made;
       exact = λ so.
           let same : active_of last ≡ active_of hand.seats = eqb-true (active_of last) (active_of hand.seats) (sym calm_is ∙ so) in
-          subst (λ (n : ℕ). MadeCalls shelf old mid (8 * n) ((3 + blocks_for (length (record_text table))) * n)) same (w.exact same);
+          subst (λ (n : ℕ). MadeCalls shelf old mid (8 * n) ((3 + blocks_for (record_bytes table)) * n)) same (w.exact same);
       written = w.written;
     })
 
@@ -194,8 +194,8 @@ module _ {S : Type 0} (shelf : Ghosts S) (key : Key) (hand : Hand) (table : Tabl
             is = sym (settled_one table list one);
             marked = sym (ap settles one);
             one = λ none. refl;
-            made = subst (λ (n : ℕ). MadeCalls shelf old mid (0 + (8 * active_of last + 6 * (n * active_of last))) ((3 + blocks_for (length (record_text table))) * active_of last + (2 + blocks_for (length (record_text table))) * (n * active_of last))) (sym (ap settles one))
-                (counts (active_of last) (blocks_for (length (record_text table))) (w.exact same));
+            made = subst (λ (n : ℕ). MadeCalls shelf old mid (0 + (8 * active_of last + 6 * (n * active_of last))) ((3 + blocks_for (record_bytes table)) * active_of last + (2 + blocks_for (record_bytes table)) * (n * active_of last))) (sym (ap settles one))
+                (counts (active_of last) (blocks_for (record_bytes table)) (w.exact same));
           };
     })
       where
@@ -234,7 +234,7 @@ module _ {S : Type 0} (shelf : Ghosts S) (key : Key) (hand : Hand) (table : Tabl
       few = ready.next_few;
       boot = ready.small;
       count = omega arith;
-      marks = λ r has. (let one = left_replica (DriveFailures shelf old mid) Both hand.seats last r w.took has in both_none_above hand.number (length (record_text table)) one.0 r (ready.above one.0 one.1) one.2);
+      marks = λ r has. (let one = left_replica (DriveFailures shelf old mid) Both hand.seats last r w.took has in both_none_above hand.number (record_bytes table) one.0 r (ready.above one.0 one.1) one.2);
       in_seats = λ n has.
           let one = left_replica (DriveFailures shelf old mid) Both hand.seats last n w.took has in
           let fits = ready.room one.0 one.1 in
@@ -381,7 +381,7 @@ module _ {S : Type 0} (shelf : Ghosts S) (key : Key) (hand : Hand) (table : Tabl
     two_made =
         let less = fewer_picks in
         let product = mul-le-mul_left (2 + blocks_for (text_size over_table)) less in
-        between_then shelf.calls shelf.written old mid new 1 (8 * active_of hand.seats) ((3 + blocks_for (length (record_text table))) * active_of hand.seats) _ (6 * active_of picks) ((2 + blocks_for (text_size over_table)) * active_of picks)
+        between_then shelf.calls shelf.written old mid new 1 (8 * active_of hand.seats) ((3 + blocks_for (record_bytes table)) * active_of hand.seats) _ (6 * active_of picks) ((2 + blocks_for (text_size over_table)) * active_of picks)
         1 (calls_at hand.seats table) (blocks_at hand.seats table) (omega arith) (omega (arith, less)) (omega (arith, product)) w.made wrote.passed.counted.some
 
     two_written : WereSettled shelf old new key hand table now
@@ -432,7 +432,7 @@ module _ {S : Type 0} (shelf : Ghosts S) (key : Key) (hand : Hand) (table : Tabl
       boot = ready.small;
       small = omega arith;
       half = kept_lists (need_of key) Half (need_half key) picks picks (λ p so. so) (One listed) picks_enough;
-      none_above = λ r has. (let one = left_replica (DriveFailures shelf old mid) Both hand.seats last r w.took (now_in last listed r has) in both_none_above hand.number (length (record_text table)) one.0 r (ready.above one.0 one.1) one.2);
+      none_above = λ r has. (let one = left_replica (DriveFailures shelf old mid) Both hand.seats last r w.took (now_in last listed r has) in both_none_above hand.number (record_bytes table) one.0 r (ready.above one.0 one.1) one.2);
       follows = inr refl;
       room = now_room last listed (blocks_for (text_size over_table)) (λ n has.
           let one = left_replica (DriveFailures shelf old mid) Both hand.seats last n w.took has in
@@ -443,7 +443,7 @@ module _ {S : Type 0} (shelf : Ghosts S) (key : Key) (hand : Hand) (table : Tabl
     }
 
     -- what was read is a record, and so is it with the new list alone
-    in_room : (g : Geometry) (t : Tale) → IsToAdopt g key hand table t → length (record_text over_table) ≤ room_in over_table
+    in_room : (g : Geometry) (t : Tale) → IsToAdopt g key hand table t → record_bytes over_table ≤ room_in over_table
     in_room g t to =
         let read = spelled_of g _ table to.sound (to.read.shows (last_tale t) (last_image t)).text in
         let text = read.text in
@@ -686,15 +686,15 @@ module _ {S : Type 0} (shelf : Ghosts S) (key : Key) (hand : Hand) (table : Tabl
       Came o = MatchOption o (taken ≡ record { end = end.Adopted (record { key = key; identity = hand.identity; mark = second_mark hand.number; table = over_table; seats = now }); calm = calm && nat_eq (active_of now) (active_of picks) })
           (λ share. taken ≡ record { end = end.Lost share.active share.listed; calm = false })
 
-      two_exact : (calm && nat_eq (active_of now) (active_of picks)) ≡ true → MadeCalls shelf old new (8 * active_of hand.seats + 6 * active_of now) ((3 + blocks_for (length (record_text table))) * active_of hand.seats + (2 + blocks_for (text_size over_table)) * active_of now)
+      two_exact : (calm && nat_eq (active_of now) (active_of picks)) ≡ true → MadeCalls shelf old new (8 * active_of hand.seats + 6 * active_of now) ((3 + blocks_for (record_bytes table)) * active_of hand.seats + (2 + blocks_for (text_size over_table)) * active_of now)
       two_exact so =
           let both = and_parts calm (nat_eq (active_of now) (active_of picks)) so in
           let first : active_of last ≡ active_of hand.seats = eqb-true (active_of last) (active_of hand.seats) (sym calm_is ∙ both.0) in
           let second : active_of now ≡ active_of picks = eqb-true (active_of now) (active_of picks) both.1 in
           let some = some_enough (need_of key) picks over_table committing.seats picks_enough in
-          took_more shelf.calls shelf.written old mid new (8 * active_of last) (6 * active_of picks) ((3 + blocks_for (length (record_text table))) * active_of last) ((2 + blocks_for (text_size over_table)) * active_of picks)
-          (8 * active_of hand.seats + 6 * active_of now) ((3 + blocks_for (length (record_text table))) * active_of hand.seats + (2 + blocks_for (text_size over_table)) * active_of now)
-          (omega (arith, first, second)) (same_sum (blocks_for (length (record_text table))) (blocks_for (text_size over_table)) (active_of last) (active_of hand.seats) (active_of picks) (active_of now) first second) (w.exact first) (wrote.passed.counted.all some second)
+          took_more shelf.calls shelf.written old mid new (8 * active_of last) (6 * active_of picks) ((3 + blocks_for (record_bytes table)) * active_of last) ((2 + blocks_for (text_size over_table)) * active_of picks)
+          (8 * active_of hand.seats + 6 * active_of now) ((3 + blocks_for (record_bytes table)) * active_of hand.seats + (2 + blocks_for (text_size over_table)) * active_of now)
+          (omega (arith, first, second)) (same_sum (blocks_for (record_bytes table)) (blocks_for (text_size over_table)) (active_of last) (active_of hand.seats) (active_of picks) (active_of now) first second) (w.exact first) (wrote.passed.counted.all some second)
         where
           same_sum : (k l a b c d : ℕ) → a ≡ b → d ≡ c → (3 + k) * a + (2 + l) * c ≡ (3 + k) * b + (2 + l) * d
           same_sum k l a b c d one two = ap (λ (n : ℕ). (3 + k) * n + (2 + l) * c) one ∙ ap (λ (n : ℕ). (3 + k) * b + (2 + l) * n) (sym two)
@@ -753,10 +753,10 @@ module _ {S : Type 0} (shelf : Ghosts S) (key : Key) (hand : Hand) (table : Tabl
               is = refl;
               marked = sym twice_settled;
               one = λ none. absurd (cc (none, twice_settled));
-              made = subst (λ (n : ℕ). MadeCalls shelf old new (0 + (8 * active_of hand.seats + 6 * (n * active_of now))) ((3 + blocks_for (length (record_text table))) * active_of hand.seats + (2 + blocks_for (text_size over_table)) * (n * active_of now))) (sym twice_settled)
-                  (took_more shelf.calls shelf.written old mid new (8 * active_of last) (6 * active_of picks) ((3 + blocks_for (length (record_text table))) * active_of last) ((2 + blocks_for (text_size over_table)) * active_of picks)
-                  (0 + (8 * active_of hand.seats + 6 * (1 * active_of now))) ((3 + blocks_for (length (record_text table))) * active_of hand.seats + (2 + blocks_for (text_size over_table)) * (1 * active_of now))
-                  (omega (arith, first, second)) (blocks (blocks_for (length (record_text table))) (blocks_for (text_size over_table)) (active_of last) (active_of hand.seats) (active_of picks) (active_of now) first second) (w.exact first) (wrote.passed.counted.all some second));
+              made = subst (λ (n : ℕ). MadeCalls shelf old new (0 + (8 * active_of hand.seats + 6 * (n * active_of now))) ((3 + blocks_for (record_bytes table)) * active_of hand.seats + (2 + blocks_for (text_size over_table)) * (n * active_of now))) (sym twice_settled)
+                  (took_more shelf.calls shelf.written old mid new (8 * active_of last) (6 * active_of picks) ((3 + blocks_for (record_bytes table)) * active_of last) ((2 + blocks_for (text_size over_table)) * active_of picks)
+                  (0 + (8 * active_of hand.seats + 6 * (1 * active_of now))) ((3 + blocks_for (record_bytes table)) * active_of hand.seats + (2 + blocks_for (text_size over_table)) * (1 * active_of now))
+                  (omega (arith, first, second)) (blocks (blocks_for (record_bytes table)) (blocks_for (text_size over_table)) (active_of last) (active_of hand.seats) (active_of picks) (active_of now) first second) (w.exact first) (wrote.passed.counted.all some second));
             }
           where
             blocks : (k l a b c d : ℕ) → a ≡ b → d ≡ c → (3 + k) * a + (2 + l) * c ≡ (3 + k) * b + (2 + l) * (1 * d)

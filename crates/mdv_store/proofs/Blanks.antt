@@ -1,5 +1,5 @@
 -- A database that shows no table shows none while a replica of another one is claimed or written, or a place is blanked or formatted for it.
-use Rattle.std.proofs.Common.{refl, ◌≡◌, inl, inr, ℕ, false, ◌+◌, ◌<◌, ◌^◌, List, Contains, sym, ◌∙◌, ap, subst, arith}
+use Rattle.std.proofs.Common.{◌≡◌, inl, inr, ℕ, ◌+◌, ◌<◌, ◌^◌, List, Contains, sym, ◌∙◌, ap, subst, arith}
 use Rattle.std.proofs.lemmas.Bool.{false_from_ne_true}
 use Rattle.mdv_name.specs.Sound.{IsSound}
 use Rattle.mdv_replica.specs.Form.{IsTable, shows}
@@ -14,11 +14,9 @@ use Rattle.mdv_shown.proofs.Elsewhere.{found_kept, one_master, range_has}
 use Rattle.mdv_shown.proofs.Kept.{claims_before, claims_still, slots_before, slots_still}
 use Rattle.mdv_shown.proofs.Sites.{lines_apart, site_is}
 use Rattle.mdv_standing.specs.Laws.{ShowsNoTable}
-use Rattle.mdv_standing.specs.Rest.{MayBeTaken}
 use Rattle.mdv_standing.proofs.Blanking.{AreAllBefore}
 use Rattle.mdv_standing.proofs.Within.{apart_or_in, claim_within, fill_within, found_for}
-use Rattle.mdv_store_law.specs.Log.{empty_log}
-use Rattle.mdv_store.specs.Below.{Database, Geometry, Head, Identity, Image, IsOwn, Key, Mark, Replica, Site, SliceLine, Slot, Tale, at_of, site_of}
+use Rattle.mdv_store.specs.Below.{Geometry, Head, Identity, Image, IsOwn, Key, Mark, Replica, Site, SliceLine, Slot, Tale, at_of, site_of}
 use Rattle.mdv_store.specs.Blank.{IsBlank, StayBlank}
 use Rattle.mdv_store.specs.Records.{Spells}
 

@@ -1,5 +1,5 @@
 -- The stretches of a boot, one behind another.
-use Rattle.std.proofs.Common.{◌≡◌, ◌⊎◌, inl, inr, ◌≤◌, ◌+◌, ◌*◌, ◌&&◌, ℕ, zero, suc, Bool, true, false, not, cond, List, [], ◌∷◌, ◌++◌, Option, None, Some, All, Contains, length, refl, sym, ◌∙◌, subst, ap, arith}
+use Rattle.std.proofs.Common.{◌≡◌, ◌⊎◌, inl, inr, ◌≤◌, ◌+◌, ◌*◌, ◌&&◌, ℕ, Bool, true, false, not, cond, List, [], ◌∷◌, ◌++◌, Option, None, Some, All, Contains, length, refl, sym, ◌∙◌, subst, ap, arith}
 use Rattle.std.specs.Prelude.{count_by}
 use Rattle.std.specs.Bool.{MatchBool}
 use Rattle.std.specs.Option.{option_map}
@@ -10,7 +10,6 @@ use Rattle.mdv_base.specs.DriveSet.{no_drives}
 use Rattle.mdv_replica.specs.Images.{IsSame}
 use Rattle.mdv_shelf.proofs.Among.{among_wider}
 use Rattle.mdv_shelf.proofs.Between.{between_then, between_wider}
-use Rattle.mdv_shelf.proofs.Counts.{took_more}
 use Rattle.mdv_shelf.proofs.Everywhere.{everywhere_kept, image_synced}
 use Rattle.mdv_shelf.proofs.Moments.{moments_after, moments_end, moments_weaker, some_is}
 use Rattle.mdv_shelf.specs.Calls.{OnDrive}
@@ -32,7 +31,7 @@ use Rattle.mdv_survey.specs.Survey.{IsSurveyOf}
 use Rattle.mdv_survey.specs.declared.replica.Newest.{Newest}
 use Rattle.mdv_survey.specs.declared.replica.Survey.{Survey}
 use Rattle.mdv_store.specs.Adopting.{AreAllIn}
-use Rattle.mdv_store.specs.Below.{Core, CoversWith, Database, DriveNo, Drives, Event, Failures, Geometry, Ghosts, Identity, IsSound, IsSynced, Lists, Log, Mark, One, Place, Replica, RestStands, Site, Spot, Table, Tale, has_drive, last, last_of, places_of, record_text, site_of}
+use Rattle.mdv_store.specs.Below.{Core, CoversWith, Database, DriveNo, Drives, Event, Failures, Geometry, Ghosts, Identity, IsSound, IsSynced, Lists, Log, Mark, One, Place, Replica, RestStands, Site, Spot, Table, Tale, has_drive, last, last_of, places_of, record_bytes, site_of}
 use Rattle.mdv_shown.specs.Found.{IsFound}
 use Rattle.mdv_store.specs.Blank.{StayBlank}
 use Rattle.mdv_store.specs.Boot.{IfAdopted, IsEndBy, IsOnce, IsShortAt, IsShortBy, TakesAll, TakesBoth, gone_found, is_memory, last_found, seats_of}
@@ -206,8 +205,8 @@ module _ (up : Drives) (g : Geometry) (site : Site) (t u m : Tale) (unwritten : 
   booted_then failed out end.Memory is = tt
 
 -- what was found of some places was read
-was_found : (survey : Survey) (newest : Newest) (replica : Replica) (places : List Place) (r : Replica) → Contains (replicas_of (seats_of survey.replicas replica.head.master.identity (blocks_for (length (record_text newest.table))) places)) r → Contains survey.replicas r
-was_found survey newest replica places r has = (seated_at survey.replicas replica.head.master.identity (blocks_for (length (record_text newest.table))) places r has).1
+was_found : (survey : Survey) (newest : Newest) (replica : Replica) (places : List Place) (r : Replica) → Contains (replicas_of (seats_of survey.replicas replica.head.master.identity (blocks_for (record_bytes newest.table)) places)) r → Contains survey.replicas r
+was_found survey newest replica places r has = (seated_at survey.replicas replica.head.master.identity (blocks_for (record_bytes newest.table)) places r has).1
 
 -- an end that follows, as the failures are told from earlier on
 end_as : (failed told : ℕ → Failures) (Wrote : Hand → Table → Progress → Type 0) (site : Site) (survey : Survey) → ((r : Replica) → Contains survey.replicas r → (failed (drive_of r)).some → (told (drive_of r)).some) → ((r : Replica) → Contains survey.replicas r → (failed (drive_of r)).none → (told (drive_of r)).none)
@@ -220,7 +219,7 @@ end_as failed told Wrote site survey some none (end.Adopted o) by =
       number = by.number;
       drawn = by.drawn;
       gone = by.gone;
-      over = left_as failed told (TakesBoth by.number (length (record_text by.newest.table))) (TakesBoth by.number (length (record_text by.newest.table))) (gone_found survey by.newest by.replica) by.gone (λ r has. some r (was_found survey by.newest by.replica (gone_of by.newest.table.plan.lists) r has))
+      over = left_as failed told (TakesBoth by.number (record_bytes by.newest.table)) (TakesBoth by.number (record_bytes by.newest.table)) (gone_found survey by.newest by.replica) by.gone (λ r has. some r (was_found survey by.newest by.replica (gone_of by.newest.table.plan.lists) r has))
           (λ r has. none r (was_found survey by.newest by.replica (gone_of by.newest.table.plan.lists) r has)) (λ r m took. took) by.over;
       written = by.written;
       left = left_as failed told (TakesAll by.number by.newest.table) (TakesAll by.number by.newest.table) (last_found survey by.newest by.replica) o.seats (λ r has. some r (was_found survey by.newest by.replica (last_of by.newest.table.plan.lists) r has))
@@ -255,11 +254,11 @@ end_as failed told Wrote site survey some none (end.Lost active listed) by =
     short_at : (progress : Progress) → IsShortAt failed site.key by.number by.newest.table by.seats (last_found survey by.newest by.replica) (gone_found survey by.newest by.replica) progress (record { active = active; listed = listed })
         → IsShortAt told site.key by.number by.newest.table by.seats (last_found survey by.newest by.replica) (gone_found survey by.newest by.replica) progress (record { active = active; listed = listed })
     short_at (Claimed now) short = short_as (TakesClaim by.number) by.newest.table.plan.lists by.seats now in_hand short
-    short_at (Rewritten now) short = short_as (TakesBoth by.number (length (record_text by.newest.table))) by.newest.table.plan.lists by.seats now in_hand short
+    short_at (Rewritten now) short = short_as (TakesBoth by.number (record_bytes by.newest.table)) by.newest.table.plan.lists by.seats now in_hand short
     short_at (Settled now gone) (settles, short, over) = (
       settles,
       short_as (TakesAll by.number by.newest.table) (One (last_of by.newest.table.plan.lists)) (last_found survey by.newest by.replica) now (was_found survey by.newest by.replica (last_of by.newest.table.plan.lists)) short,
-      left_as failed told (TakesBoth by.number (length (record_text by.newest.table))) (TakesBoth by.number (length (record_text by.newest.table))) (gone_found survey by.newest by.replica) gone (λ r has. some r (was_found survey by.newest by.replica (gone_of by.newest.table.plan.lists) r has))
+      left_as failed told (TakesBoth by.number (record_bytes by.newest.table)) (TakesBoth by.number (record_bytes by.newest.table)) (gone_found survey by.newest by.replica) gone (λ r has. some r (was_found survey by.newest by.replica (gone_of by.newest.table.plan.lists) r has))
           (λ r has. none r (was_found survey by.newest by.replica (gone_of by.newest.table.plan.lists) r has)) (λ r m took. took) over,
     )
 end_as failed told Wrote site survey some none end.Spent by = by
@@ -584,7 +583,7 @@ module _ {S : Type 0} (shelf : Ghosts S) (site : Site) (old m1 : S) (up : Drives
       zero_more k = omega arith
 
       counted_by : (e : BootEnd) → (n : ℕ) → MadeReads shelf old m2 n → (has_written e ≡ false → new ≡ m2) → IfAdopted e (IsAnewCounted (MadeCalls shelf m2 new) 0) → IsEndCounted shelf old new n e
-      counted_by (end.Adopted o) n read still took = record { table = took.table; found = took.found; is = took.is; marked = took.marked; one = took.one; made = reads_then shelf old m2 new n _ _ read (subst (λ (k : ℕ). MadeCalls shelf m2 new k ((3 + blocks_for (length (record_text took.table))) * took.found + (2 + blocks_for (length (record_text o.table))) * (settles took.table.plan.lists * active_of o.seats))) (zero_more (8 * took.found + 6 * (settles took.table.plan.lists * active_of o.seats))) took.made) }
+      counted_by (end.Adopted o) n read still took = record { table = took.table; found = took.found; is = took.is; marked = took.marked; one = took.one; made = reads_then shelf old m2 new n _ _ read (subst (λ (k : ℕ). MadeCalls shelf m2 new k ((3 + blocks_for (record_bytes took.table)) * took.found + (2 + blocks_for (record_bytes o.table)) * (settles took.table.plan.lists * active_of o.seats))) (zero_more (8 * took.found + 6 * (settles took.table.plan.lists * active_of o.seats))) took.made) }
       counted_by end.Empty n read still took = subst (λ (s : S). MadeReads shelf old s n) (sym (still refl)) read
       counted_by (end.TwoDatabases a b) n read still took = subst (λ (s : S). MadeReads shelf old s n) (sym (still refl)) read
       counted_by (end.NoQuorum readable needed) n read still took = subst (λ (s : S). MadeReads shelf old s n) (sym (still refl)) read

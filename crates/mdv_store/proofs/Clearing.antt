@@ -3,7 +3,7 @@ use Rattle.std.proofs.Common.{◌≡◌, ◌⊎◌, inl, inr, ℕ, zero, suc, �
 use Rattle.std.specs.Prelude.{flat_map, nat_lt}
 use Rattle.std.proofs.lemmas.Bool.Decides.{nat_tests}
 use Rattle.mdv_quorum.specs.declared.event.Event.{Event}
-use Rattle.mdv_record.specs.Parsing.{read_of}
+use Rattle.mdv_encoding.specs.Parsing.{read_of}
 use Rattle.mdv_replica.specs.Forms.{block_of}
 use Rattle.mdv_replica.specs.Images.{MayWipe, Wipes}
 use Rattle.mdv_replica.specs.Replica.{IsWiped, Wiping, blank_master}

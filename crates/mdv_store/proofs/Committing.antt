@@ -1,8 +1,8 @@
 -- What a commit leads to.
-use Rattle.std.proofs.Common.{◌≡◌, inl, inr, ◌<◌, ◌≤◌, ◌+◌, ◌*◌, ◌^◌, ℕ, true, false, List, [], ◌∷◌, ◌++◌, Option, Some, Contains, length, take, refl, sym, ◌∙◌, subst, append-nil, arith, None, ap}
+use Rattle.std.proofs.Common.{◌≡◌, inl, inr, ◌<◌, ◌≤◌, ◌+◌, ◌*◌, ◌^◌, ℕ, true, false, List, [], ◌∷◌, ◌++◌, Option, Some, Contains, take, refl, sym, ◌∙◌, subst, append-nil, arith, None, ap}
 use Rattle.std.specs.List.{concat}
 use Rattle.mdv_quorum.specs.declared.event.Event.TheVariants.{Told}
-use Rattle.mdv_record.specs.Room.{least_slot_bytes}
+use Rattle.mdv_encoding.specs.Room.{least_slot_bytes}
 use Rattle.mdv_shelf.proofs.Everywhere.{last_image}
 use Rattle.mdv_shelf.specs.Everywhere.{Everywhere}
 use Rattle.mdv_shelf.proofs.Frame.{kept_outside_same}
@@ -18,9 +18,9 @@ use Rattle.mdv_store_law.proofs.Parts.{part_front, part_itself}
 use Rattle.mdv_store_law.specs.Log.{Event as LogEvent, IsNewestTellable, MayHappen, Writing, Written, log_after}
 use Rattle.mdv_store_law.specs.Part.{IsPart}
 use Rattle.mdv_standing.specs.Committing.{MayChangeLists, MayFollow, MayListNext}
-use Rattle.mdv_table.specs.declared.plan.Lists.{Lists}
+use Rattle.mdv_plan.specs.declared.lists.Lists.{Lists}
 use Rattle.mdv_store.specs.Blank.{StayBlank}
-use Rattle.mdv_store.specs.Below.{Change, Core, CoversWith, Database, Event, Failures, Geometry, HasNoneAbove, IsCommitRun, IsMade, IsNewest, IsOfGeometry, IsReadyWith, IsSound, IsTaking, Log, Mark, Replica, RestStands, Site, Spot, Table, Tale, Traces, asks_of, fills_at, is_named, last, last_of, lists_of_spots, places_of, record_text, site_of}
+use Rattle.mdv_store.specs.Below.{Change, Core, CoversWith, Database, Event, Failures, Geometry, HasNoneAbove, IsCommitRun, IsMade, IsNewest, IsOfGeometry, IsReadyWith, IsSound, IsTaking, Log, Mark, Replica, RestStands, Site, Spot, Table, Tale, Traces, asks_of, fills_at, is_named, last, last_of, lists_of_spots, places_of, record_bytes, site_of}
 use Rattle.mdv_store.specs.Commit.{AnyLog, AnyWorld, AreOfCommit, CommitDone, CommitGoes, CommitMoment, IsCommitted, IsCommittedTo, IsLogOf, IsLostNow, IsNewestWritten, MayCommit, next_mark, room_in}
 use Rattle.mdv_store.specs.Opened.{AreSeatsOf, IsOpen, IsOpenedAt, Opened, least_room, shortage}
 use Rattle.mdv_store.specs.Settled.{first_room}
@@ -87,7 +87,7 @@ module _ (old : Opened) (next : Table) (c : IsCommitting old next) where
   abbrev bytes : ℕ
   bytes = text_size next
 
-  pub bodies : (body : List (List ℕ)) → IsSpelled next bytes body → (g : Geometry) → IsSound g → IsOfGeometry g next → length (record_text next) ≤ room_in next → AreBodies g old.seats mark bytes body next
+  pub bodies : (body : List (List ℕ)) → IsSpelled next bytes body → (g : Geometry) → IsSound g → IsOfGeometry g next → record_bytes next ≤ room_in next → AreBodies g old.seats mark bytes body next
   bodies body spelled g sound of_geometry fits r has =
       let text = record_spelled g (take bytes (concat body)) next sound of_geometry fits spelled.text in
       let in_slot = c.room r has in
@@ -103,7 +103,7 @@ module _ (old : Opened) (next : Table) (c : IsCommitting old next) where
   writes asked log n = Writing mark asked n.version.changes next
 
   -- the log goes on by the write
-  module _ (g : Geometry) (asked : Option Change) (t : Tale) (opened : IsOpenedAt g old t) (of_geometry : IsOfGeometry g next) (fits : length (record_text next) ≤ room_in next) (log : Log)
+  module _ (g : Geometry) (asked : Option Change) (t : Tale) (opened : IsOpenedAt g old t) (of_geometry : IsOfGeometry g next) (fits : record_bytes next ≤ room_in next) (log : Log)
       (covers : CoversWith (Spells g) (site_of g old.key) old.identity (λ image w. IsReadyWith (spots_of old.seats) w) log t) (known : IsNewest log old.mark old.table)
       (made : IsMade g asked old.table next) (change : MayChangeLists known.version next) where
     abbrev site : Site
@@ -220,7 +220,7 @@ module _ (old : Opened) (next : Table) (c : IsCommitting old next) where
         subst (λ (r : Replica). is_named (lists_of_spots (site_of g old.key) next.plan.lists) (spot_of r) ≡ true) (sym one.2.2) (c.named g t opened one.0 one.1)
 
     -- those that are left show the table
-    pub left_show : (t u : Tale) → WritingEnds old.seats new mark next t u → (g : Geometry) → IsOfGeometry g next → length (record_text next) ≤ room_in next → IsOpenedAt g old t → IsOpenedAt g (record old { mark = mark; table = next; seats = new }) u
+    pub left_show : (t u : Tale) → WritingEnds old.seats new mark next t u → (g : Geometry) → IsOfGeometry g next → record_bytes next ≤ room_in next → IsOpenedAt g old t → IsOpenedAt g (record old { mark = mark; table = next; seats = new }) u
     left_show t u ends g of_geometry fits opened = record {
       sound = opened.sound;
       of_geometry = of_geometry;
@@ -230,7 +230,7 @@ module _ (old : Opened) (next : Table) (c : IsCommitting old next) where
     }
 
   -- the other databases, while it is written
-  module _ (t m : Tale) (writing : WritingMoment old.seats mark next t m) (g : Geometry) (of_geometry : IsOfGeometry g next) (fits : length (record_text next) ≤ room_in next) (opened : IsOpenedAt g old t) where
+  module _ (t m : Tale) (writing : WritingMoment old.seats mark next t m) (g : Geometry) (of_geometry : IsOfGeometry g next) (fits : record_bytes next ≤ room_in next) (opened : IsOpenedAt g old t) where
     pub others_stand : (all : List Database) → RestStands (Spells g) g all old.identity t → RestStands (Spells g) g all old.identity m
     others_stand all = writing.slotting.rest g old.key old.identity all next opened.sound opened.held (bodies writing.body writing.spelled g opened.sound of_geometry fits)
 
@@ -239,7 +239,7 @@ module _ (old : Opened) (next : Table) (c : IsCommitting old next) where
 
 -- A commit: the lists stay.
 module _ (old : Opened) (next : Table) (seats : AreSeatsOf old.table old.seats) (boot : old.mark.boot < 2 ^ 63) (small : old.mark.count + 1 < 2 ^ 63) (half : shortage old ≡ None)
-    (none_above : (r : Replica) → Contains (replicas_of old.seats) r → HasNoneAbove old.mark r.head) (lists : next.plan.lists ≡ old.table.plan.lists) (in_room : length (record_text next) ≤ room_in old.table) where
+    (none_above : (r : Replica) → Contains (replicas_of old.seats) r → HasNoneAbove old.mark r.head) (lists : next.plan.lists ≡ old.table.plan.lists) (in_room : record_bytes next ≤ room_in old.table) where
   pub committing : IsCommitting old next
   committing = record {
     seats = record { places = seats.places ∙ ap places_of (sym lists); some = seats.some; few = seats.few; at = seats.at };
@@ -255,8 +255,8 @@ module _ (old : Opened) (next : Table) (seats : AreSeatsOf old.table old.seats) 
   abbrev next_to : Mark
   next_to = next_mark old.mark
 
-  fits : length (record_text next) ≤ room_in next
-  fits = subst (λ (l : Lists). length (record_text next) ≤ least_slot_bytes (places_of l)) (sym lists) in_room
+  fits : record_bytes next ≤ room_in next
+  fits = subst (λ (l : Lists). record_bytes next ≤ least_slot_bytes (places_of l)) (sym lists) in_room
 
   as_commit : (g : Geometry) (es : List Event) → AreWritten g old next es → AreOfCommit g old es
   as_commit g es (p, active, run) = inr (p, active, subst (λ (l : Lists). IsCommitRun (lists_of_spots (site_of g old.key) l) p (spots_of old.seats) es) lists run)

@@ -13,7 +13,7 @@ use Rattle.mdv_store_law.proofs.Fates.{lives_there}
 use Rattle.mdv_standing.proofs.Stretches.{traced_answer, traced_first_write}
 use Rattle.mdv_standing.proofs.Tracing.{adds_begun, adds_none, adds_written, course_one, course_written, more, newest_begun, part_one, run_within, trace_weaker}
 use Rattle.mdv_acts.specs.Acts.{Act, AreDoing, AreDone, blanks_asked, forms_asked}
-use Rattle.mdv_store.specs.Below.{Database, Event, Everywhere, Failures, Geometry, Identity, IsPart, IsReadyWith, IsTaking, Key, Log, Replica, RestStands, Site, SliceLine, Spot, Table, Tale, fills_at, lists_of_spots, record_text, site_of, spot_on}
+use Rattle.mdv_store.specs.Below.{Database, Event, Everywhere, Failures, Geometry, Identity, IsPart, IsReadyWith, IsTaking, Key, Log, Replica, RestStands, Site, SliceLine, Spot, Table, Tale, fills_at, lists_of_spots, record_bytes, site_of, spot_on}
 use Rattle.mdv_store.specs.Commit.{AnyLog, AnyWorld}
 use Rattle.mdv_acts.specs.Asked.{AreAsked}
 use Rattle.mdv_store.specs.Create.{AreOfCreation, CreateGoes, IsCreatedTo, MayCreate, replica_on, seats_asked, table_of}
@@ -64,7 +64,7 @@ module _ (g : Geometry) (all : List Database) (key : Key) (identity : Identity) 
   begun = log_after log (WritesLog first_mark None [] table)
 
   abbrev bytes : ℕ
-  bytes = length (record_text table)
+  bytes = record_bytes table
 
   abbrev Begin : List Event → Type 0
   Begin = IsCreationBegin (lists_of_spots site table.plan.lists)
@@ -209,7 +209,7 @@ module _ (g : Geometry) (all : List Database) (key : Key) (identity : Identity) 
           let within = subst (λ (l : List Event). IsPart plan l) told_last (part_front plan (Told ∷ [])) in
           record {
             es = WritesLog first_mark None [] table ∷ [];
-            course = course_one g log (WritesLog first_mark None [] table) (may_write_first g identity log table refl refl (lives_there log.fate refl) refl (_, refl));
+            course = course_one g log (WritesLog first_mark None [] table) (may_write_first g identity log table refl refl (lives_there log.fate refl) (_, refl));
             come = adds_begun first_mark None [] table;
             traces = trace_weaker (Spells g) site identity log begun (IsStart site) (IsStart site) (IsTaking false first_mark []) AnyWorld (IsRun Begin plan) Are t m (λ w known. known)
                 (λ es run. inr (p, run_within Begin plan (formats_at spots ++ written_at p spots) es within run)) (λ w known. tt) (fills [] m (slotting.traces g key identity begun table false [] written));
@@ -248,7 +248,7 @@ module _ (g : Geometry) (all : List Database) (key : Key) (identity : Identity) 
             (λ fs is. part_one Told fs is) (traced_answer (Spells g) site identity begun u first_mark table false took enough newest) in
             record {
               es = WritesLog first_mark None [] table ∷ (Written ∷ []);
-              course = course_written g log first_mark None [] table (may_write_first g identity log table refl refl (lives_there log.fate refl) refl (_, refl));
+              course = course_written g log first_mark None [] table (may_write_first g identity log table refl refl (lives_there log.fate refl) (_, refl));
               come = adds_written first_mark None [] table;
               traces = trace_weaker (Spells g) site identity log answered (IsStart site) (IsStart site) (IsReadyWith took) (IsReadyWith (spots_of new)) (IsRun Begin (((formats_at spots ++ opening ∷ []) ++ fills_at spots) ++ Told ∷ [])) Are t u (λ w known. known)
                   (λ es run. inr (p, subst (λ (l : List Event). IsRun Begin l es) told_last run)) (λ w known. subst (λ (l : List Spot). IsReadyWith l w) (append-nil (spots_of new)) known) all_told;

@@ -1,5 +1,5 @@
 -- Reads as calls that wrote nothing.
-use Rattle.std.proofs.Common.{◌≡◌, ℕ, zero, suc, ◌+◌, ◌≤◌, arith, refl, subst}
+use Rattle.std.proofs.Common.{ℕ, zero, suc, ◌+◌, ◌≤◌, arith, refl, subst}
 use Rattle.mdv_shelf.proofs.Between.{between_none, between_of, between_wider}
 use Rattle.mdv_shelf.proofs.Counts.{took_more}
 use Rattle.mdv_shelf.specs.Shelves.{MadeCalls}

@@ -1,8 +1,8 @@
 -- A draft's table with its new list alone.
 use Rattle.std.proofs.Common.{◌≡◌, ◌<◌, ◌≤◌, ◌*◌, ◌^◌, ◌==◌, ◌&&◌, ℕ, Bool, false, List, length, map, refl, sym, ◌∙◌, subst, ap, arith, None, Some, MatchOption, Option, vec_len}
 use Rattle.std.proofs.lemmas.List.{length-map}
-use Rattle.mdv_record.proofs.Lengths.{length-lists_text, length-record_text}
-use Rattle.mdv_record.specs.Text.{lists_text}
+use Rattle.mdv_encoding.proofs.Lengths.{length-lists_text, length-record_text}
+use Rattle.mdv_fields.specs.Sets.{lists_text}
 use Rattle.mdv_store.specs.Below.{Failures, Ghosts, Lists, One, Place, Table, Two, last_of, settled}
 use Rattle.mdv_store.specs.Commit.{next_mark}
 use Rattle.mdv_store.specs.Opened.{AreSeatsOf, IsOpen, least_room}

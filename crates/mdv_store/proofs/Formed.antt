@@ -1,11 +1,11 @@
 -- The places of a creation are formatted, and its first table is written to their replicas, whatever else lies on the drives.
-use Rattle.std.proofs.Common.{◌≡◌, ℕ, ◌+◌, ◌*◌, ◌≤◌, true, List, length, Contains, sym, ◌∙◌, ap, subst, arith}
+use Rattle.std.proofs.Common.{◌≡◌, ℕ, ◌+◌, ◌*◌, ◌≤◌, true, List, Contains, sym, ◌∙◌, ap, subst, arith}
 use Rattle.mdv_replica.specs.declared.forms.Gate.TheVariants.{Closed}
 use Rattle.mdv_replica.specs.declared.forms.Master.{Master}
 use Rattle.mdv_shown.specs.Formats.{master_on}
 use Rattle.mdv_standing.specs.Creating.{first_mark}
 use Rattle.mdv_acts.specs.Acts.{AreDoing, AreDone, acts_asked, blanks_asked}
-use Rattle.mdv_store.specs.Below.{Failures, First, Geometry, Identity, IsOwn, Key, Mark, Open, Replica, Second, Site, SliceLine, Slot, Table, Tale, gate_of, is_named, lists_of_spots, record_text, site_of}
+use Rattle.mdv_store.specs.Below.{Failures, First, Geometry, Identity, IsOwn, Key, Mark, Open, Replica, Second, Site, SliceLine, Slot, Table, Tale, gate_of, is_named, lists_of_spots, record_bytes, site_of}
 use Rattle.mdv_store.specs.Blank.{StayBlank}
 use Rattle.mdv_acts.specs.Asked.{AreAsked}
 use Rattle.mdv_store.specs.Create.{MayForm, replica_on, seats_asked, table_of}
@@ -37,7 +37,7 @@ module _ (g : Geometry) (key : Key) (identity : Identity) (lines : List SliceLin
   table = table_of seats
 
   abbrev bytes : ℕ
-  bytes = length (record_text table)
+  bytes = record_bytes table
 
   pub given : IsGiven g key identity lines count blocks 1
   given = all_given g key identity lines count blocks sizes owner asked may

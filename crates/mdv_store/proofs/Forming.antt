@@ -28,7 +28,7 @@ use Rattle.mdv_store.specs.Create.{seats_asked}
 use Rattle.mdv_store.specs.Records.{Spells}
 use Rattle.mdv_store.specs.Seats.{spots_of}
 use Rattle.mdv_store.specs.declared.seats.Seat.{Seat}
-use Rattle.mdv_table.specs.declared.plan.Lists.{Lists}
+use Rattle.mdv_plan.specs.declared.lists.Lists.{Lists}
 use Rattle.mdv_votes.proofs.Meeting.{same_is, same_self}
 use Rattle.mdv_votes.specs.Spots.{is_in}
 use Rattle.mdv_votes.specs.declared.spot.SpotLists.{SpotLists}

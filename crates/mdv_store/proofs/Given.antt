@@ -14,7 +14,7 @@ use Rattle.mdv_standing.specs.Blanking.{IsFormatOn}
 use Rattle.mdv_store.specs.Below.{Geometry, Identity, Key, IsSound, Site, SliceLine, Spot, is_named, lists_of_spots, site_of, spot_on}
 use Rattle.mdv_acts.specs.Asked.{AreAsked}
 use Rattle.mdv_store.specs.Create.{MayForm, seats_asked, table_of}
-use Rattle.mdv_table.proofs.Pairs.{AllPairs-first, AllPairs-rest}
+use Rattle.mdv_config.proofs.Pairs.{AllPairs-first, AllPairs-rest}
 use Rattle.mdv_votes.specs.Spots.{is_in}
 use Rattle.mdv_acts.proofs.Asked.{few_each, start_short, within_line}
 use Rattle.mdv_store.proofs.Putting.{IsGiven}

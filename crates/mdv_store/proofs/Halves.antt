@@ -6,8 +6,8 @@ use Rattle.mdv_name.proofs.Finding.{slice_at-some}
 use Rattle.mdv_name.specs.SliceIndex.{slice_at}
 use Rattle.mdv_shown.specs.Sites.{is_line_of, lines_of}
 use Rattle.mdv_standing.specs.Matching.{spot_in, voted_table}
-use Rattle.mdv_table.specs.declared.plan.Lists.{Lists}
-use Rattle.mdv_table.specs.declared.plan.Lists.TheVariants.{One, Two}
+use Rattle.mdv_plan.specs.declared.lists.Lists.{Lists}
+use Rattle.mdv_plan.specs.declared.lists.Lists.TheVariants.{One, Two}
 use Rattle.mdv_votes.proofs.Meeting.{same_self}
 use Rattle.mdv_votes.specs.Quorum.{is_written, is_written_list}
 use Rattle.mdv_votes.specs.Spots.{covers, is_half, is_in, is_majority}

@@ -6,9 +6,9 @@ use Rattle.std.proofs.lemmas.List.{drop_all}
 use Rattle.mdv_base.specs.declared.flags.Flags.{Flags}
 use Rattle.mdv_survey.specs.declared.replica.Newest.{Newest}
 use Rattle.mdv_survey.specs.declared.replica.Survey.{Survey}
-use Rattle.mdv_table.specs.Tests.{same_place}
-use Rattle.mdv_table.proofs.Testing.{same_place-true}
-use Rattle.mdv_store.specs.Below.{Drives, Failures, Place, Site, Table, last_of, places_of, record_text}
+use Rattle.mdv_config.specs.Lists.{same_place}
+use Rattle.mdv_config.proofs.Testing.{same_place-true}
+use Rattle.mdv_store.specs.Below.{Drives, Failures, Place, Site, Table, last_of, places_of, record_bytes}
 use Rattle.mdv_store.specs.Boot.{IfAdopted, IsAdopted, IsEndBy, is_memory}
 use Rattle.mdv_store.specs.Letters.{AreLettersOf, AreRead, flags_at, flags_by, is_lettered_at, is_seat_at, letters_from, places_seen, seen_at}
 use Rattle.mdv_store.specs.Progress.{Progress}
@@ -102,7 +102,7 @@ module _ (failed : ℕ → Failures) (Wrote : Hand → Table → Progress → Ty
   of_adopted : (o : Opened) → IsAdopted failed Wrote site survey o → places_seen letters ≡ places_of o.table.plan.lists
   of_adopted o a =
       let read : AreRead site survey calm a.newest letters = subst (λ (n : Option Newest). MatchOption n (letters ≡ []) (λ newest. AreRead site survey calm newest letters)) a.drawn.hand.newest_is are in
-      let seen = seen_at site survey calm read.replica.head.master.identity a.newest.mark (blocks_for (length (record_text a.newest.table))) in
+      let seen = seen_at site survey calm read.replica.head.master.identity a.newest.mark (blocks_for (record_bytes a.newest.table)) in
       ap places_seen read.letters_are ∙ seen_places seen false (last_of a.newest.table.plan.lists) ∙ ap (λ (x : Opened). places_of x.table.plan.lists) (sym a.is)
 
   pub of_ended : (e : BootEnd) → (is_memory e ≡ true) ⊎ IsEndBy failed Wrote site survey e → IfAdopted e (λ o. places_seen letters ≡ places_of o.table.plan.lists)

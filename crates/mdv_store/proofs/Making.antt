@@ -13,13 +13,13 @@ use Rattle.mdv_shelf.proofs.Counts.{took_more}
 use Rattle.mdv_shelf.proofs.Moments.{ends_more, grew_weaker, moments_after, moments_end, moments_none, moments_weaker, some_is}
 use Rattle.mdv_standing.specs.Creating.{first_mark}
 use Rattle.mdv_acts.specs.Acts.{Act, AreDoing, AreDone, HaveGone, HaveStopped, Makes, blanks_asked, blocks_of, calls_of, forms_asked}
-use Rattle.mdv_store.specs.Below.{DriveNo, Failures, First, Geometry, Ghosts, Head, Identity, Key, Mark, Open, Replica, Second, SliceLine, Slot, Table, Tale, gate_of, record_text, with_slot}
+use Rattle.mdv_store.specs.Below.{DriveNo, Failures, First, Geometry, Ghosts, Head, Identity, Key, Mark, Open, Replica, Second, SliceLine, Slot, Table, Tale, gate_of, record_bytes, with_slot}
 use Rattle.mdv_store.specs.Counts.{ArePassCounted, MadeCallsBetween, drives_lost}
 use Rattle.mdv_acts.specs.Asked.{AreAsked, blanked_asked, drives_asked}
 use Rattle.mdv_store.specs.Create.{CreateAnswer, CreateEnds, CreateMoment, IsCreated, IsCreationCounted, MayForm, StayFormed, WereFormed, seats_asked, table_of}
 use Rattle.mdv_store.specs.Listing.{list_room}
 use Rattle.mdv_store.proofs.Rooms.{first_most}
-use Rattle.mdv_store.specs.Opened.{IsOpen, Opened, least_room}
+use Rattle.mdv_store.specs.Opened.{IsOpen, Opened}
 use Rattle.mdv_store.specs.Seats.{AreLaid, AreLeft, TakesSlot, active_of, drives_of, replicas_of}
 use Rattle.mdv_store.specs.Shares.{short_of}
 use Rattle.mdv_store.specs.Text.{blocks_for}
@@ -36,7 +36,7 @@ use Rattle.mdv_store.proofs.Ending.{acts_unbegun, made_ends, writing_goes, writi
 use Rattle.mdv_store.proofs.Formed.{acts_dark, held, made_opened, writing_dark, writing_stays}
 use Rattle.mdv_store.proofs.Given.{IsOwner}
 use Rattle.mdv_store.proofs.Marks.{slot_laid, slot_stays}
-use Rattle.mdv_record.proofs.Rooms.{room_most}
+use Rattle.mdv_encoding.proofs.Rooms.{room_most}
 use Rattle.mdv_store.proofs.Seated.{replica_is, seats_laid, seats_of_table, some_asked, text_asked}
 use Rattle.mdv_store.proofs.Sitting.{contains_first, first_or_behind, left_count, left_laid, left_replica, left_seats, contains_behind}
 use Rattle.mdv_store.proofs.Spotting.{asked_active, asked_length}
@@ -74,7 +74,7 @@ module _ {S : Type 0} (shelf : Ghosts S) (key : Key) (identity : Identity) (line
   table = table_of seats
 
   abbrev bytes : ℕ
-  bytes = length (record_text table)
+  bytes = record_bytes table
 
   abbrev acts : List Act
   acts = blanks_asked lines count blocks ++ forms_asked key identity 1 lines count blocks
@@ -239,7 +239,7 @@ module _ {S : Type 0} (shelf : Ghosts S) (key : Key) (identity : Identity) (line
             let now : active_of new ≡ active_of seats = ap active_of (sym its) ∙ everyone ∙ sym active in
             let some = some_asked key identity count blocks lines (shelf.sizes a) asked in
             let second = pass.all (omega (arith, active, some)) now in
-            subst (λ (u : Table). MadeCalls shelf a c (2 * blanked_asked lines count + 12 * (length lines * count)) (blanked_asked lines count + (7 + blocks_for (length (record_text u))) * (length lines * count))) (sym same)
+            subst (λ (u : Table). MadeCalls shelf a c (2 * blanked_asked lines count + 12 * (length lines * count)) (blanked_asked lines count + (7 + blocks_for (record_bytes u)) * (length lines * count))) (sym same)
             (took_more shelf.calls shelf.written a b c (calls_of acts) (6 * active_of seats) (blocks_of acts) ((2 + blocks_for bytes) * active_of seats) (2 * blanked_asked lines count + 12 * (length lines * count))
             (blanked_asked lines count + (7 + blocks_for bytes) * (length lines * count)) (omega (arith, total_calls, active))
             (let rows = ap (λ (n : ℕ). (2 + blocks_for bytes) * n) active in omega (arith, total_blocks, rows)) first second),

@@ -14,7 +14,7 @@ use Rattle.mdv_standing.specs.Worlds.{IsNoneOr}
 use Rattle.mdv_standing.proofs.Tracing.{part_none_or, part_one, trace_here, trace_more, trace_weaker}
 use Rattle.mdv_store_law.specs.Part.{IsPart}
 use Rattle.mdv_store_law.proofs.Parts.{part_before, part_front, part_itself, part_mapped, part_more, part_of_part}
-use Rattle.mdv_table.proofs.Pairs.{AllPairs-first, AllPairs-parts}
+use Rattle.mdv_config.proofs.Pairs.{AllPairs-first, AllPairs-parts}
 use Rattle.mdv_votes.specs.Spots.{is_in}
 use Rattle.mdv_votes.proofs.Meeting.{same_self}
 use Rattle.mdv_store.specs.Below.{Area, Core, Event, Identity, IsSynced, Log, Replica, Site, Spot, Table, Tale, same_spot}

@@ -20,7 +20,7 @@ use Rattle.mdv_store.specs.Below.{Everywhere, Geometry, Head, Identity, Image, I
 use Rattle.mdv_store.specs.Create.{seats_asked, table_of}
 use Rattle.mdv_store.specs.Records.{Spells}
 use Rattle.mdv_store.specs.declared.seats.Seat.{Seat}
-use Rattle.mdv_table.specs.declared.plan.Lists.{Lists}
+use Rattle.mdv_plan.specs.declared.lists.Lists.{Lists}
 use Rattle.mdv_votes.specs.declared.spot.SpotLists.{SpotLists}
 use Rattle.mdv_store.proofs.Bare.{bare_blank, first_bare, later_bare}
 use Rattle.mdv_store.proofs.Blanks.{StayDark, still_dark}

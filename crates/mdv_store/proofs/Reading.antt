@@ -1,5 +1,5 @@
 -- What was read, as the votes see it.
-use Rattle.std.proofs.Common.{◌≡◌, inl, inr, ◌<◌, ◌≤◌, ◌+◌, ◌*◌, ◌^◌, max, ℕ, Bool, true, false, ◌&&◌, cond, List, [], ◌∷◌, ◌++◌, None, Some, Contains, length, map, slice_get, slice_index_or, refl, sym, ◌∙◌, subst, ap, arith}
+use Rattle.std.proofs.Common.{◌≡◌, inl, inr, ◌<◌, ◌≤◌, ◌+◌, ◌*◌, ◌^◌, max, ℕ, Bool, true, false, ◌&&◌, cond, List, [], ◌∷◌, ◌++◌, None, Some, Contains, map, slice_get, slice_index_or, refl, sym, ◌∙◌, subst, ap, arith}
 use Rattle.std.specs.Prelude.{nat_le, not}
 use Rattle.std.specs.List.{AllPairs, find, list_any}
 use Rattle.std.proofs.lemmas.Bool.{leb-true, or_left, or_right}
@@ -21,14 +21,14 @@ use Rattle.mdv_replica.specs.Form.{shows}
 use Rattle.mdv_replica.specs.Seen.{IsMasterAt}
 use Rattle.mdv_survey.specs.Replica.{IsFoundIn, IsOnShelf, IsSeated}
 use Rattle.mdv_survey.specs.declared.replica.Newest.{Newest}
-use Rattle.mdv_table.proofs.Testing.{same_place-true}
-use Rattle.mdv_table.specs.Plan.{beside}
-use Rattle.mdv_table.specs.Tests.{same_place}
-use Rattle.mdv_table.specs.declared.plan.Lists.{Lists}
-use Rattle.mdv_table.specs.declared.plan.Lists.TheVariants.{One, Two}
+use Rattle.mdv_config.proofs.Testing.{same_place-true}
+use Rattle.mdv_config.specs.Lists.{beside}
+use Rattle.mdv_config.specs.Lists.{same_place}
+use Rattle.mdv_plan.specs.declared.lists.Lists.{Lists}
+use Rattle.mdv_plan.specs.declared.lists.Lists.TheVariants.{One, Two}
 use Rattle.mdv_votes.proofs.Meeting.{same_is, same_self}
 use Rattle.mdv_votes.specs.Spots.{is_in}
-use Rattle.mdv_store.specs.Below.{Drives, Geometry, Identity, IsOfGeometry, IsOwn, Key, Open, Place, Replica, Site, SliceLine, Spot, Table, Tale, at_of, gate_of, greatest, has_drive, is_named, last, lists_of_spots, places_of, record_text, same_spot, site_of, slot_blocks, spot_on}
+use Rattle.mdv_store.specs.Below.{Drives, Geometry, Identity, IsOfGeometry, IsOwn, Key, Open, Place, Replica, Site, SliceLine, Spot, Table, Tale, at_of, gate_of, greatest, has_drive, is_named, last, lists_of_spots, places_of, record_bytes, same_spot, site_of, slot_blocks, spot_on}
 use Rattle.mdv_store.specs.Adopting.{AreJustOn, WasReadOf}
 use Rattle.mdv_store.specs.Booting.{WasReadOn}
 use Rattle.mdv_store.specs.Boot.{greatest_number, is_seated, seat_for}
@@ -51,7 +51,7 @@ use Rattle.mdv_store.proofs.Rows.{part_filter, part_has}
 use Rattle.mdv_store.proofs.Seating.{greatest_most, seat_of_replica, seated_at, seats_once, seats_places}
 use Rattle.mdv_store.proofs.Shares.{some_more}
 use Rattle.mdv_store.proofs.Sitting.{active_most, contains_behind, contains_first, first_or_behind, seat_of}
-use Rattle.mdv_table.proofs.Listed.{listed_once}
+use Rattle.mdv_config.proofs.Listed.{listed_once}
 
 abbrev pub seen_of : Replica → Seen
 seen_of r = record { line = r.line; number = r.number; first = r.first; head = r.head }
@@ -120,7 +120,7 @@ seated_room identity p text r seated =
 -- What is in hand is in order, whatever the drives have.
 module _ (site : Site) (replicas : List Replica) (newest : Newest) (hand : Hand) (is : IsHandOf replicas newest hand) (seated : (r : Replica) → Contains replicas r → IsSeated site r) (enough : short_of More hand.seats newest.table.plan.lists ≡ None) where
   abbrev text : ℕ
-  text = blocks_for (length (record_text newest.table))
+  text = blocks_for (record_bytes newest.table)
 
   abbrev places : List Place
   places = places_of newest.table.plan.lists
@@ -210,13 +210,13 @@ module _ (g : Geometry) (key : Key) (replicas : List Replica) (newest : Newest) 
           let start : 16 + r.number * r.first.blocks ≡ 16 + x.number * x.first.blocks = omega (arith, firsts, ap (λ (l : SliceLine). l.at.start) lines) in
           λ i. record { slice = (lines i).name; start = start i; blocks = (first i).blocks }
 
-  apart_spots : (p q : Place) (r x : Replica) → Contains replicas r → Contains replicas x → is_seated hand.identity p (blocks_for (length (record_text newest.table))) r ≡ true → is_seated hand.identity q (blocks_for (length (record_text newest.table))) x ≡ true
+  apart_spots : (p q : Place) (r x : Replica) → Contains replicas r → Contains replicas x → is_seated hand.identity p (blocks_for (record_bytes newest.table)) r ≡ true → is_seated hand.identity q (blocks_for (record_bytes newest.table)) x ≡ true
       → (p ≡ q → ⊥) → same_spot (spot_of r) (spot_of x) ≡ false
   apart_spots p q r x has_r has_x seat_r seat_x differ = by (same_spot (spot_of r) (spot_of x)) refl where
     equal : same_spot (spot_of r) (spot_of x) ≡ true → ⊥
     equal so =
-        let one = seated_place at hand.identity p (blocks_for (length (record_text newest.table))) r (seated r has_r) seat_r in
-        let two = seated_place at hand.identity q (blocks_for (length (record_text newest.table))) x (seated x has_x) seat_x in
+        let one = seated_place at hand.identity p (blocks_for (record_bytes newest.table)) r (seated r has_r) seat_r in
+        let two = seated_place at hand.identity q (blocks_for (record_bytes newest.table)) x (seated x has_x) seat_x in
         differ (sym one ∙ one_spot r x has_r has_x (same_is (spot_of r) (spot_of x) so) ∙ two)
 
     by : (b : Bool) → same_spot (spot_of r) (spot_of x) ≡ b → same_spot (spot_of r) (spot_of x) ≡ false
@@ -230,7 +230,7 @@ module _ (g : Geometry) (key : Key) (replicas : List Replica) (newest : Newest) 
   held = record {
     each = λ r has. (let one = in_hand_is at replicas newest hand is seated enough r has in own_at r one.1 (seated_own hand.identity one.0 _ r one.2));
     once = subst (λ (ss : List Seat). AllPairs (λ (p q : Spot). same_spot p q ≡ false) (spots_of ss)) (sym is.seats_are)
-        (seats_once replicas hand.identity (blocks_for (length (record_text newest.table))) apart_spots (places_of newest.table.plan.lists) (listed_once g newest.table.plan.lists its_record.lists));
+        (seats_once replicas hand.identity (blocks_for (record_bytes newest.table)) apart_spots (places_of newest.table.plan.lists) (listed_once g newest.table.plan.lists its_record.lists));
   }
 
   abbrev are : AreSeatsOf newest.table hand.seats

@@ -1,12 +1,12 @@
 -- A table that is written with another list of places than the open one.
-use Rattle.std.proofs.Common.{◌≡◌, inl, inr, ◌<◌, ◌≤◌, ◌+◌, ◌*◌, ◌^◌, ℕ, Bool, true, false, cond, List, [], ◌∷◌, length, map, Contains, Some, None, refl, sym, ◌∙◌, ap, subst, arith}
+use Rattle.std.proofs.Common.{◌≡◌, inl, inr, ◌<◌, ◌≤◌, ◌+◌, ◌*◌, ◌^◌, ℕ, Bool, true, false, cond, List, [], ◌∷◌, length, Contains, Some, refl, sym, ◌∙◌, ap, subst, arith}
 use Rattle.std.proofs.lemmas.List.{length-map}
-use Rattle.mdv_record.proofs.Rooms.{room_each}
-use Rattle.mdv_record.specs.Room.{least_slot_bytes}
+use Rattle.mdv_encoding.proofs.Rooms.{room_each}
+use Rattle.mdv_encoding.specs.Room.{least_slot_bytes}
 use Rattle.mdv_store.specs.Below.{Failures, HasNoneAbove, Lists, Place, Replica, last_of, places_of}
 use Rattle.mdv_store.specs.Commit.{next_mark}
 use Rattle.mdv_store.specs.Listing.{IsLast, IsRoomFor, IsRoomy, IsSecond, is_listed_in, last_by, seats_in}
-use Rattle.mdv_store.specs.Opened.{AreSeatsOf, IsOpen, Opened, least_room, shortage}
+use Rattle.mdv_store.specs.Opened.{AreSeatsOf, IsOpen, Opened, least_room}
 use Rattle.mdv_store.specs.Seats.{AreLaid, AreLeft, HaveRoom, TakesSlot, replicas_of}
 use Rattle.mdv_store.specs.Settled.{first_room}
 use Rattle.mdv_store.specs.Shares.{short_of}

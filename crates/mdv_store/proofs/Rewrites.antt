@@ -1,8 +1,8 @@
 -- The two passes of a boot: what they come to, and what they cost.
-use Rattle.std.proofs.Common.{◌≡◌, ◌⊎◌, inl, inr, ◌<◌, ◌≤◌, ◌+◌, ◌*◌, ◌^◌, ℕ, Bool, false, List, [], ◌∷◌, Contains, length, refl, sym, ◌∙◌, subst, ap, arith, Option, None, Some, MatchOption}
+use Rattle.std.proofs.Common.{◌≡◌, ◌⊎◌, inl, inr, ◌<◌, ◌≤◌, ◌+◌, ◌*◌, ◌^◌, ℕ, Bool, false, List, [], Contains, length, sym, ◌∙◌, subst, ap, arith, Option, None, Some}
 use Rattle.std.proofs.Math.Nat.{mul-le-mul_left}
 use Rattle.mdv_base.specs.Causes.{RoseOnce}
-use Rattle.mdv_record.proofs.Rooms.{room_most}
+use Rattle.mdv_encoding.proofs.Rooms.{room_most}
 use Rattle.mdv_store.proofs.Rooms.{first_most}
 use Rattle.mdv_shelf.proofs.Between.{between_then, between_wider}
 use Rattle.mdv_shelf.proofs.Counts.{took_more}
@@ -15,7 +15,7 @@ use Rattle.mdv_shown.specs.Choice.{spots_seen}
 use Rattle.mdv_standing.specs.Adopting.{drawn}
 use Rattle.mdv_standing.specs.Others.{Anything}
 use Rattle.mdv_standing.specs.Tracing.{GoesTraced}
-use Rattle.mdv_store.specs.Below.{CoversWith, DriveNo, Failures, Geometry, Ghosts, IsReadyWith, IsSynced, Key, Log, One, Place, Replica, Table, Tale, Two, last_of, places_of, record_text, settled, site_of}
+use Rattle.mdv_store.specs.Below.{CoversWith, DriveNo, Failures, Geometry, Ghosts, IsReadyWith, IsSynced, Key, Log, Replica, Table, Tale, last_of, places_of, record_bytes, site_of}
 use Rattle.mdv_store.specs.Boot.{IfAdopted, TakesBoth, need_of}
 use Rattle.mdv_store.specs.BootCounts.{blocks_at, calls_at, most_blocks, most_calls}
 use Rattle.mdv_store.specs.Booting.{HasNoStaleVote}
@@ -27,7 +27,6 @@ use Rattle.mdv_store.specs.Records.{Spells}
 use Rattle.mdv_store.specs.Progress.{Claimed, Rewritten}
 use Rattle.mdv_store.specs.Passing.{IsPassing, Passed, WentBy, WentOver, claiming, slotting}
 use Rattle.mdv_store.specs.Seats.{AreLaid, AreLeft, HaveRoom, IsLaid, TakesClaim, TakesSlot, active_of, drive_of, drives_of, replicas_of, seats_area, spots_of}
-use Rattle.mdv_store.specs.Settled.{again_of, seats_now}
 use Rattle.mdv_store.specs.Slots.{SlottingEnds, SlottingMoment}
 use Rattle.mdv_store.specs.Taking.{IsCalmOver, IsReadied, IsRewriteAnswer, IsRewriteEnd, IsTakingCounted, IsToAdopt, LeftHoldOf, RewriteEnds, RewriteMoment, StaySynced, WereClaimed, WereRewritten, room_of}
 use Rattle.mdv_store.specs.Text.{IsSpelled, blocks_for}
@@ -38,12 +37,12 @@ use Rattle.mdv_store.specs.declared.booting.Hand.{Hand}
 use Rattle.mdv_store.specs.declared.booting.Taken.{Taken}
 use Rattle.mdv_store.specs.declared.seats.Need.{Need}
 use Rattle.mdv_store.specs.declared.seats.Seat.{Seat}
-use Rattle.mdv_table.specs.declared.plan.Lists.{Lists}
+use Rattle.mdv_plan.specs.declared.lists.Lists.{Lists}
 use Rattle.mdv_look.proofs.Among.{among_calm, is_one_of}
 use Rattle.mdv_look.proofs.Bringing.{one_number, same_drive}
 use Rattle.mdv_store.proofs.Losing.{left_or_lost, pass_wrote, rose_then}
 use Rattle.mdv_store.proofs.Once.{pass_once}
-use Rattle.mdv_store.proofs.Passes.{later, left_area, left_as, left_both, left_calm, left_most, left_told, mapped, pass_synced, some_lost, takes_both, unmapped}
+use Rattle.mdv_store.proofs.Passes.{later, left_area, left_both, left_calm, left_most, left_told, mapped, pass_synced, some_lost, takes_both, unmapped}
 use Rattle.mdv_look.proofs.Quiet.{quiet_more, quiet_wider}
 use Rattle.mdv_store.proofs.Shares.{more_suffices, short_fewer, some_more}
 use Rattle.mdv_store.proofs.Rewriting.{AreBooted, blank_goes, claims_go, ends_go, opened, rest_goes, slots_go}
@@ -74,12 +73,12 @@ pub record AreTwice (key : Key) (hand : Hand) (table : Table) (last : List Seat)
 
 -- Both passes, where enough of each list took them: what they come to, and what they cost.
 pub record IsTwice {S : Type 0} (shelf : Ghosts S) (key : Key) (hand : Hand) (table : Table) (old mid : S) (last : List Seat) : Type 0 where
-  pub took : AreLeft (DriveFailures shelf old mid) (TakesBoth hand.number (length (record_text table))) hand.seats last
+  pub took : AreLeft (DriveFailures shelf old mid) (TakesBoth hand.number (record_bytes table)) hand.seats last
   pub enough : short_of (need_of key) last table.plan.lists ≡ None
   pub wrote : RoseByAtLeast 1 (shelf.written old) (shelf.written mid)
-  pub made : MadeCallsBetween shelf old mid 1 (8 * active_of hand.seats) ((3 + blocks_for (length (record_text table))) * active_of hand.seats)
+  pub made : MadeCallsBetween shelf old mid 1 (8 * active_of hand.seats) ((3 + blocks_for (record_bytes table)) * active_of hand.seats)
   pub most : MadeCallsBetween shelf old mid 0 (8 * 100) (100 * 4097)
-  pub exact : active_of last ≡ active_of hand.seats → MadeCalls shelf old mid (8 * active_of last) ((3 + blocks_for (length (record_text table))) * active_of last)
+  pub exact : active_of last ≡ active_of hand.seats → MadeCalls shelf old mid (8 * active_of last) ((3 + blocks_for (record_bytes table)) * active_of last)
   pub written : WereRewritten shelf old mid key hand table last
   pub kept : KeptAmong shelf old mid (drives_of hand.seats)
   pub moments : AtEachTale shelf (RewriteMoment key hand table) old mid
@@ -186,7 +185,7 @@ module _ {S : Type 0} (shelf : Ghosts S) (key : Key) (hand : Hand) (table : Tabl
     both_wrote : RoseByAtLeast 1 (shelf.written old) (shelf.written new)
     both_wrote = rose_then 1 _ 1 (shelf.written old) (shelf.written mid) (shelf.written new) (omega arith) first_wrote slot_counted.wrote
 
-    long : length body ≡ blocks_for (length (record_text table))
+    long : length body ≡ blocks_for (record_bytes table)
     long = spelled_long table bytes body spelled
 
     -- the table was written to each place that claimed
@@ -220,13 +219,13 @@ module _ {S : Type 0} (shelf : Ghosts S) (key : Key) (hand : Hand) (table : Tabl
     both_opened : (t u v : Tale) → ClaimingEnds hand.seats now hand.number t u → SlottingEnds now last (drawn hand.number) bytes body u v → LeftHoldOf key hand table (Rewritten last) t v
     both_opened t u v one two g to = opened key hand table ready g t to (DriveFailures shelf old mid) now u left one bytes body spelled (DriveFailures shelf mid new) last v left_last two
 
-    both_made : MadeCallsBetween shelf old new 1 (8 * active_of hand.seats) ((3 + blocks_for (length (record_text table))) * active_of hand.seats)
+    both_made : MadeCallsBetween shelf old new 1 (8 * active_of hand.seats) ((3 + blocks_for (record_bytes table)) * active_of hand.seats)
     both_made =
         let less = left_most (DriveFailures shelf old mid) (TakesClaim hand.number) hand.seats now left in
         let product = mul-le-mul_left (2 + length body) less in
-        let sum : 1 * active_of hand.seats + (2 + length body) * active_of hand.seats ≡ (3 + blocks_for (length (record_text table))) * active_of hand.seats =
-        subst (λ (n : ℕ). 1 * active_of hand.seats + (2 + n) * active_of hand.seats ≡ (3 + blocks_for (length (record_text table))) * active_of hand.seats) (sym long) (omega arith) in
-        between_then shelf.calls shelf.written old mid new _ (2 * active_of hand.seats) (1 * active_of hand.seats) _ (6 * active_of now) ((2 + length body) * active_of now) 1 (8 * active_of hand.seats) ((3 + blocks_for (length (record_text table))) * active_of hand.seats)
+        let sum : 1 * active_of hand.seats + (2 + length body) * active_of hand.seats ≡ (3 + blocks_for (record_bytes table)) * active_of hand.seats =
+        subst (λ (n : ℕ). 1 * active_of hand.seats + (2 + n) * active_of hand.seats ≡ (3 + blocks_for (record_bytes table)) * active_of hand.seats) (sym long) (omega arith) in
+        between_then shelf.calls shelf.written old mid new _ (2 * active_of hand.seats) (1 * active_of hand.seats) _ (6 * active_of now) ((2 + length body) * active_of now) 1 (8 * active_of hand.seats) ((3 + blocks_for (record_bytes table)) * active_of hand.seats)
         (omega (arith, first_called)) (omega (arith, less)) (omega (arith, product, sum)) counted.some slot_counted.some
 
     pub both_kept : KeptAmong shelf old new (drives_of hand.seats)
@@ -306,7 +305,7 @@ module _ {S : Type 0} (shelf : Ghosts S) (key : Key) (hand : Hand) (table : Tabl
     -- where not enough took it
     module _ (share : Share) (few : short_of (need_of key) last table.plan.lists ≡ Some share) (taken : Taken) (end_is : taken.end ≡ end.Lost share.active share.listed) (calm_is : taken.calm ≡ false) where
       abbrev Both : Replica → Replica → Type 0
-      Both = TakesBoth hand.number (length (record_text table))
+      Both = TakesBoth hand.number (record_bytes table)
 
       pub lost_answer : IsRewriteAnswer shelf old new key hand table taken
       lost_answer =
@@ -319,7 +318,7 @@ module _ {S : Type 0} (shelf : Ghosts S) (key : Key) (hand : Hand) (table : Tabl
             calm = subst (λ (b : Bool). IsCalmOver shelf old new (replicas_of hand.seats) b) (sym calm_is) lost;
             once = pass_once shelf old new hand.seats last Both both_kept all;
             wrote = both_wrote;
-            made = between_wider shelf.calls shelf.written old new 1 (8 * active_of hand.seats) ((3 + blocks_for (length (record_text table))) * active_of hand.seats) 1 (calls_at hand.seats table) (blocks_at hand.seats table) (omega arith) (omega arith) (omega arith) both_made;
+            made = between_wider shelf.calls shelf.written old new 1 (8 * active_of hand.seats) ((3 + blocks_for (record_bytes table)) * active_of hand.seats) 1 (calls_at hand.seats table) (blocks_at hand.seats table) (omega arith) (omega arith) (omega arith) both_made;
             exact = λ so. absurd (cc (so, calm_is));
             written = both_written;
           }
@@ -339,7 +338,7 @@ module _ {S : Type 0} (shelf : Ghosts S) (key : Key) (hand : Hand) (table : Tabl
       pub all_took : AreLeft (DriveFailures shelf old new) (TakesBoth hand.number bytes) hand.seats last
       all_took = both_left (TakesBoth hand.number bytes) (λ r m n. takes_both hand.number bytes r m n)
 
-      took_all : AreLeft (DriveFailures shelf old new) (TakesBoth hand.number (length (record_text table))) hand.seats last
+      took_all : AreLeft (DriveFailures shelf old new) (TakesBoth hand.number (record_bytes table)) hand.seats last
       took_all = subst (λ (n : ℕ). AreLeft (DriveFailures shelf old new) (TakesBoth hand.number n) hand.seats last) spelled.counted all_took
 
       twice_ends : AtEnd shelf (AreTwice key hand table last) old new
@@ -355,14 +354,14 @@ module _ {S : Type 0} (shelf : Ghosts S) (key : Key) (hand : Hand) (table : Tabl
             goes = λ g to log covers known. ends_go key hand table ready g t to log covers known (DriveFailures shelf old mid) now u left one.0 enough bytes body spelled (DriveFailures shelf mid new) last v left_last two.0 enough_last;
           }) claim_both slot_both
 
-      exact_made : active_of last ≡ active_of hand.seats → MadeCalls shelf old new (8 * active_of last) ((3 + blocks_for (length (record_text table))) * active_of last)
+      exact_made : active_of last ≡ active_of hand.seats → MadeCalls shelf old new (8 * active_of last) ((3 + blocks_for (record_bytes table)) * active_of last)
       exact_made same =
           let one = left_most (DriveFailures shelf old mid) (TakesClaim hand.number) hand.seats now left in
           let two = left_most (DriveFailures shelf mid new) (TakesSlot (drawn hand.number) bytes) now last left_last in
           let mid_same : active_of now ≡ active_of hand.seats = omega (arith, one, two, same) in
           let last_same : active_of last ≡ active_of now = omega (arith, one, two, same) in
-          took_more shelf.calls shelf.written old mid new (2 * active_of hand.seats) (6 * active_of now) (1 * active_of hand.seats) ((2 + length body) * active_of now) (8 * active_of last) ((3 + blocks_for (length (record_text table))) * active_of last)
-          (omega (arith, mid_same, last_same)) (blocks_add (length body) (blocks_for (length (record_text table))) (active_of hand.seats) (active_of now) (active_of last) (spelled.blocks ∙ ap blocks_for spelled.counted) mid_same last_same)
+          took_more shelf.calls shelf.written old mid new (2 * active_of hand.seats) (6 * active_of now) (1 * active_of hand.seats) ((2 + length body) * active_of now) (8 * active_of last) ((3 + blocks_for (record_bytes table)) * active_of last)
+          (omega (arith, mid_same, last_same)) (blocks_add (length body) (blocks_for (record_bytes table)) (active_of hand.seats) (active_of now) (active_of last) (spelled.blocks ∙ ap blocks_for spelled.counted) mid_same last_same)
           (counted.all some_active_then mid_same) (slot_counted.all (omega (arith, some_active_then, mid_same)) last_same)
         where
           blocks_add : (l k a b c : ℕ) → l ≡ k → b ≡ a → c ≡ b → 1 * a + (2 + l) * b ≡ (3 + k) * c
@@ -384,7 +383,7 @@ module _ {S : Type 0} (shelf : Ghosts S) (key : Key) (hand : Hand) (table : Tabl
       }
 
 module _ (hand : Hand) (table : Table) (ready : IsReadied hand table) where
-  pub text_most : blocks_for (length (record_text table)) ≤ 4094
+  pub text_most : blocks_for (record_bytes table) ≤ 4094
   text_most =
       let some = some_active hand.seats (some_more hand.seats table.plan.lists ready.enough) in
       let fits = ready.room some.0 some.1 in

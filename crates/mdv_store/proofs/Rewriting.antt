@@ -8,7 +8,7 @@ use Rattle.mdv_shelf.proofs.Everywhere.{last_image}
 use Rattle.mdv_shown.proofs.Sites.{site_is}
 use Rattle.mdv_shown.proofs.Slots.{reads_one}
 use Rattle.mdv_shown.specs.Choice.{greatest_seen, spots_seen}
-use Rattle.mdv_record.specs.Parsing.{read_of}
+use Rattle.mdv_encoding.specs.Parsing.{read_of}
 use Rattle.mdv_standing.proofs.Stores.{all_read}
 use Rattle.mdv_standing.proofs.Stretches.{may_begin, traced_answer, traced_begin, traced_look}
 use Rattle.mdv_standing.proofs.Tracing.{adds_none, may_answer, more, newest_begun, part_one, run_traced, run_within, traced, trace_weaker}
@@ -124,7 +124,7 @@ module _ (key : Key) (hand : Hand) (table : Table) (ready : IsReadied hand table
     bodies : AreBodies g mid mark bytes body table
     bodies n has =
         let read = spelled_of g _ table to.sound (to.read.shows (last t) (last_image t)).text in
-        let text = record_spelled g (take bytes (concat body)) table to.sound to.of_geometry read.in_room spelled.text in
+        let text = record_spelled g (take bytes (concat body)) table to.sound to.of_geometry (let in_room = read.in_room in omega (arith, in_room)) spelled.text in
         let in_slot = room n has in
         record {
           is = record { of_mark = record { boot = ready.small; count = omega arith }; in_slot = in_slot; in_room = omega (arith, in_slot, spelled.blocks); in_body = spelled.in_body; as_record = (table, text) };

@@ -1,6 +1,6 @@
 -- The smallest slot of some places, and of the places of some seats.
 use Rattle.std.proofs.Common.{◌≤◌, ◌*◌, ℕ, List, [], ◌∷◌, Contains, length, map, ap, arith, inl, inr}
-use Rattle.mdv_record.proofs.Rooms.{room_most}
+use Rattle.mdv_encoding.proofs.Rooms.{room_most}
 use Rattle.mdv_store.specs.Below.{Place, Table, places_of, slot_blocks}
 use Rattle.mdv_store.specs.Opened.{AreSeatsOf, least_room}
 use Rattle.mdv_store.specs.Seats.{HaveRoom}

@@ -5,7 +5,7 @@ use Rattle.std.specs.List.{filter_map, cons_option}
 use Rattle.std.proofs.lemmas.List.Elements.{All-cons, All-contains, All-contains_itself, All-head, All-nil, All-tail}
 use Rattle.std.proofs.lemmas.List.Sums.{sum_by-append}
 use Rattle.mdv_store_law.specs.Part.{IsPart}
-use Rattle.mdv_table.proofs.Pairs.{AllPairs-cons, AllPairs-first, AllPairs-rest}
+use Rattle.mdv_config.proofs.Pairs.{AllPairs-cons, AllPairs-first, AllPairs-rest}
 
 -- the first i items are as f makes them, and the others as they were
 module _ {X : Type 0} (f : X → X) where

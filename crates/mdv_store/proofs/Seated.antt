@@ -4,19 +4,23 @@ use Rattle.std.specs.Prelude.{All, AllPairs}
 use Rattle.std.proofs.lemmas.Bool.{false_from_ne_true}
 use Rattle.std.proofs.lemmas.List.{length-map}
 use Rattle.std.proofs.lemmas.List.Elements.{All-append, All-cons, All-nil, Contains-append_left, Contains-append_right}
-use Rattle.mdv_record.proofs.Lengths.{length-lists_text, length-record_text, length-volumes_text}
-use Rattle.mdv_record.specs.Room.{least_slot_bytes}
+use Rattle.mdv_encoding.proofs.Lengths.{bytes_are, length-lists_text, length-record_text, rest_bytes}
+use Rattle.mdv_encoding.specs.Room.{least_slot_bytes}
+use Rattle.mdv_fields.specs.Numbers.{u16_text}
+use Rattle.mdv_fields.specs.Reading.{long_text, short_text}
+use Rattle.mdv_fields.specs.Sets.{set_text}
+use Rattle.mdv_plan.specs.Table.{empty_table}
 use Rattle.mdv_shelf.specs.Area.{AreApart}
 use Rattle.mdv_shown.proofs.Elsewhere.{places_step, range_has}
 use Rattle.mdv_shown.specs.Site.{line_area}
-use Rattle.mdv_store.specs.Below.{Identity, Key, Replica, SliceLine, Spot, at_of, places_of, record_text, same_spot, spot_on}
+use Rattle.mdv_store.specs.Below.{Identity, Key, Place, Replica, SliceLine, Spot, at_of, places_of, record_bytes, record_text, same_spot, spot_on}
 use Rattle.mdv_acts.specs.Asked.{AreAsked}
 use Rattle.mdv_store.specs.Create.{replica_on, seat_on, seats_asked, seats_on, table_of}
 use Rattle.mdv_store.specs.Opened.{AreSeatsOf, least_room}
 use Rattle.mdv_store.specs.Seats.{AreLaid, HaveRoom, IsLaid, replicas_of, spots_of}
 use Rattle.mdv_store.specs.Text.{blocks_for}
 use Rattle.mdv_store.specs.declared.seats.Seat.{Seat}
-use Rattle.mdv_table.proofs.Pairs.{AllPairs-cons}
+use Rattle.mdv_config.proofs.Pairs.{AllPairs-cons}
 use Rattle.mdv_votes.proofs.Meeting.{same_is}
 use Rattle.mdv_acts.proofs.Asked.{few_of, placed_asked, within_line}
 use Rattle.mdv_store.proofs.Given.{ArePairsApart}
@@ -30,6 +34,11 @@ in_either (y ∷ xs) ys x has = elim (first_or_behind y x (xs ++ ys) has) [
   | inl here ↦ inl (subst (λ z. Contains (y ∷ xs) z) here (contains_first y xs))
   | inr behind ↦ elim (in_either xs ys x behind) [ inl front ↦ inl (contains_behind y x xs front) | inr back ↦ inr back ]
 ]
+
+-- a table of places alone has 22 bytes beside them
+empty_rest : (places : List Place) → rest_bytes (empty_table places) ≡ 22
+unfolding set_text short_text long_text u16_text
+empty_rest places = refl
 
 some_same : {A : Type 0} (a b : A) → Some a ≡ Some b → a ≡ b
 some_same a b e = cc (e)
@@ -134,23 +143,25 @@ module _ (key : Key) (identity : Identity) (count blocks : ℕ) where
       pub room_asked : 6 ≤ least_room (map (λ (s : Seat). s.place) seats)
       room_asked = room_least seats (λ s has. (let one = seat_is lines s has in ap (λ (x : Seat). x.place.blocks) one.is))
 
-      pub text_asked : length (record_text (table_of seats)) ≡ 24 + 12 * (length lines * count)
+      pub text_asked : record_bytes (table_of seats) ≡ 24 + 12 * (length lines * count)
       text_asked =
           let places = map (λ (s : Seat). s.place) seats in
           let counted : length places ≡ length lines * count = length-map seats (λ (s : Seat). s.place) ∙ asked_length key identity count blocks lines in
-          omega (arith, length-record_text (table_of seats), length-lists_text (table_of seats).plan.lists, length-volumes_text (table_of seats).plan.volumes, counted)
+          let bytes : length (record_text (table_of seats)) ≡ 24 + 12 * (length lines * count) = omega (arith, length-record_text (table_of seats), length-lists_text (table_of seats).plan.lists, empty_rest places, counted) in
+          let few = asked.few in
+          bytes_are (table_of seats) (omega (arith, bytes, few)) ∙ bytes
 
-      pub text_fits : length (record_text (table_of seats)) ≤ least_slot_bytes (places_of (table_of seats).plan.lists)
+      pub text_fits : record_bytes (table_of seats) ≤ least_slot_bytes (places_of (table_of seats).plan.lists)
       text_fits =
           let bytes = text_asked in
           let few = asked.few in
           let least = room_asked in
           omega (arith, bytes, few, least)
 
-      pub room_for_text : HaveRoom (blocks_for (length (record_text (table_of seats)))) seats
+      pub room_for_text : HaveRoom (blocks_for (record_bytes (table_of seats))) seats
       room_for_text =
           let bytes = text_asked in
-          have_room (table_of seats) seats (length (record_text (table_of seats))) seats_of_table (omega (arith, bytes)) text_fits
+          have_room (table_of seats) seats (record_bytes (table_of seats)) seats_of_table (omega (arith, bytes)) text_fits
 
   -- No two of their spots are one.
   abbrev Differ : Spot → Spot → Type 0

@@ -6,7 +6,7 @@ use Rattle.std.proofs.lemmas.List.Elements.{All-contains, All-nil, All-cons}
 use Rattle.std.proofs.lemmas.Bool.{ltb-false, ltb-true}
 use Rattle.std.specs.Ordering.{is_lt, nat_cmp, ord_max}
 use Rattle.std.specs.declared.cmp.Ordering.TheVariants.{Equal, Greater, Less}
-use Rattle.mdv_table.proofs.Pairs.{AllPairs-cons, AllPairs-first, AllPairs-rest}
+use Rattle.mdv_config.proofs.Pairs.{AllPairs-cons, AllPairs-first, AllPairs-rest}
 use Rattle.mdv_survey.specs.Choice.{is_of}
 use Rattle.mdv_survey.proofs.Identities.{find_some}
 use Rattle.mdv_store.specs.Below.{Identity, Place, Replica, Spot, greatest, same_spot}

@@ -10,12 +10,12 @@ use Rattle.std.proofs.lemmas.List.Elements.{All-contains, All-contains_itself, C
 use Rattle.mdv_look.proofs.Bringing.{count_cons}
 use Rattle.mdv_look.proofs.Looks.{count_within}
 use Rattle.mdv_standing.specs.Matching.{spots_in}
-use Rattle.mdv_table.proofs.Testing.{same_place-true}
-use Rattle.mdv_table.proofs.Settled.{all_of_last}
-use Rattle.mdv_table.specs.Plan.{beside, first_of, last_of}
-use Rattle.mdv_table.specs.Tests.{same_place}
-use Rattle.mdv_table.specs.declared.plan.Lists.{Lists}
-use Rattle.mdv_table.specs.declared.plan.Lists.TheVariants.{One, Two}
+use Rattle.mdv_config.proofs.Testing.{same_place-true}
+use Rattle.mdv_config.proofs.Settled.{all_of_last}
+use Rattle.mdv_config.specs.Lists.{beside, first_of, last_of}
+use Rattle.mdv_config.specs.Lists.{same_place}
+use Rattle.mdv_plan.specs.declared.lists.Lists.{Lists}
+use Rattle.mdv_plan.specs.declared.lists.Lists.TheVariants.{One, Two}
 use Rattle.mdv_votes.specs.Spots.{covers, is_half, is_majority}
 use Rattle.mdv_store.specs.Below.{Failures, Place, Replica, Site, Spot, Table, lists_of_spots, places_of}
 use Rattle.mdv_store.specs.Opened.{AreSeatsOf}
@@ -27,7 +27,7 @@ use Rattle.mdv_store.specs.declared.seats.Seat.{Seat}
 use Rattle.mdv_store.specs.declared.seats.Share.{Share}
 use Rattle.mdv_store.proofs.Passes.{left_most, mapped}
 use Rattle.mdv_store.proofs.Sitting.{contains_behind, contains_first, replica_of}
-use Rattle.mdv_table.proofs.Pairs.{AllPairs-first, AllPairs-rest}
+use Rattle.mdv_config.proofs.Pairs.{AllPairs-first, AllPairs-rest}
 
 -- one of a list passes
 any_one : {X : Type 0} (p : X → Bool) (xs : List X) → list_any p xs ≡ true → (x : X) × Contains xs x × (p x ≡ true)

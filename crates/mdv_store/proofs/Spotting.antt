@@ -1,15 +1,11 @@
 -- The spots of the seats that are asked for: the first list of their table names each of them.
 use Rattle.std.proofs.Common.{◌≡◌, ◌⊎◌, inl, inr, ℕ, zero, suc, ◌+◌, ◌*◌, ◌<◌, ◌≤◌, Bool, true, false, ◌||◌, List, [], ◌∷◌, ◌++◌, length, map, Contains, Option, Some, None, refl, sym, ◌∙◌, ap, subst, arith}
-use Rattle.std.specs.Prelude.{filter}
 use Rattle.std.specs.List.{cons_option}
 use Rattle.std.proofs.lemmas.Bool.{or_left, or_right}
 use Rattle.std.proofs.lemmas.List.{length-append}
-use Rattle.std.proofs.lemmas.List.Elements.{All-contains, All-contains_itself, All-filter}
 use Rattle.mdv_base.specs.declared.place.Place.{Place}
-use Rattle.mdv_name.proofs.Finding.{slice_at-some}
 use Rattle.mdv_name.specs.SliceIndex.{slice_at}
 use Rattle.mdv_name.specs.declared.slice_lines.SliceAt.{SliceAt}
-use Rattle.mdv_shown.specs.Sites.{is_line_of}
 use Rattle.mdv_standing.specs.Matching.{spot_in}
 use Rattle.mdv_standing.proofs.Named.{line_found}
 use Rattle.mdv_store.specs.Below.{Geometry, Identity, IsSound, Key, Replica, SliceLine, Spot, lists_of_spots, place_on, same_spot, site_of, spot_on}

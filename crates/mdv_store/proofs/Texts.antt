@@ -5,16 +5,16 @@ use Rattle.std.proofs.lemmas.List.{get_or-append_right}
 use Rattle.std.proofs.Math.Seq.{take-add}
 use Rattle.std.specs.List.{concat}
 use Rattle.std.specs.Simd.{first_chunks}
-use Rattle.mdv_record.proofs.Lengths.{length-record_text}
-use Rattle.mdv_store.specs.Below.{Table, record_text}
+use Rattle.mdv_encoding.proofs.Lengths.{length-record_text}
+use Rattle.mdv_store.specs.Below.{Table, record_bytes, record_text}
 use Rattle.mdv_store.specs.Text.{IsSpelled, blocks_for}
 
 -- a body has just the blocks that its table's text takes
-pub spelled_long : (table : Table) (bytes : ℕ) (body : List (List ℕ)) → IsSpelled table bytes body → length body ≡ blocks_for (length (record_text table))
+pub spelled_long : (table : Table) (bytes : ℕ) (body : List (List ℕ)) → IsSpelled table bytes body → length body ≡ blocks_for (record_bytes table)
 spelled_long table bytes body spelled = spelled.blocks ∙ ap blocks_for spelled.counted
 
 -- a table's text isn't empty
-pub text_some : (table : Table) → 1 ≤ length (record_text table)
+pub text_some : (table : Table) → 1 ≤ record_bytes table
 text_some table = omega (arith, length-record_text table)
 
 -- the first chunks of a text, one behind another, are its front
@@ -42,7 +42,7 @@ module _ (table : Table) (bytes k : ℕ) (text : List ℕ) (whole : length text 
   pub few_blocks : bytes ≤ 512 * k → blocks_for bytes ≤ k
   few_blocks fits = omega arith
 
-  pub spelled_is : (count : ℕ) (blocks : List (List ℕ)) → count ≡ blocks_for bytes → blocks ≡ first_chunks 512 k text → length blocks ≡ k → bytes ≡ length (record_text table) → take bytes text ≡ record_text table → length (record_text table) ≤ 512 * k
+  pub spelled_is : (count : ℕ) (blocks : List (List ℕ)) → count ≡ blocks_for bytes → blocks ≡ first_chunks 512 k text → length blocks ≡ k → bytes ≡ record_bytes table → take bytes text ≡ record_text table → record_bytes table ≤ 512 * k
       → IsSpelled table bytes (take count blocks)
   spelled_is count blocks count_is are size counted spelled fits =
       let few = few_blocks (omega arith) in

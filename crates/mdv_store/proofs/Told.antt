@@ -1,13 +1,12 @@
 -- What an adoption's answer says, and a lost one's, for the crates above.
-use Rattle.std.proofs.Common.{◌≡◌, inl, inr, ◌*◌, ◌<◌, ℕ, List, [], Contains, None, Some, length, map, refl, sym, ◌∙◌, ap, subst}
+use Rattle.std.proofs.Common.{◌≡◌, ℕ, List, Contains, None, Some, length, refl, sym, ◌∙◌, ap, subst}
 use Rattle.std.specs.Prelude.{not}
 use Rattle.std.specs.List.{list_any}
 use Rattle.std.proofs.lemmas.List.{length-map}
-use Rattle.mdv_base.specs.declared.name.Key.TheVariants.{Local, Set}
 use Rattle.mdv_survey.specs.declared.replica.Newest.{Newest}
-use Rattle.mdv_table.specs.Plan.{beside, same_place}
+use Rattle.mdv_config.specs.Lists.{beside, same_place}
 use Rattle.mdv_survey.specs.declared.replica.Survey.{Survey}
-use Rattle.mdv_store.specs.Below.{Failures, Key, Lists, One, Place, Replica, Site, Table, Two, last_of, places_of, record_text}
+use Rattle.mdv_store.specs.Below.{Failures, Key, Lists, One, Place, Replica, Site, Table, Two, last_of, places_of, record_bytes}
 use Rattle.mdv_store.specs.Boot.{IsAdopted, IsEndBy, IsInHand, IsLost, IsShortAt, IsShortBy, IsWrittenTo, TakesAll, gone_found, last_found, need_of, seats_of}
 use Rattle.mdv_store.specs.Opened.{Opened}
 use Rattle.mdv_store.specs.Progress.{Claimed, Progress, Rewritten, Settled, all_written}
@@ -32,13 +31,13 @@ use Rattle.mdv_store.proofs.Sitting.{left_count}
 -- the places of the new list, or of the only one, as they are in hand, are those that were found
 module _ (survey : Survey) (newest : Newest) (replica : Replica) (seats : List Seat) (hand : IsInHand survey newest replica seats) where
   abbrev found : List Place → List Seat
-  found = seats_of survey.replicas replica.head.master.identity (blocks_for (length (record_text newest.table)))
+  found = seats_of survey.replicas replica.head.master.identity (blocks_for (record_bytes newest.table))
 
   pub last_is : last_in seats newest.table.plan.lists ≡ last_found survey newest replica
   last_is = by newest.table.plan.lists hand.seats_are where
     by : (l : Lists) → seats ≡ found (places_of l) → last_in seats l ≡ found (last_of l)
     by (One list) are = are
-    by (Two old new) are = ap (λ (ss : List Seat). seats_now ss new) are ∙ found_now survey.replicas replica.head.master.identity (blocks_for (length (record_text newest.table))) (places_of (Two old new)) new (λ p has. in_last (Two old new) p has)
+    by (Two old new) are = ap (λ (ss : List Seat). seats_now ss new) are ∙ found_now survey.replicas replica.head.master.identity (blocks_for (record_bytes newest.table)) (places_of (Two old new)) new (λ p has. in_last (Two old new) p has)
 
   -- and those that the new list lacks
   pub gone_is : seats_now seats (gone_of newest.table.plan.lists) ≡ gone_found survey newest replica
@@ -46,7 +45,7 @@ module _ (survey : Survey) (newest : Newest) (replica : Replica) (seats : List S
     by : (l : Lists) → seats ≡ found (places_of l) → seats_now seats (gone_of l) ≡ found (gone_of l)
     by (One list) are = refl
     by (Two old new) are = ap (λ (ss : List Seat). seats_now ss (beside new old)) are
-        ∙ found_now survey.replicas replica.head.master.identity (blocks_for (length (record_text newest.table))) (places_of (Two old new)) (beside new old)
+        ∙ found_now survey.replicas replica.head.master.identity (blocks_for (record_bytes newest.table)) (places_of (Two old new)) (beside new old)
         (λ p has. in_first (Two old new) p (part_has (beside new old) old p (part_filter (λ (q : Place). not (list_any (same_place q) new)) old) has))
 
   -- more than half of that list was found
@@ -58,7 +57,7 @@ module _ (survey : Survey) (newest : Newest) (replica : Replica) (seats : List S
 
   -- they were read
   pub found_read : (places : List Place) (r : Replica) → Contains (replicas_of (found places)) r → Contains survey.replicas r
-  found_read places r has = (seated_at survey.replicas replica.head.master.identity (blocks_for (length (record_text newest.table))) places r has).1
+  found_read places r has = (seated_at survey.replicas replica.head.master.identity (blocks_for (record_bytes newest.table)) places r has).1
 
   pub hand_read : (r : Replica) → Contains (replicas_of seats) r → Contains survey.replicas r
   hand_read r has = found_read (places_of newest.table.plan.lists) r (subst (λ (ss : List Seat). Contains (replicas_of ss) r) hand.seats_are has)
@@ -75,7 +74,7 @@ module _ (failed : ℕ → Failures) (Wrote : Hand → Table → Progress → Ty
       let places = last_of a.newest.table.plan.lists in
       left_count failed (TakesAll a.number a.newest.table) (last_found survey a.newest a.replica) o.seats a.left
       ∙ sym (length-map (last_found survey a.newest a.replica) (λ (s : Seat). s.place))
-      ∙ ap length (seats_places survey.replicas a.replica.head.master.identity (blocks_for (length (record_text a.newest.table))) places)
+      ∙ ap length (seats_places survey.replicas a.replica.head.master.identity (blocks_for (record_bytes a.newest.table)) places)
       ∙ ap (λ (x : Opened). length (places_of x.table.plan.lists)) (sym a.is)
 
   pub adopted_enough : (site : Site) (survey : Survey) (o : Opened) → IsAdopted failed Wrote site survey o → short_of (need_of site.key) o.seats o.table.plan.lists ≡ None

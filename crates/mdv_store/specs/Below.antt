@@ -12,8 +12,8 @@ pub use Rattle.mdv_name.specs.declared.geometry.Geometry.{Geometry}
 pub use Rattle.mdv_name.specs.declared.slice_lines.SliceLine.{SliceLine}
 pub use Rattle.mdv_quorum.specs.declared.event.Event.{Event}
 pub use Rattle.mdv_quorum.specs.declared.machine.Core.{Core}
-pub use Rattle.mdv_record.specs.Text.{record_text}
-pub use Rattle.mdv_record.specs.declared.record.TooLong.{TooLong}
+pub use Rattle.mdv_encoding.specs.Text.{record_bytes, record_text}
+pub use Rattle.mdv_whole.specs.declared.encoding.TooLong.{TooLong}
 pub use Rattle.mdv_replica.specs.Form.{IsSpareSlot, IsTable, gate_of, greatest, room_of, with_slot}
 pub use Rattle.mdv_replica.specs.Forms.{IsMark}
 pub use Rattle.mdv_replica.specs.Replica.{IsPlaced, slot_blocks}
@@ -47,10 +47,10 @@ pub use Rattle.mdv_store_law.specs.Part.{IsPart}
 pub use Rattle.mdv_survey.specs.Newest.{HasNoneAbove}
 pub use Rattle.mdv_survey.specs.Replica.{at_of}
 pub use Rattle.mdv_survey.specs.declared.replica.Replica.{Replica}
-pub use Rattle.mdv_table.specs.Plan.{last_of, places_of, settled}
-pub use Rattle.mdv_table.specs.Table.{IsOfGeometry}
-pub use Rattle.mdv_table.specs.declared.plan.Lists.{Lists}
-pub use Rattle.mdv_table.specs.declared.plan.Lists.TheVariants.{One, Two}
-pub use Rattle.mdv_table.specs.declared.table.Table.{Table}
+pub use Rattle.mdv_config.specs.Lists.{last_of, places_of, settled}
+pub use Rattle.mdv_config.specs.Table.{IsOfGeometry}
+pub use Rattle.mdv_plan.specs.declared.lists.Lists.{Lists}
+pub use Rattle.mdv_plan.specs.declared.lists.Lists.TheVariants.{One, Two}
+pub use Rattle.mdv_plan.specs.declared.table.Table.{Table}
 pub use Rattle.mdv_votes.specs.Spots.{is_named, same_spot}
 pub use Rattle.mdv_votes.specs.declared.spot.Spot.{Spot}

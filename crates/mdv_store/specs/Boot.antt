@@ -1,5 +1,5 @@
 -- What a boot says: of its answer, of each moment, and of the end.
-use Rattle.std.specs.Prelude.{◌≡◌, ◌⊎◌, ◌<◌, ◌≤◌, ◌+◌, ◌/◌, ◌^◌, ◌&&◌, if◌then◌else◌, nat_le, ℕ, Bool, true, false, max, List, [], ◌∷◌, length, map, None, Some}
+use Rattle.std.specs.Prelude.{◌≡◌, ◌⊎◌, ◌<◌, ◌≤◌, ◌+◌, ◌/◌, ◌^◌, ◌&&◌, if◌then◌else◌, nat_le, ℕ, Bool, true, false, max, List, [], ◌∷◌, map, None, Some}
 use Rattle.std.specs.List.{find}
 use Rattle.mdv_base.specs.declared.name.Key.TheVariants.{Local, Set}
 pub use Rattle.mdv_look.specs.Peeking.{WasChosen}
@@ -7,8 +7,8 @@ use Rattle.mdv_survey.specs.Choice.{IsChoice, IsTheOne, is_of, place_of}
 use Rattle.mdv_survey.specs.declared.choosing.Choice.TheVariants as chosen
 use Rattle.mdv_survey.specs.declared.replica.Newest.{Newest}
 use Rattle.mdv_survey.specs.declared.replica.Survey.{Survey}
-use Rattle.mdv_table.specs.Tests.{same_place}
-use Rattle.mdv_store.specs.Below.{Failures, Identity, Key, Lists, One, Open, Place, Replica, Site, Table, Two, greatest, last_of, places_of, record_text, settled, slot_blocks, with_slot}
+use Rattle.mdv_config.specs.Lists.{same_place}
+use Rattle.mdv_store.specs.Below.{Failures, Identity, Key, Lists, One, Open, Place, Replica, Site, Table, Two, greatest, last_of, places_of, record_bytes, settled, slot_blocks, with_slot}
 use Rattle.mdv_store.specs.Opened.{Opened}
 use Rattle.mdv_store.specs.Seats.{AreLeft, IsSpareOf, TakesClaim, TakesSlot}
 use Rattle.mdv_store.specs.Progress.{Claimed, Progress, Rewritten, Settled, all_written}
@@ -53,7 +53,7 @@ need_of (Set name) = More
 pub record IsInHand (survey : Survey) (newest : Newest) (replica : Replica) (seats : List Seat) : Type 0 where
   pub newest_is : survey.newest ≡ Some newest
   pub the : IsTheOne survey.replicas newest replica
-  pub seats_are : seats ≡ seats_of survey.replicas replica.head.master.identity (blocks_for (length (record_text newest.table))) (places_of newest.table.plan.lists)
+  pub seats_are : seats ≡ seats_of survey.replicas replica.head.master.identity (blocks_for (record_bytes newest.table)) (places_of newest.table.plan.lists)
 
 -- a replica behind both passes: with the claim, and the table in its spare slot
 abbrev pub TakesBoth : ℕ → ℕ → Replica → Replica → Type 0
@@ -62,20 +62,20 @@ TakesBoth number bytes r n =
 
 -- and behind the record with the new list alone, where the table has two lists
 abbrev pub TakesBy : Lists → ℕ → Table → Replica → Replica → Type 0
-TakesBy (One list) number table r n = TakesBoth number (length (record_text table)) r n
+TakesBy (One list) number table r n = TakesBoth number (record_bytes table) r n
 TakesBy (Two old new) number table r n =
-    (m : Replica) × TakesBoth number (length (record_text table)) r m × TakesSlot (record { boot = number; count = 1 }) (length (record_text (settled table))) m n
+    (m : Replica) × TakesBoth number (record_bytes table) r m × TakesSlot (record { boot = number; count = 1 }) (record_bytes (settled table)) m n
 
 abbrev pub TakesAll : ℕ → Table → Replica → Replica → Type 0
 TakesAll number table = TakesBy table.plan.lists number table
 
 -- the places of the newest table's new list, or of its only one, with the replicas that were found
 abbrev pub last_found : Survey → Newest → Replica → List Seat
-last_found survey newest replica = seats_of survey.replicas replica.head.master.identity (blocks_for (length (record_text newest.table))) (last_of newest.table.plan.lists)
+last_found survey newest replica = seats_of survey.replicas replica.head.master.identity (blocks_for (record_bytes newest.table)) (last_of newest.table.plan.lists)
 
 -- those places of the old list that the new one lacks, likewise
 abbrev pub gone_found : Survey → Newest → Replica → List Seat
-gone_found survey newest replica = seats_of survey.replicas replica.head.master.identity (blocks_for (length (record_text newest.table))) (gone_of newest.table.plan.lists)
+gone_found survey newest replica = seats_of survey.replicas replica.head.master.identity (blocks_for (record_bytes newest.table)) (gone_of newest.table.plan.lists)
 
 -- The table is written anew, to more than half of each of its lists, under a number in its limit.
 pub record IsDrawn (survey : Survey) (newest : Newest) (replica : Replica) (seats : List Seat) (number : ℕ) : Type 0 where
@@ -101,7 +101,7 @@ pub record IsAdopted (failed : ℕ → Failures) (Wrote : Hand → Table → Pro
   pub number : ℕ
   pub drawn : IsDrawn survey newest replica seats number
   pub gone : List Seat
-  pub over : AreLeft failed (TakesBoth number (length (record_text newest.table))) (gone_found survey newest replica) gone
+  pub over : AreLeft failed (TakesBoth number (record_bytes newest.table)) (gone_found survey newest replica) gone
   pub written : IsWrittenTo Wrote newest replica seats number (all_written newest.table.plan.lists o.seats gone)
   pub left : AreLeft failed (TakesAll number newest.table) (last_found survey newest replica) o.seats
   pub enough : short_of (need_of site.key) o.seats (One (last_of newest.table.plan.lists)) ≡ None
@@ -116,10 +116,10 @@ pub record IsShortBy (failed : ℕ → Failures) (Took : Replica → Replica →
 -- the places of the new list, or of the only one, and those that it lacks.
 abbrev pub IsShortAt : (ℕ → Failures) → Key → ℕ → Table → (seats last lacked : List Seat) → Progress → Share → Type 0
 IsShortAt failed key number table seats last lacked (Claimed now) share = IsShortBy failed (TakesClaim number) key table.plan.lists seats now share
-IsShortAt failed key number table seats last lacked (Rewritten now) share = IsShortBy failed (TakesBoth number (length (record_text table))) key table.plan.lists seats now share
+IsShortAt failed key number table seats last lacked (Rewritten now) share = IsShortBy failed (TakesBoth number (record_bytes table)) key table.plan.lists seats now share
 IsShortAt failed key number table seats last lacked (Settled now gone) share =
     (settles table.plan.lists ≡ 1) × IsShortBy failed (TakesAll number table) key (One (last_of table.plan.lists)) last now share
-    × AreLeft failed (TakesBoth number (length (record_text table))) lacked gone
+    × AreLeft failed (TakesBoth number (record_bytes table)) lacked gone
 
 -- Not enough of a list took the claim, or the table; or of the new one the table with that list alone.
 pub record IsLost (failed : ℕ → Failures) (Wrote : Hand → Table → Progress → Type 0) (key : Key) (survey : Survey) (active listed : ℕ) : Type 0 where

@@ -4,7 +4,7 @@ use Rattle.mdv_base.specs.DriveSet.{no_drives}
 use Rattle.mdv_shelf.specs.Shelves.{MadeCalls}
 use Rattle.mdv_survey.specs.Counts.{AreLinesBy, MadeReads}
 pub use Rattle.mdv_look.specs.Looking.{most_reads}
-use Rattle.mdv_store.specs.Below.{Geometry, Ghosts, Site, Table, Tale, last, record_text, settled}
+use Rattle.mdv_store.specs.Below.{Geometry, Ghosts, Site, Table, Tale, last, record_bytes, settled}
 use Rattle.mdv_store.specs.Booting.{has_written}
 use Rattle.mdv_store.specs.Counts.{MadeCallsBetween}
 use Rattle.mdv_store.specs.Opened.{Opened}
@@ -30,7 +30,7 @@ abbrev pub calls_at : List Seat → Table → ℕ
 calls_at seats table = 8 * active_of seats + 6 * active_of (seats_now seats (again_of table.plan.lists))
 
 abbrev pub blocks_at : List Seat → Table → ℕ
-blocks_at seats table = (3 + blocks_for (length (record_text table))) * active_of seats + (2 + blocks_for (length (record_text (settled table)))) * active_of (seats_now seats (again_of table.plan.lists))
+blocks_at seats table = (3 + blocks_for (record_bytes table)) * active_of seats + (2 + blocks_for (record_bytes (settled table))) * active_of (seats_now seats (again_of table.plan.lists))
 
 -- So many calls, and blocks, took writes that came so far, where none failed.
 abbrev pub calls_by : List Seat → Progress → ℕ
@@ -40,8 +40,8 @@ calls_by seats (Settled last gone) = 8 * active_of seats + 6 * active_of last
 
 abbrev pub blocks_by : List Seat → Table → Progress → ℕ
 blocks_by seats table (Claimed now) = active_of seats
-blocks_by seats table (Rewritten now) = (3 + blocks_for (length (record_text table))) * active_of seats
-blocks_by seats table (Settled last gone) = (3 + blocks_for (length (record_text table))) * active_of seats + (2 + blocks_for (length (record_text (settled table)))) * active_of last
+blocks_by seats table (Rewritten now) = (3 + blocks_for (record_bytes table)) * active_of seats
+blocks_by seats table (Settled last gone) = (3 + blocks_for (record_bytes table)) * active_of seats + (2 + blocks_for (record_bytes (settled table))) * active_of last
 
 -- A table was written anew without a failed call, behind so many calls: eight at each place that was found, with a claim, two gates and its text; and where it
 -- had two lists, six more at each place of the new one, with two gates and the text with that list alone.
@@ -52,7 +52,7 @@ pub record IsAnewCounted (Made : (calls blocks : ℕ) → Type 0) (before : ℕ)
   pub marked : o.mark.count ≡ settles table.plan.lists
   pub one : settles table.plan.lists ≡ 0 → found ≡ active_of o.seats
   pub made : Made (before + (8 * found + 6 * (settles table.plan.lists * active_of o.seats)))
-      ((3 + blocks_for (length (record_text table))) * found + (2 + blocks_for (length (record_text o.table))) * (settles table.plan.lists * active_of o.seats))
+      ((3 + blocks_for (record_bytes table)) * found + (2 + blocks_for (record_bytes o.table)) * (settles table.plan.lists * active_of o.seats))
 
 -- Behind so many calls that wrote nothing: those by which one that adopts wrote anew; one that adopts nothing made none.
 abbrev pub IsEndCounted : {S : Type 0} → Ghosts S → S → S → ℕ → BootEnd → Type 0

@@ -1,9 +1,9 @@
 -- What a commit says: of its answer, of each moment, and of the end.
-use Rattle.std.specs.Prelude.{◌≡◌, ◌⊎◌, ◌<◌, ◌≤◌, ◌+◌, ◌^◌, ℕ, true, List, [], length, Contains, Option, None, Some, Result, Ok, Err}
-use Rattle.mdv_record.specs.Room.{least_slot_bytes}
+use Rattle.std.specs.Prelude.{◌≡◌, ◌⊎◌, ◌<◌, ◌≤◌, ◌+◌, ◌^◌, ℕ, true, List, [], Contains, Option, None, Some, Result, Ok, Err}
+use Rattle.mdv_encoding.specs.Room.{least_slot_bytes}
 use Rattle.mdv_shelf.specs.Shelves.{AtEnd, DriveFailures}
 use Rattle.mdv_store_law.specs.Log.{IsLog, IsNewestTellable, Lives}
-use Rattle.mdv_store.specs.Below.{Change, Core, Database, Event, Failures, Geometry, Ghosts, IsCommitRun, IsMade, IsNewest, IsOfGeometry, IsReadyWith, Log, Mark, RestStands, Spot, Table, Tale, TooLong, TracesFrom, asks_of, lists_of_spots, places_of, record_text, site_of}
+use Rattle.mdv_store.specs.Below.{Change, Core, Database, Event, Failures, Geometry, Ghosts, IsCommitRun, IsMade, IsNewest, IsOfGeometry, IsReadyWith, Log, Mark, RestStands, Spot, Table, Tale, TooLong, TracesFrom, asks_of, lists_of_spots, places_of, record_bytes, site_of}
 use Rattle.mdv_store.specs.Blank.{StayBlank}
 use Rattle.mdv_store.specs.Opened.{IsOpenedAt, Opened, shortage}
 use Rattle.mdv_look.specs.Quiet.{IsQuiet}
@@ -24,9 +24,9 @@ room_in table = least_slot_bytes (places_of table.plan.lists)
 -- the active places left these.
 pub record IsTried (failed : ℕ → Failures) (old new : Opened) (next : Table) : Type 0 where
   pub half : shortage old ≡ None
-  pub fits : length (record_text next) ≤ room_in old.table
+  pub fits : record_bytes next ≤ room_in old.table
   pub small : old.mark.count + 1 < 2 ^ 63
-  pub left : AreLeft failed (TakesSlot (next_mark old.mark) (length (record_text next))) old.seats new.seats
+  pub left : AreLeft failed (TakesSlot (next_mark old.mark) (record_bytes next)) old.seats new.seats
 
 -- and at least half of each list took it
 pub record IsCommitted (failed : ℕ → Failures) (old new : Opened) (next : Table) : Type 0 where
@@ -42,15 +42,15 @@ pub record IsLostNow (failed : ℕ → Failures) (old new : Opened) (next : Tabl
 -- the text is longer than a slot of some listed place
 pub record IsOver (old new : Opened) (next : Table) (fault : TooLong) : Type 0 where
   pub half : shortage old ≡ None
-  pub bytes : fault.bytes ≡ length (record_text next)
+  pub bytes : fault.bytes ≡ record_bytes next
   pub room : fault.room ≡ room_in old.table
-  pub over : room_in old.table < length (record_text next)
+  pub over : room_in old.table < record_bytes next
   pub is : new ≡ old
 
 -- the count of the next mark would be no number
 pub record IsSpent (old new : Opened) (next : Table) : Type 0 where
   pub half : shortage old ≡ None
-  pub fits : length (record_text next) ≤ room_in old.table
+  pub fits : record_bytes next ≤ room_in old.table
   pub spent : 2 ^ 63 ≤ old.mark.count + 1
   pub is : new ≡ old
 

@@ -9,11 +9,11 @@ use Rattle.mdv_standing.specs.Tracing.{GoesTraced, IsCreationRun, IsStart}
 use Rattle.mdv_store_law.specs.Log.{IsNewestTellable}
 use Rattle.mdv_shown.specs.Site.{size_on}
 use Rattle.mdv_replica.specs.Form.{formatted_head}
-use Rattle.mdv_table.specs.declared.plan.Lists.TheVariants.{One}
+use Rattle.mdv_plan.specs.Table.{empty_table}
 use Rattle.mdv_store.specs.Blank.{IsBlank, StayBlank}
 use Rattle.mdv_acts.specs.Acts.{HaveGone, HaveStopped, MadeCallsBetween, acts_asked}
 use Rattle.mdv_acts.specs.Asked.{blanked_asked, drives_asked}
-use Rattle.mdv_store.specs.Below.{Core, Database, DriveNo, Event, Failures, Geometry, Ghosts, Identity, IsOfGeometry, IsReadyWith, IsSound, Key, Log, Replica, RestStands, SliceLine, Spot, Table, Tale, lists_of_spots, place_on, record_text, site_of}
+use Rattle.mdv_store.specs.Below.{Core, Database, DriveNo, Event, Failures, Geometry, Ghosts, Identity, IsOfGeometry, IsReadyWith, IsSound, Key, Log, Replica, RestStands, SliceLine, Spot, Table, Tale, lists_of_spots, place_on, record_bytes, site_of}
 use Rattle.mdv_store.specs.Commit.{AnyLog, AnyWorld, IsNewestWritten}
 use Rattle.mdv_store.specs.Counts.{ArePassCounted}
 use Rattle.mdv_store.specs.Opened.{IsOpenedAt, Opened, shortage}
@@ -51,9 +51,9 @@ seats_on key identity line count blocks k (suc n) =
 abbrev pub seats_asked : Key → Identity → List SliceLine → ℕ → ℕ → List Seat
 seats_asked key identity lines count blocks = flat_map (λ (line : SliceLine). seats_on key identity line count blocks 0 count) lines
 
--- the table without volumes that lists these places
+-- the table of a new database that lists these places
 abbrev pub table_of : List Seat → Table
-table_of seats = record { plan = record { lists = One (map (λ (s : Seat). s.place) seats); volumes = [] }; status = record {} }
+table_of seats = empty_table (map (λ (s : Seat). s.place) seats)
 
 module _ (failed : ℕ → Failures) (key : Key) (identity : Identity) (lines : List SliceLine) (count blocks : ℕ) where
   abbrev seats : List Seat
@@ -61,7 +61,7 @@ module _ (failed : ℕ → Failures) (key : Key) (identity : Identity) (lines : 
 
   -- each place was formatted, and the table written to each: these are left
   abbrev pub IsTried : List Seat → Type 0
-  IsTried now = AreLeft failed (TakesSlot first_mark (length (record_text (table_of seats)))) seats now
+  IsTried now = AreLeft failed (TakesSlot first_mark (record_bytes (table_of seats))) seats now
 
   pub record IsMade (o : Opened) : Type 0 where
     pub tried : IsTried o.seats
@@ -116,10 +116,10 @@ pub record WereFormed {S : Type 0} (shelf : Ghosts S) (old new : S) (key : Key) 
   pub stay : (t : Tale) → shelf.tale old ≡ Some t → AtEachTale shelf (λ v. StayFormed key identity lines count blocks) formed new
   pub written : AtEachTale shelf (WritingMoment (seats_asked key identity lines count blocks) first_mark (table_of (seats_asked key identity lines count blocks))) formed new
   pub now : List Seat
-  pub left : AreLeft (DriveFailures shelf formed new) (TakesSlot first_mark (length (record_text (table_of (seats_asked key identity lines count blocks))))) (seats_asked key identity lines count blocks) now
+  pub left : AreLeft (DriveFailures shelf formed new) (TakesSlot first_mark (record_bytes (table_of (seats_asked key identity lines count blocks)))) (seats_asked key identity lines count blocks) now
   pub tried : IsTried (DriveFailures shelf old new) key identity lines count blocks now
   pub steps : AreWrittenBy shelf first_mark (table_of (seats_asked key identity lines count blocks)) formed new (seats_asked key identity lines count blocks) now
-  pub counted : ArePassCounted shelf formed new 6 (2 + blocks_for (length (record_text (table_of (seats_asked key identity lines count blocks))))) (seats_asked key identity lines count blocks) now
+  pub counted : ArePassCounted shelf formed new 6 (2 + blocks_for (record_bytes (table_of (seats_asked key identity lines count blocks)))) (seats_asked key identity lines count blocks) now
   pub ends : AtEnd shelf (WritingEnds (seats_asked key identity lines count blocks) now first_mark (table_of (seats_asked key identity lines count blocks))) formed new
 
 -- Each place was formatted, where a table was written; and those that are left lie where it may be written. A creation that failed came no further than to its formats.
@@ -172,7 +172,7 @@ pub record CreateEnds (key : Key) (identity : Identity) (lines : List SliceLine)
 -- Twelve calls for each place, six of them for its format, and two more for each that is blanked before. What failed in these took no more; without memory none is made.
 abbrev pub IsCreationCounted : {S : Type 0} → Ghosts S → S → S → List SliceLine → ℕ → ℕ → Result Opened CreateFault → Type 0
 IsCreationCounted shelf old new lines count blocks (Ok o) =
-    (active_of o.seats ≡ length lines * count → MadeCalls shelf old new (2 * blanked_asked lines count + 12 * (length lines * count)) (blanked_asked lines count + (7 + blocks_for (length (record_text o.table))) * (length lines * count)))
+    (active_of o.seats ≡ length lines * count → MadeCalls shelf old new (2 * blanked_asked lines count + 12 * (length lines * count)) (blanked_asked lines count + (7 + blocks_for (record_bytes o.table)) * (length lines * count)))
     × MadeCallsBetween shelf old new (2 * blanked_asked lines count + 6 * (length lines * count)) (2 * blanked_asked lines count + 12 * (length lines * count)) (blanked_asked lines count + 4103 * (length lines * count))
 IsCreationCounted shelf old new lines count blocks (Err unmade.Failed) = MadeCallsBetween shelf old new 1 (2 * blanked_asked lines count + 6 * (length lines * count)) (blanked_asked lines count + 5 * (length lines * count))
 IsCreationCounted shelf old new lines count blocks (Err (unmade.Lost active listed)) =

@@ -1,5 +1,5 @@
 -- The nine letters of a listed place: what a boot's look found there, or a creation made, and what came since.
-use Rattle.std.specs.Prelude.{◌≡◌, ◌&&◌, ◌||◌, ◌==◌, not, ℕ, Bool, true, false, List, [], ◌∷◌, length, map, slice_get, Option, None, Some, MatchOption}
+use Rattle.std.specs.Prelude.{◌≡◌, ◌&&◌, ◌||◌, ◌==◌, not, ℕ, Bool, true, false, List, [], ◌∷◌, map, slice_get, Option, None, Some, MatchOption}
 use Rattle.std.specs.List.{find, list_any}
 use Rattle.mdv_base.specs.DriveSet.{Drives}
 use Rattle.mdv_base.specs.declared.flags.Flags.{Flags}
@@ -9,8 +9,8 @@ use Rattle.mdv_survey.specs.Choice.{is_of, place_of}
 use Rattle.mdv_survey.specs.Letters.{letters_at, located_alone}
 use Rattle.mdv_survey.specs.declared.replica.Newest.{Newest}
 use Rattle.mdv_survey.specs.declared.replica.Survey.{Survey}
-use Rattle.mdv_table.specs.Tests.{same_place}
-use Rattle.mdv_store.specs.Below.{Identity, Mark, Place, Replica, Site, last_of, record_text}
+use Rattle.mdv_config.specs.Lists.{same_place}
+use Rattle.mdv_store.specs.Below.{Identity, Mark, Place, Replica, Site, last_of, record_bytes}
 use Rattle.mdv_store.specs.Boot.{seat_for}
 pub use Rattle.mdv_store.specs.Shares.{is_active, is_seat_at}
 use Rattle.mdv_store.specs.Text.{blocks_for}
@@ -45,7 +45,7 @@ seen_at site survey answered identity mark text was place =
 pub record AreRead (site : Site) (survey : Survey) (answered : Drives) (newest : Newest) (letters : List Lettered) : Type 0 where
   pub replica : Replica
   pub one_of : slice_get survey.replicas newest.replica ≡ Some replica
-  pub letters_are : letters ≡ letters_from (seen_at site survey answered replica.head.master.identity newest.mark (blocks_for (length (record_text newest.table)))) false (last_of newest.table.plan.lists)
+  pub letters_are : letters ≡ letters_from (seen_at site survey answered replica.head.master.identity newest.mark (blocks_for (record_bytes newest.table))) false (last_of newest.table.plan.lists)
 
 -- there are none where the survey found no table
 abbrev pub AreLettersOf : Site → Survey → Drives → List Lettered → Type 0

@@ -1,10 +1,10 @@
 -- How a second list of places comes beside the only one of an open database, and how it is the only one then.
 use Rattle.std.specs.Prelude.{◌≡◌, ◌<◌, ◌≤◌, ◌+◌, ◌*◌, ◌^◌, ℕ, max, Bool, List, filter, length, map, Contains, Option, None, Some, Result, Ok, Err}
 use Rattle.std.specs.List.{list_any}
-pub use Rattle.mdv_record.specs.Text.{with_lists}
-use Rattle.mdv_record.specs.Room.{least_slot_bytes}
-use Rattle.mdv_table.specs.Plan.{same_place}
-use Rattle.mdv_store.specs.Below.{Ghosts, HasNoneAbove, Lists, One, Place, Replica, Table, Two, last_of, places_of, record_text, settled}
+pub use Rattle.mdv_config.specs.Lists.{with_lists}
+use Rattle.mdv_encoding.specs.Room.{least_slot_bytes}
+use Rattle.mdv_config.specs.Lists.{same_place}
+use Rattle.mdv_store.specs.Below.{Ghosts, HasNoneAbove, Lists, One, Place, Replica, Two, last_of, places_of, record_bytes, settled}
 use Rattle.mdv_store.specs.Commit.{next_mark}
 use Rattle.mdv_store.specs.Opened.{AreSeatsOf, Opened, least_room, shortage}
 use Rattle.mdv_store.specs.Seats.{replicas_of}
@@ -26,15 +26,15 @@ pub record MayList (o : Opened) (lists : Lists) : Type 0 where
   pub seats : AreSeatsOf o.table o.seats
   pub above : (r : Replica) → Contains (replicas_of o.seats) r → HasNoneAbove o.mark r.head
   pub boot : o.mark.boot < 2 ^ 63
-  pub fits : length (record_text (with_lists o.table lists)) ≤ least_slot_bytes (places_of lists)
+  pub fits : record_bytes (with_lists o.table lists) ≤ least_slot_bytes (places_of lists)
   pub small : o.mark.count + 2 < 2 ^ 63
 
 -- the first cause why it may not
 abbrev pub MayNotList : Opened → Lists → CommitFault → Type 0
 MayNotList o lists (unwritten.Lost active listed) = shortage o ≡ Some (record { active = active; listed = listed })
 MayNotList o lists (unwritten.TooLong fault) =
-    (shortage o ≡ None) × (fault.bytes ≡ length (record_text (with_lists o.table lists))) × (fault.room ≡ least_slot_bytes (places_of lists)) × (fault.room < fault.bytes)
-MayNotList o lists unwritten.Spent = (shortage o ≡ None) × (length (record_text (with_lists o.table lists)) ≤ least_slot_bytes (places_of lists)) × (2 ^ 63 ≤ o.mark.count + 2)
+    (shortage o ≡ None) × (fault.bytes ≡ record_bytes (with_lists o.table lists)) × (fault.room ≡ least_slot_bytes (places_of lists)) × (fault.room < fault.bytes)
+MayNotList o lists unwritten.Spent = (shortage o ≡ None) × (record_bytes (with_lists o.table lists) ≤ least_slot_bytes (places_of lists)) × (2 ^ 63 ≤ o.mark.count + 2)
 
 -- the seats that are handed over, or those that there are
 abbrev pub seats_then : Option (List Seat) → List Seat → List Seat
@@ -65,7 +65,7 @@ pub record IsLast (o : Opened) : Type 0 where
   pub half : shortage o ≡ None
   pub places : map (λ (s : Seat). s.place) (seats_in (last_of o.table.plan.lists) o.seats) ≡ last_of o.table.plan.lists
   pub some : 1 ≤ length (last_of o.table.plan.lists)
-  pub fits : length (record_text (settled o.table)) ≤ least_slot_bytes (last_of o.table.plan.lists)
+  pub fits : record_bytes (settled o.table) ≤ least_slot_bytes (last_of o.table.plan.lists)
   pub small : o.mark.count + 1 < 2 ^ 63
 
 -- the open database as it is about to be written with its second list alone

@@ -1,6 +1,6 @@
 -- An open database, and what the drives have of it.
 use Rattle.std.specs.Prelude.{◌≡◌, ◌<◌, ◌≤◌, ◌*◌, ◌^◌, ℕ, List, length, map, Contains, Option, None, Some}
-pub use Rattle.mdv_record.specs.Room.{least_room}
+pub use Rattle.mdv_encoding.specs.Room.{least_room}
 use Rattle.mdv_store.specs.Below.{Geometry, HasNoneAbove, Identity, IsOfGeometry, IsSound, Key, Mark, Replica, Table, Tale, at_of, last_of, places_of, site_of}
 use Rattle.mdv_store.specs.Seats.{AreHeld, AreNamed, AreShown, replicas_of}
 use Rattle.mdv_store.specs.Settled.{first_room}

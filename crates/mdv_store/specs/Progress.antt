@@ -1,6 +1,6 @@
 -- How far the writes of a boot came.
 use Rattle.std.specs.Prelude.{List}
-use Rattle.mdv_store.specs.Below.{Lists, One, Place, Two}
+use Rattle.mdv_store.specs.Below.{Lists, One, Two}
 use Rattle.mdv_store.specs.declared.seats.Seat.{Seat}
 
 -- What was written last, and the places that are left behind it: the claims; or the table; or, where that has two lists, the table with the new one alone, of which the places are told apart from those that it lacks.

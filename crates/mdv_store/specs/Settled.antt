@@ -1,9 +1,9 @@
 -- A table with two lists of places is written a second time, with its new list alone, to the places of that list: the change of places is over then.
 use Rattle.std.specs.Prelude.{ℕ, min, List, [], ◌∷◌, map, Option, None, Some}
 use Rattle.std.specs.List.{find}
-use Rattle.mdv_table.specs.declared.plan.Lists.{Lists}
-use Rattle.mdv_table.specs.declared.plan.Lists.TheVariants.{One, Two}
-use Rattle.mdv_table.specs.Plan.{beside}
+use Rattle.mdv_plan.specs.declared.lists.Lists.{Lists}
+use Rattle.mdv_plan.specs.declared.lists.Lists.TheVariants.{One, Two}
+use Rattle.mdv_config.specs.Lists.{beside}
 use Rattle.mdv_store.specs.Below.{Place, Replica, slot_blocks}
 use Rattle.mdv_store.specs.Shares.{is_active_at}
 use Rattle.mdv_store.specs.declared.seats.Seat.{Seat}

@@ -2,9 +2,9 @@
 use Rattle.std.specs.Prelude.{◌*◌, ◌&&◌, Bool, List, length, count_by, is_some, nat_le, nat_lt, Option, None, Some, if◌then◌else◌}
 use Rattle.std.specs.List.{list_any}
 use Rattle.std.specs.Option.{option_or}
-use Rattle.mdv_table.specs.Tests.{same_place}
-use Rattle.mdv_table.specs.declared.plan.Lists.{Lists}
-use Rattle.mdv_table.specs.declared.plan.Lists.TheVariants.{One, Two}
+use Rattle.mdv_config.specs.Lists.{same_place}
+use Rattle.mdv_plan.specs.declared.lists.Lists.{Lists}
+use Rattle.mdv_plan.specs.declared.lists.Lists.TheVariants.{One, Two}
 use Rattle.mdv_store.specs.Below.{Place}
 use Rattle.mdv_store.specs.declared.seats.Need.{Need}
 use Rattle.mdv_store.specs.declared.seats.Need.TheVariants.{Half, More}

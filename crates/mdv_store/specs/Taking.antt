@@ -1,5 +1,5 @@
 -- What a boot makes of what it read: step by step, and of which premises.
-use Rattle.std.specs.Prelude.{◌≡◌, ◌⊎◌, ◌<◌, ◌≤◌, ◌+◌, ◌^◌, max, ℕ, Bool, true, false, List, [], length, map, Contains, MatchOption, None, Some, slice_get, vec_len}
+use Rattle.std.specs.Prelude.{◌≡◌, ◌⊎◌, ◌<◌, ◌≤◌, ◌+◌, ◌^◌, max, ℕ, Bool, true, false, List, [], length, map, Contains, None, Some, slice_get, vec_len}
 use Rattle.std.specs.Bool.{MatchBool}
 use Rattle.mdv_shelf.specs.Between.{RoseByAtLeast}
 use Rattle.mdv_shelf.specs.Shelves.{AtEachTale, AtEnd, DriveFailures, MadeCalls}
@@ -8,7 +8,7 @@ use Rattle.mdv_standing.specs.Adopting.{drawn}
 use Rattle.mdv_standing.specs.Turning.{IsBootRead}
 use Rattle.mdv_survey.specs.Survey.{IsSurveyOf}
 use Rattle.mdv_survey.specs.declared.replica.Newest.{Newest}
-use Rattle.mdv_store.specs.Below.{Database, DriveNo, Failures, Geometry, Ghosts, IsOfGeometry, IsReadyWith, IsSound, IsSynced, Key, Lists, Mark, One, Replica, RestStands, Site, Slot, Table, Tale, Two, greatest, has_drive, last, last_of, places_of, record_text, settled, site_of}
+use Rattle.mdv_store.specs.Below.{Database, DriveNo, Failures, Geometry, Ghosts, IsOfGeometry, IsReadyWith, IsSound, IsSynced, Key, Lists, Mark, One, Replica, RestStands, Site, Slot, Table, Tale, Two, greatest, has_drive, last, last_of, places_of, record_bytes, settled, site_of}
 use Rattle.mdv_store.specs.Blank.{StayBlank}
 use Rattle.mdv_store.specs.Boot.{IfAdopted, IsEndBy, IsOnce, IsShortAt, TakesAll, TakesBoth, greatest_number, is_memory, need_of, seats_of}
 use Rattle.mdv_store.specs.BootCounts.{IsAnewCounted, blocks_at, blocks_by, calls_at, calls_by, most_blocks, most_calls}
@@ -44,7 +44,7 @@ AreNumbered replicas = (r : Replica) → Contains replicas r → greatest r.head
 
 -- how many blocks of room its writing takes, and that of the tables that come
 abbrev pub room_of : Table → ℕ
-room_of table = max (max (least_room (places_of table.plan.lists)) (first_room (last_of table.plan.lists))) (blocks_for (length (record_text table)))
+room_of table = max (max (least_room (places_of table.plan.lists)) (first_room (last_of table.plan.lists))) (blocks_for (record_bytes table))
 
 -- What an adoption of the newest table has in hand.
 pub record IsHandOf (replicas : List Replica) (newest : Newest) (hand : Hand) : Type 0 where
@@ -52,9 +52,9 @@ pub record IsHandOf (replicas : List Replica) (newest : Newest) (hand : Hand) : 
   pub one_of : slice_get replicas newest.replica ≡ Some replica
   pub identity_is : hand.identity ≡ replica.head.master.identity
   pub number_is : hand.number ≡ greatest_number hand.identity replicas + 1
-  pub seats_are : hand.seats ≡ seats_of replicas hand.identity (blocks_for (length (record_text newest.table))) (places_of newest.table.plan.lists)
+  pub seats_are : hand.seats ≡ seats_of replicas hand.identity (blocks_for (record_bytes newest.table)) (places_of newest.table.plan.lists)
   pub few : length hand.seats ≤ 100
-  pub next_are : hand.next ≡ seats_of replicas hand.identity (blocks_for (length (record_text newest.table))) (again_of newest.table.plan.lists)
+  pub next_are : hand.next ≡ seats_of replicas hand.identity (blocks_for (record_bytes newest.table)) (again_of newest.table.plan.lists)
   pub next_few : length hand.next ≤ 50
   pub room_is : vec_len hand.room ≡ room_of newest.table
 
@@ -62,7 +62,7 @@ pub record IsHandOf (replicas : List Replica) (newest : Newest) (hand : Hand) : 
 pub record IsReadied (hand : Hand) (table : Table) : Type 0 where
   pub seats : AreSeatsOf table hand.seats
   pub enough : short_of More hand.seats table.plan.lists ≡ None
-  pub room : HaveRoom (blocks_for (length (record_text table))) hand.seats
+  pub room : HaveRoom (blocks_for (record_bytes table)) hand.seats
   pub one : (s t : Seat) → Contains hand.seats s → Contains hand.seats t → s.place ≡ t.place → s.replica ≡ t.replica
   pub next : map (λ (s : Seat). s.place) hand.next ≡ again_of table.plan.lists
   pub next_few : length hand.next ≤ 50
@@ -128,9 +128,9 @@ pub record WereClaimed {S : Type 0} (shelf : Ghosts S) (old new : S) (number : �
 
 -- And the table.
 pub record WereSlotted {S : Type 0} (shelf : Ghosts S) (old new : S) (mark : Mark) (table : Table) (before now : List Seat) : Type 0 where
-  pub left : AreLeft (DriveFailures shelf old new) (TakesSlot mark (length (record_text table))) before now
+  pub left : AreLeft (DriveFailures shelf old new) (TakesSlot mark (record_bytes table)) before now
   pub steps : AreWrittenBy shelf mark table old new before now
-  pub counted : ArePassCounted shelf old new 6 (2 + blocks_for (length (record_text table))) before now
+  pub counted : ArePassCounted shelf old new 6 (2 + blocks_for (record_bytes table)) before now
   pub end : AtEnd shelf (WritingEnds before now mark table) old new
 
 -- The claims were written, behind which enough of each list is left, and then the table at each place that claimed.
@@ -185,7 +185,7 @@ pub record RewriteEnds (key : Key) (hand : Hand) (table : Table) (o : Opened) (t
 
 -- the opened database, behind both passes, and where the table had two lists with its new one alone
 pub record IsRewritten (failed : ℕ → Failures) (key : Key) (hand : Hand) (table : Table) (gone : List Seat) (o : Opened) : Type 0 where
-  pub over : AreLeft failed (TakesBoth hand.number (length (record_text table))) (seats_now hand.seats (gone_of table.plan.lists)) gone
+  pub over : AreLeft failed (TakesBoth hand.number (record_bytes table)) (seats_now hand.seats (gone_of table.plan.lists)) gone
   pub left : AreLeft failed (TakesAll hand.number table) (last_in hand.seats table.plan.lists) o.seats
   pub enough : short_of (need_of key) o.seats (One (last_of table.plan.lists)) ≡ None
   pub is : o ≡ record { key = key; identity = hand.identity; mark = record { boot = hand.number; count = settles table.plan.lists }; table = settled table; seats = o.seats }

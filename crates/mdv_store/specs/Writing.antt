@@ -1,6 +1,6 @@
 -- What a pass says that spells a table once, and writes it to each active place.
 use Rattle.std.specs.Prelude.{◌+◌, ℕ, List, [], length}
-use Rattle.mdv_store.specs.Below.{Ghosts, Mark, Replica, Table, Tale, record_text}
+use Rattle.mdv_store.specs.Below.{Ghosts, Mark, Replica, Table, Tale, record_bytes}
 use Rattle.mdv_store.specs.Counts.{ArePassCounted}
 use Rattle.mdv_store.specs.Passing.{IsPassing, Passed, WentBy, slotting}
 use Rattle.mdv_shelf.specs.Drives.{KeptAmong}
@@ -12,7 +12,7 @@ use Rattle.mdv_store.specs.declared.seats.Seat.{Seat}
 
 -- how many bytes a table's text has
 abbrev pub text_size : Table → ℕ
-text_size table = length (record_text table)
+text_size table = record_bytes table
 
 -- A body of the table is written to these replicas, one by one in their order; and nothing else is done.
 abbrev pub IsBeingWritten : List Replica → Mark → Table → Tale → Tale → Type 0

@@ -9,7 +9,7 @@ ghost use Rattle.mdv_survey.specs.Choice.{is_of as spec_is_of, place_of as spec_
 ghost use Rattle.mdv_survey.specs.Newest.{IsGreatest};
 ghost use Rattle.mdv_survey.specs.Replica.{IsOnShelf, IsSeated};
 ghost use Rattle.mdv_survey.specs.Survey.{IsSurvey};
-ghost use Rattle.mdv_table.specs.Tests.{same_place};
+ghost use Rattle.mdv_config.specs.Lists.{same_place};
 ghost use Rattle.mdv_store.specs.Adopting.{AdoptEnds, AdoptMoment, AreAllIn, IsAdoptAnswer};
 ghost use Rattle.mdv_store.specs.Booted.{IsBooted};
 ghost use Rattle.mdv_store.specs.Boot.{IfAdopted, WasChosen, greatest_number as spec_greatest_number, is_memory, is_seated as spec_is_seated, need_of as spec_need_of, seats_of as spec_seats_of};
@@ -24,13 +24,14 @@ use crate::settling::{Draft, again_of, opened, settle};
 use crate::store::Store;
 use crate::text::{blocks_for, first_room, room_for, slot_room, spell};
 use mdv_base::{Block, DriveNo, DriveSet, Identity, Key, Mark, NUMBER_LIMIT, Place};
+use mdv_config::{each_of, last_of};
+use mdv_encoding::{least_room, text_bytes};
 use mdv_look::{Looked, bring_up, look};
 use mdv_name::Geometry;
-use mdv_record::{least_room, text_bytes};
+use mdv_plan::{Lists, Table};
 use mdv_shelf::Shelf;
 use mdv_shown::Site;
 use mdv_survey::{Choice, Newest, Replica, Survey, choose, greatest_of};
-use mdv_table::{Lists, Table};
 use mdv_votes::Row;
 use std::alloc::{AllocError, Global};
 
@@ -231,10 +232,10 @@ fn in_hand(alloc: Global, replicas: &[Replica], newest: &Newest) -> Result<Hand,
 {
     let identity = replicas[newest.replica].head.master.identity;
     let lists = &newest.table.plan.lists;
-    let places = lists.each();
+    let places = each_of(lists);
     let again = again_of(lists);
-    let text = blocks_for(text_bytes(&newest.table) as u32);
-    let most = least_room(lists).max(first_room(lists.last())).max(text);
+    let text = blocks_for(text_bytes(&newest.table));
+    let most = least_room(lists).max(first_room(last_of(lists))).max(text);
     Ok(Hand {
         identity,
         number: greatest_number(replicas, identity) + 1,

@@ -14,10 +14,10 @@ use crate::writing::write_all;
 use mdv_acts::{Owner, clear_all, format_all};
 use mdv_base::{Failed, Identity, Key, Mark, Place, Places};
 use mdv_name::SliceLine;
+use mdv_plan::Table;
 use mdv_replica::{Gate, Head, Master};
 use mdv_shelf::Shelf;
 use mdv_survey::Replica;
-use mdv_table::Table;
 use mdv_votes::Row;
 use std::alloc::{AllocError, Global};
 
@@ -54,7 +54,7 @@ impl From<Failed> for CreateFault {
 
 /// Makes the database, with so many replicas of so many blocks on each of these slices, one behind another from block 16 on. Where a slice gets more
 /// than one, their masters are blanked first, that of the first place before all others: so no replica that lay there is found any more, whatever is
-/// blanked and formatted behind it. Then each place is formatted with claim 1, and the table without volumes that lists them all is written to each under
+/// blanked and formatted behind it. Then each place is formatted with claim 1, and the table of a new database that lists them all is written to each under
 /// the mark (1, 0). At least half of them have to take it.
 pub fn create<S: Shelf>(
     shelf: &mut S,

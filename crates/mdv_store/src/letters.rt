@@ -8,8 +8,9 @@ use crate::booting::{is_of, is_same, place_of, replica_at};
 use crate::seats::Seat;
 use crate::text::blocks_for;
 use mdv_base::{Flags, Identity, Mark, Place};
+use mdv_config::last_of;
+use mdv_encoding::text_bytes;
 use mdv_look::Looked;
-use mdv_record::text_bytes;
 use mdv_replica::Gate;
 use mdv_shown::Site;
 use mdv_survey::{Newest, Replica, letters};
@@ -135,11 +136,11 @@ fn letters_read(
     let sought = Sought {
         identity: replicas[newest.replica].head.master.identity,
         mark: newest.mark,
-        text: blocks_for(text_bytes(&newest.table) as u32),
+        text: blocks_for(text_bytes(&newest.table)),
     };
     let mut seen = Row::new(alloc);
     let mut was = false;
-    for place in newest.table.plan.lists.last() {
+    for place in last_of(&newest.table.plan.lists) {
         let flags = seen_at(site, looked, sought, *place, was);
         seen.push(Lettered {
             place: *place,

@@ -1,8 +1,9 @@
 // How a second list of places comes beside an open database's only one, and how it is the only one then.
 ghost use Rattle.std.specs.Prelude.{◌≡◌, ◌≤◌, ◌<◌, ◌^◌, length, vec_len, IfOk, MatchOption, MatchResult};
-ghost use Rattle.mdv_record.specs.Room.{least_slot_bytes};
-ghost use Rattle.mdv_record.specs.Text.{record_text, with_lists};
-ghost use Rattle.mdv_table.specs.Plan.{places_of};
+ghost use Rattle.mdv_encoding.specs.Room.{least_slot_bytes};
+ghost use Rattle.mdv_encoding.specs.Text.{record_bytes};
+ghost use Rattle.mdv_config.specs.Lists.{with_lists};
+ghost use Rattle.mdv_config.specs.Lists.{places_of};
 ghost use Rattle.mdv_store.specs.Commit.{next_mark};
 ghost use Rattle.mdv_store.specs.Listing.{IsLast, IsRoomFor, IsRoomy, IsSecond, MayList, MayNotList, WasListed, is_listed_in as spec_is_listed_in, last_by, list_room, listed_by, seats_in, seats_then};
 ghost use Rattle.mdv_store.specs.Seats.{AreLaid};
@@ -13,10 +14,12 @@ use crate::store::{CommitFault, Store, lost};
 use crate::text::{first_room, room_for};
 use crate::writing::write_all;
 use mdv_base::{BLOCK_BYTES, Block, Key, Mark, NUMBER_LIMIT, Place, Places};
-use mdv_record::{TooLong, bytes_with, least_room};
+use mdv_config::last_of;
+use mdv_encoding::{bytes_with, least_room};
+use mdv_plan::Lists;
 use mdv_shelf::Shelf;
-use mdv_table::Lists;
 use mdv_votes::Row;
+use mdv_whole::TooLong;
 use std::alloc::{AllocError, Global};
 
 impl Store {
@@ -50,8 +53,8 @@ impl Store {
     }
 
     fn check_slots(&self, lists: &Lists) -> Result<(), TooLong>
-        ensures { MatchResult result (λ done. length (record_text (with_lists self.now.table lists.now)) ≤ least_slot_bytes (places_of lists.now))
-            (λ fault. (fault.bytes ≡ length (record_text (with_lists self.now.table lists.now))) × (fault.room ≡ least_slot_bytes (places_of lists.now)) × (fault.room < fault.bytes)) }
+        ensures { MatchResult result (λ done. record_bytes (with_lists self.now.table lists.now) ≤ least_slot_bytes (places_of lists.now))
+            (λ fault. (fault.bytes ≡ record_bytes (with_lists self.now.table lists.now)) × (fault.room ≡ least_slot_bytes (places_of lists.now)) × (fault.room < fault.bytes)) }
     {
         let bytes = bytes_with(&self.table, lists);
         let room = (least_room(lists) * BLOCK_BYTES) as u64;
@@ -100,7 +103,7 @@ impl Store {
         requires last { IsLast self.old }
         ensures { WasListed S.Shelf shelf.old shelf.new (last_by self.old) self.new result }
     {
-        let list = copy_of(self.table.plan.lists.last());
+        let list = copy_of(last_of(&self.table.plan.lists));
         keep_listed(&mut self.seats, list.as_slice());
         self.table.plan.lists = Lists::One(list);
         let mark = after(self.mark);
@@ -128,7 +131,7 @@ fn after(mark: Mark) -> Mark
 pub fn room_of(alloc: Global, lists: &Lists) -> Result<Vec<Block>, AllocError>
     ensures { IfOk result (λ room. length room.items ≡ list_room lists.now) }
 {
-    room_for(alloc, least_room(lists).max(first_room(lists.last())))
+    room_for(alloc, least_room(lists).max(first_room(last_of(lists))))
 }
 
 fn copy_of(places: &[Place]) -> Places

@@ -13,10 +13,10 @@ ghost use Rattle.mdv_store.specs.Slots.{SlottingEnds, SlottingMoment};
 
 use crate::booting::is_same;
 use mdv_base::{Block, DriveNo, Failed, Mark, Place, Places};
+use mdv_plan::Lists;
 use mdv_replica::{Gate, Head, Slot, write_claim, write_slot};
 use mdv_shelf::Shelf;
 use mdv_survey::{Replica, spare_slot};
-use mdv_table::Lists;
 use mdv_votes::{Row, at_least_half, more_than_half};
 
 /// A listed place, and the replica there as it is on the disk. There is none where the place isn't active: a call on its drive failed, or the

@@ -12,9 +12,10 @@ use crate::seats::{Need, Seat, active, is_active_at, short};
 use crate::store::Store;
 use crate::writing::write_all;
 use mdv_base::{Block, Identity, Key, Mark, Place};
+use mdv_config::last_of;
+use mdv_plan::{Lists, Table};
 use mdv_shelf::Shelf;
 use mdv_survey::Replica;
-use mdv_table::{Lists, Table};
 use mdv_votes::Row;
 
 /// What a boot wrote anew: a database's table, under which mark and to which places; and room for its text.
@@ -61,7 +62,7 @@ pub(crate) fn again_of(lists: &Lists) -> &[Place]
 {
     match lists {
         Lists::One(_) => &[],
-        Lists::Two(_, _) => lists.last(),
+        Lists::Two(_, _) => last_of(lists),
     }
 }
 
@@ -88,7 +89,7 @@ pub(crate) fn settle<S: Shelf>(
     let mut now = next;
     take_over(&mut now, seats.as_slice());
     let readable = active(now.as_slice());
-    let table = table.settle();
+    let table = mdv_config::settle(table);
     let mark = Mark {
         boot: mark.boot,
         count: mark.count + 1,

@@ -1,9 +1,9 @@
 // An open database, and how the next table is committed to it.
-ghost use Rattle.std.specs.Prelude.{◌≡◌, ◌≤◌, ◌<◌, ◌↔◌, length, Contains, IfErr, IsSome, OnOk};
-ghost use Rattle.mdv_record.specs.Text.{record_text};
+ghost use Rattle.std.specs.Prelude.{◌≡◌, ◌≤◌, ◌<◌, ◌↔◌, Contains, IfErr, IsSome, OnOk};
+ghost use Rattle.mdv_encoding.specs.Text.{record_bytes};
 ghost use Rattle.mdv_shelf.specs.Drives.{KeptAmong};
 ghost use Rattle.mdv_shelf.specs.Shelves.{AtEachTale, AtEnd};
-ghost use Rattle.mdv_table.specs.Plan.{places_of};
+ghost use Rattle.mdv_config.specs.Lists.{places_of};
 ghost use Rattle.mdv_store.specs.Commit.{CommitAnswer, CommitDone, CommitMoment, room_in};
 ghost use Rattle.mdv_store.specs.Counts.{IsCommitCounted};
 ghost use Rattle.mdv_store.specs.Letters.{flags_at as spec_flags_at, places_seen};
@@ -14,10 +14,11 @@ use crate::letters::{Letters, flags_at};
 use crate::seats::{Need, Seat, Share, short};
 use crate::writing::write_all;
 use mdv_base::{BLOCK_BYTES, Block, Flags, Identity, Key, Mark, NUMBER_LIMIT, Place};
-use mdv_record::{TooLong, least_room, text_bytes};
+use mdv_encoding::{least_room, text_bytes};
+use mdv_plan::Table;
 use mdv_shelf::Shelf;
-use mdv_table::Table;
 use mdv_votes::Row;
+use mdv_whole::TooLong;
 use std::marker::Model;
 
 /// An open database: whose it is, the identity of its creation, the mark under which its newest table was written, that table, its listed
@@ -106,7 +107,7 @@ impl Store {
         ensures answer { CommitAnswer S.Shelf shelf.old shelf.new self.old self.new next result }
         ensures moments { AtEachTale S.Shelf (CommitMoment self.old next) shelf.old shelf.new }
         ensures end { OnOk result (AtEnd S.Shelf (CommitDone self.old self.new next) shelf.old shelf.new) }
-        ensures counted { IsCommitCounted S.Shelf shelf.old shelf.new (length (record_text next)) self.old self.new.seats result }
+        ensures counted { IsCommitCounted S.Shelf shelf.old shelf.new (record_bytes next) self.old self.new.seats result }
         ensures kept { KeptAmong S.Shelf shelf.old shelf.new (drives_of self.old.seats) }
     {
         if let Some(share) = self.shortage() {
@@ -138,8 +139,8 @@ impl Store {
     }
 
     fn check_room(&self, next: &Table) -> Result<(), TooLong>
-        ensures ok { OnOk result (length (record_text next.now) ≤ room_in self.now.table) }
-        ensures err { IfErr result (λ fault. (fault.bytes ≡ length (record_text next.now)) × (fault.room ≡ room_in self.now.table) × (fault.room < fault.bytes)) }
+        ensures ok { OnOk result (record_bytes next.now ≤ room_in self.now.table) }
+        ensures err { IfErr result (λ fault. (fault.bytes ≡ record_bytes next.now) × (fault.room ≡ room_in self.now.table) × (fault.room < fault.bytes)) }
     {
         let bytes = text_bytes(next);
         let room = (least_room(&self.table.plan.lists) * BLOCK_BYTES) as u64;

@@ -1,13 +1,13 @@
 // The text of a table, spelled once for all replicas.
 ghost use Rattle.std.specs.Prelude.{◌≡◌, ◌<◌, ◌≤◌, ◌*◌, ◌%◌, ◌^◌, ℕ, length, slice_index, take, IfOk};
-ghost use Rattle.mdv_record.specs.Text.{record_text};
+ghost use Rattle.mdv_encoding.specs.Text.{record_bytes, record_text};
 ghost use Rattle.mdv_replica.specs.Replica.{slot_blocks};
 ghost use Rattle.mdv_store.specs.Settled.{first_room as spec_first_room};
 ghost use Rattle.mdv_store.specs.Text.{IsSpelled, blocks_for as spec_blocks_for};
 
 use mdv_base::{BLOCK_BYTES, Block, Place, ZERO_BLOCK};
-use mdv_record::encode;
-use mdv_table::Table;
+use mdv_encoding::encode;
+use mdv_plan::Table;
 use std::alloc::{AllocError, Global};
 
 // The blocks of a slot of the longest place.
@@ -38,7 +38,7 @@ pub(crate) fn first_room(places: &[Place]) -> usize
 }
 
 /// How many blocks a text of so many bytes takes: one at least.
-pub(crate) fn blocks_for(bytes: u32) -> usize
+pub(crate) fn blocks_for(bytes: u64) -> usize
     ensures { result ≡ spec_blocks_for bytes }
 {
     (bytes as usize).div_ceil(BLOCK_BYTES).max(1)
@@ -54,7 +54,7 @@ pub(crate) struct Spelled<'a> {
 
 /// Spells the table in front of the room, with zeros behind it to the end of a block.
 pub(crate) fn spell<'a>(table: &Table, room: &'a mut [Block]) -> Spelled<'a>
-    requires in_room { length (record_text table.now) ≤ 512 * length room.old }
+    requires in_room { record_bytes table.now ≤ 512 * length room.old }
     requires some { 1 ≤ length room.old }
     requires short { 512 * length room.old < 2 ^ 32 }
     ensures spelled { IsSpelled table.now result.bytes result.body.now }
@@ -64,22 +64,22 @@ pub(crate) fn spell<'a>(table: &Table, room: &'a mut [Block]) -> Spelled<'a>
     let (blocks, _) = text.as_chunks::<512>();
     Spelled {
         bytes,
-        body: &blocks[..blocks_for(bytes)],
+        body: &blocks[..blocks_for(u64::from(bytes))],
     }
 }
 
 // Lays the table's text in front, and zeros behind it to the end of a block. Tells how many bytes the text has.
 fn lay(table: &Table, text: &mut [u8]) -> u32
-    requires in_room { length (record_text table.now) ≤ length text.old }
+    requires in_room { record_bytes table.now ≤ length text.old }
     requires some { 512 ≤ length text.old }
     requires short { length text.old < 2 ^ 32 }
     requires whole { length text.old % 512 ≡ 0 }
-    ensures bytes { result ≡ length (record_text table.now) }
+    ensures bytes { result ≡ record_bytes table.now }
     ensures text { take result text.new ≡ record_text table.now }
     ensures zeros { (k : ℕ) → result ≤ k → k < 512 * spec_blocks_for result → slice_index text.new k ≡ 0 }
 {
     let bytes = encode(table, text).unwrap() as u32;
-    let end = blocks_for(bytes) * BLOCK_BYTES;
+    let end = blocks_for(u64::from(bytes)) * BLOCK_BYTES;
     clear(&mut text[bytes as usize..end]);
     bytes
 }

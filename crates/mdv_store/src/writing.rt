@@ -10,8 +10,8 @@ ghost use Rattle.mdv_store.specs.Writing.{WereWritten, WritingEnds, WritingMomen
 use crate::seats::{Seat, slot_all};
 use crate::text::spell;
 use mdv_base::{Block, Mark};
+use mdv_plan::Table;
 use mdv_shelf::Shelf;
-use mdv_table::Table;
 use mdv_votes::Row;
 
 /// Spells the table in this room, and writes it to each active place under the mark. What the room holds then is of no use.

@@ -1,25 +1,20 @@
 -- Each log stays one of which no place was formatted again, as long as nothing asks for that.
 use Rattle.std.proofs.Common.{◌≡◌, inl, inr, List, [], ◌∷◌, ◌++◌, All, refl, sym, ◌∙◌, ap, true, subst, Option, None, Some, Contains, arith}
 use Rattle.std.proofs.lemmas.List.Elements.{All-cons, All-head, All-nil, All-same, All-tail}
+use Rattle.mdv_keeping.proofs.Places.{lists_stay}
 use Rattle.mdv_store_law.specs.Anew.{HasNoneAgain, IsAnew, IsFresh}
 use Rattle.mdv_votes.specs.Family.{raised}
-use Rattle.mdv_store_law.specs.Below.{Never, Geometry, Identity, Lists, One, Place, PlanChange, Table, last_of}
-use Rattle.mdv_store_law.specs.Changes.{AddListed, AddPlaces, Change, DropPlaces, FirstPlace, IsMadeBy, OfPlan}
+use Rattle.mdv_store_law.specs.Below.{Never, Geometry, Identity, Lists, One, Place, Table, last_of}
+use Rattle.mdv_store_law.specs.Changes.{AddListed, AddPlaces, Change, DropPlaces, FirstPlace, OfPlan}
 use Rattle.mdv_store_law.specs.Log.{Again, Clearing, Event, Gone, IsAskable, IsCourse, IsIssue, IsMade, Issued, Log, MayHappen, Placing, Told, Version, PlacesStay, Writing, Written, answered, empty_log, log_after, log_after_all, placed_again, since_of}
 use Rattle.mdv_store_law.specs.Machine.{AreAll}
 use Rattle.mdv_store_law.proofs.Families.{contains_behind, contains_cases, contains_first}
 use Rattle.mdv_store_law.proofs.Fates.{never_ends}
-use Rattle.mdv_table.specs.declared.change.Change.TheVariants.{MakeStripe}
-use Rattle.mdv_table.specs.declared.plan.Plan.{Plan}
-
--- a change of volumes moves no place of one list
-pub plan_lists : (g : Geometry) (change : PlanChange) (old next : Table) → IsMadeBy g (OfPlan change) old next → next.plan.lists ≡ old.plan.lists
-plan_lists g (MakeStripe volume slice) old next made = ap (λ (p : Plan). p.lists) made.0.1
 
 pub made_lists : (g : Geometry) (asked : Option Change) (old next : Table) (places : List Place) → IsAskable PlacesStay asked → IsMade g asked old next → old.plan.lists ≡ One places → next.plan.lists ≡ One places
 made_lists g None old next places keeps (inl same) one = ap (λ (t : Table). t.plan.lists) same ∙ one
 made_lists g None old next places keeps (inr over) one = ap (λ (t : Table). t.plan.lists) over ∙ ap (λ (l : Lists). One (last_of l)) one
-made_lists g (Some (OfPlan change)) old next places keeps made one = plan_lists g change old next made ∙ one
+made_lists g (Some (OfPlan change)) old next places keeps made one = lists_stay g change old next made.1 ∙ one
 made_lists g (Some (AddPlaces slices count blocks)) old next places keeps made one = absurd keeps
 made_lists g (Some (AddListed number)) old next places keeps made one = absurd keeps
 made_lists g (Some (DropPlaces slices)) old next places keeps made one = absurd keeps
@@ -41,9 +36,9 @@ anew_after g log (Issued identity) anew may is = record { none = refl; lives = r
 anew_after g log (Writing mark asked before table) anew (above, inl first) is = record {
   none = anew.none;
   lives = refl;
-  places = first.one.0;
+  places = first.empty.0;
   each = λ v has. elim (contains_cases _ v log.family has) [
-    | inl here ↦ ap (λ (x : Version). x.table.plan.lists) (sym here) ∙ first.one.1
+    | inl here ↦ ap (λ (x : Version). x.table.plan.lists) (sym here) ∙ ap (λ (t : Table). t.plan.lists) first.empty.1
     | inr behind ↦ absurd (none_has v (subst (λ (f : List Version). Contains f v) first.none behind))
   ];
 }

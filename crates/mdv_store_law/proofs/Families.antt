@@ -2,9 +2,7 @@
 use Rattle.std.proofs.Common.{◌≡◌, ◌⊎◌, inl, inr, ◌||◌, ℕ, zero, suc, ◌<◌, Bool, true, false, List, [], ◌∷◌, ◌++◌, length, slice_index_or, refl, sym, ◌∙◌, ap, subst, append_assoc, Option, Some, None, All, Contains, arith}
 use Rattle.std.proofs.lemmas.List.Elements.{All-cons, All-head, All-tail, All-contains}
 use Rattle.std.specs.List.{list_any}
-use Rattle.mdv_table.specs.Plan.{last_of}
-use Rattle.mdv_table.specs.declared.plan.Lists.{Lists}
-use Rattle.mdv_store_law.specs.Below.{IsBelow, Geometry, One, Table, settled}
+use Rattle.mdv_store_law.specs.Below.{IsBelow, Geometry, Table, settled}
 use Rattle.mdv_store_law.specs.Changes.{Change}
 use Rattle.mdv_store_law.specs.Log.{Version, with_asked, answered, Extends, IsSameOrSettled, IsMade, AreMade, IsRising, IsDescended, IsHeld}
 
@@ -29,7 +27,7 @@ settled_more a b c (inr over) (inr twice) = inr (twice ∙ ap settled over)
 
 -- a table is what its changes made, once its change of places is over too
 made_settled : (g : Geometry) (changes : List Change) (table : Table) → AreMade g changes table → AreMade g changes (settled table)
-made_settled g [] table made = (made.0, (made.1.0, ap (λ (l : Lists). One (last_of l)) made.1.1))
+made_settled g [] table made = (made.0, ap settled made.1)
 made_settled g (change ∷ before) table (old, new, made, is, more) = (old, new, made, is, settled_more new table (settled table) more (inr refl))
 
 -- a table is what its changes made, if the one that it comes from is

@@ -1,9 +1,9 @@
 -- How logs go on, event by event.
-use Rattle.std.proofs.Common.{◌≡◌, ◌<◌, ◌⊎◌, inl, inr, true, false, List, [], ◌∷◌, ◌++◌, slice_index_or, refl, sym, ◌∙◌, subst, Option, Some, None, All, Contains}
+use Rattle.std.proofs.Common.{◌≡◌, ◌<◌, ◌⊎◌, inl, inr, true, false, List, [], ◌∷◌, ◌++◌, slice_index_or, refl, sym, subst, Option, Some, None, All, Contains}
 use Rattle.std.proofs.lemmas.List.Elements.{All-nil, All-cons, All-same, All-contains, Contains-get_or}
 use Rattle.mdv_store_law.specs.Below.{Mark, Geometry, Table}
 use Rattle.mdv_store_law.specs.Changes.{Change}
-use Rattle.mdv_store_law.specs.Log.{Again, Version, Log, Event, Issued, Writing, Written, Told, Placing, Clearing, Gone, Fate, Lives, Ends, Over, IsNotOver, with_asked, log_after, log_after_all, is_firm, IsFirst, IsNext, Extends, IsUntold, IsTellable, MayHappen, IsCourse, told_by, AreMade, IsHeld, IsLog, empty_log}
+use Rattle.mdv_store_law.specs.Log.{Again, Version, Log, Event, Issued, Writing, Written, Told, Placing, Clearing, Gone, Lives, IsNotOver, with_asked, log_after, log_after_all, is_firm, IsFirst, IsNext, Extends, IsUntold, IsTellable, MayHappen, IsCourse, told_by, AreMade, IsHeld, IsLog, empty_log}
 use Rattle.mdv_store_law.specs.Laws.{CoursesAreLogs}
 use Rattle.mdv_store_law.specs.Machine.{AreAll}
 use Rattle.mdv_store_law.proofs.Again.{numbered_answered, numbered_more, placed_numbered}
@@ -16,7 +16,7 @@ module _ (g : Geometry) (log : Log) (is : IsLog g log) (mark : Mark) (asked : Op
   begun = record { mark = mark; table = table; changes = with_asked asked before; is_written = false }
 
   pub begun_made : IsFirst log.issued log.family asked before table ⊎ IsNext g log.family asked before table → AreMade g (with_asked asked before) table
-  begun_made (inl first) = rw (first.unasked, first.unchanged) (first.empty, first.one)
+  begun_made (inl first) = rw (first.unasked, first.unchanged) first.empty
   begun_made (inr next) =
       let made = All-contains (λ (v : Version). AreMade g v.changes v.table) log.family next.parent is.made next.one_of in
       made_next g asked before next.parent.table table (subst (λ (c : List Change). AreMade g c next.parent.table) next.changes made) next.made

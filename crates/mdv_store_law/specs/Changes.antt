@@ -1,7 +1,7 @@
 -- What a line may ask of a database's table: of its volumes, or of the places of its replicas; and the table that comes of it.
 use Rattle.std.specs.Prelude.{◌≡◌, ◌+◌, ◌*◌, ℕ, zero, suc, Bool, not, List, [], ◌∷◌, ◌++◌, filter, flat_map, take}
 use Rattle.std.specs.List.{list_any}
-use Rattle.mdv_store_law.specs.Below.{Geometry, IsAfter, Lists, Place, PlanChange, SliceName, Table, Two, last_of, plan_changed, same_slice}
+use Rattle.mdv_store_law.specs.Below.{Geometry, IsStepOf, Lists, MakeStripe, Place, PlanChange, SliceName, Table, Two, last_of, plan_changed, same_slice}
 
 pub data Change : Type 0 where
   OfPlan : PlanChange → Change
@@ -46,7 +46,7 @@ abbrev pub moved : Change → Table → Table
 moved change t = record t { plan = record t.plan { lists = lists_after change t.plan.lists } }
 
 abbrev pub table_after : Geometry → Change → Table → Table
-table_after g (OfPlan change) t = plan_changed g change t
+table_after g (OfPlan change) t = plan_changed g t change
 table_after g (AddPlaces slices count blocks) t = moved (AddPlaces slices count blocks) t
 table_after g (AddListed number) t = t
 table_after g (DropPlaces slices) t = moved (DropPlaces slices) t
@@ -59,9 +59,14 @@ pub record HasAdded (old new : Table) : Type 0 where
   pub blocks : ℕ
   pub is : new ≡ moved (AddPlaces slices count blocks) old
 
--- The change makes the one table of the other. One of volumes only where nothing refuses it; what a list of places must be is said of tables of a geometry.
+-- what a line may ask of volumes yet: that one is made
+abbrev pub IsAsked : PlanChange → Type 0
+IsAsked (MakeStripe volume rows pool) = Unit {0}
+IsAsked other = ⊥
+
+-- The change makes the one table of the other. One of volumes only where a line may ask it, and nothing refuses it; what a list of places must be is said of tables of a geometry.
 abbrev pub IsMadeBy : Geometry → Change → Table → Table → Type 0
-IsMadeBy g (OfPlan change) old new = IsAfter g change old.plan new.plan × (new.status ≡ old.status)
+IsMadeBy g (OfPlan change) old new = IsAsked change × IsStepOf g change old new
 IsMadeBy g (AddPlaces slices count blocks) old new = new ≡ moved (AddPlaces slices count blocks) old
 IsMadeBy g (AddListed number) old new = HasAdded old new
 IsMadeBy g (DropPlaces slices) old new = new ≡ moved (DropPlaces slices) old

@@ -2,12 +2,12 @@
 -- whether it is there.
 use Rattle.std.specs.Prelude.{◌≡◌, ◌⊎◌, ◌<◌, ◌&&◌, ◌==◌, ℕ, Bool, true, false, cond, List, [], ◌∷◌, ◌++◌, length, map, reverse, Option, Some, None, All, Contains}
 use Rattle.std.specs.List.{list_any}
-use Rattle.mdv_store_law.specs.Below.{IsBelow, Identity, Mark, Geometry, Place, Table, One, Since, Never, last_of, raised, same_slice, settled, since_after}
+use Rattle.mdv_store_law.specs.Below.{IsBelow, Identity, Mark, Geometry, Place, Table, One, Since, Never, last_of, raised, same_slice, settled, since_after, empty_table}
 use Rattle.mdv_store_law.specs.Changes.{Change, IsMadeBy, KeepsPlaces}
 use Rattle.mdv_store_law.specs.Machine.{after_all, all_of}
 use Rattle.mdv_store_law.specs.Machine as machine
 
--- A table that was written to a slot, or began to be: its mark, the changes that made it from the table without volumes,
+-- A table that was written to a slot, or began to be: its mark, the changes that made it from the first table,
 -- the newest first, and whether its write was answered.
 pub record Version : Type 0 where
   pub mark : Mark
@@ -114,18 +114,21 @@ abbrev pub IsMade : Geometry → Option Change → Table → Table → Type 0
 IsMade g None old new = IsSameOrSettled old new
 IsMade g (Some change) old new = IsMadeBy g change old new
 
+-- the table of a new database: one list of places, and nothing else
+abbrev pub IsEmpty : Table → Type 0
+IsEmpty table = (places : List Place) × (table ≡ empty_table places)
+
 -- its places don't change
 abbrev pub HasOneList : Table → Type 0
 HasOneList table = (places : List Place) × (table.plan.lists ≡ One places)
 
--- the first table of a database whose creation was issued: no change made it, and it has one list of places, and no volumes
+-- the first table of a database whose creation was issued: no change made it, and it has one list of places, and nothing else
 pub record IsFirst (issued : Option Identity) (family : List Version) (asked : Option Change) (before : List Change) (table : Table) : Type 0 where
   pub begun : (identity : Identity) × (issued ≡ Some identity)
   pub none : family ≡ []
   pub unasked : asked ≡ None
   pub unchanged : before ≡ []
-  pub empty : table.plan.volumes ≡ []
-  pub one : HasOneList table
+  pub empty : IsEmpty table
 
 -- no version of the family is newer
 pub record IsNewestOf (family : List Version) (v : Version) : Type 0 where
@@ -306,9 +309,9 @@ PlacesStay (OfChange change) = KeepsPlaces change
 PlacesStay (OfPlaces places) = ⊥
 PlacesStay OfEnd = ⊥
 
--- the table after these changes, the newest first, from one with one list of places and no volumes; behind each of them a change of places may be over
+-- the table after these changes, the newest first, from one with one list of places and nothing else; behind each of them a change of places may be over
 abbrev pub AreMade : Geometry → List Change → Table → Type 0
-AreMade g [] table = (table.plan.volumes ≡ []) × HasOneList table
+AreMade g [] table = IsEmpty table
 AreMade g (change ∷ before) table = (old new : Table) × AreMade g before old × IsMade g (Some change) old new × IsSameOrSettled new table
 
 -- marks rise, so that a mark names one table

@@ -1,5 +1,5 @@
 //! A host with drives in memory, and the database that it has open there.
-ghost use Rattle.std.specs.Prelude.{◌≡◌, ◌≤◌, length, All, AllPairs, IfOk, IsTrue};
+ghost use Rattle.std.specs.Prelude.{◌≡◌, All, AllPairs, IfOk, IsTrue};
 ghost use Rattle.std.specs.Option.{ForSome};
 ghost use Rattle.mdv_name.specs.Sound.{IsSound};
 ghost use Rattle.mdv_shelf.specs.Calls.{InDrive};
@@ -13,20 +13,19 @@ ghost use Rattle.mdv_store.specs.Seats.{AreLaid};
 ghost use Rattle.mdv_survey.specs.Replica.{IsOnShelf};
 ghost use Rattle.mdv_store_tests.specs.Lines.{EndsWithin, HasRoom};
 
-use mdv_base::{
-    Block, DriveName, DriveNo, DriveSet, Flags, Identity, Key, Mark, Place, Places, SliceName,
-    VolId, ZERO_BLOCK,
-};
+use crate::numbered::{add_volume, many_volumes, next_table, number_of};
+use mdv_base::{Block, DriveNo, DriveSet, Flags, Identity, Key, Mark, Place, Places, ZERO_BLOCK};
+use mdv_config::{EachPlace, each_of};
+use mdv_encoding::encode;
 use mdv_home::has_drives;
 use mdv_look::{PeekRefusal, peek};
 use mdv_name::{Geometry, SliceLine, read_geometries_are_sound};
+use mdv_plan::{Lists, Table};
 use mdv_quorum_tests::Draws;
-use mdv_record::encode;
 use mdv_replica::{Gate, Master, claim_block, gate_block, master_block};
 use mdv_shelf::{MemShelf, Shelf};
 use mdv_shown::{Site, site_of, sites_are};
 use mdv_store::{BootEnd, CommitFault, CreateFault, Letters, Store, boot, create};
-use mdv_table::{EachPlace, Lists, Table, Volume, Volumes};
 use std::alloc::{AllocError, Global};
 use std::test::Fail;
 
@@ -113,17 +112,6 @@ pub enum Committed {
 const LAST: u32 = 27719;
 
 const BLOCKS: u32 = 16;
-
-const VOLUME_SLICE: SliceName = SliceName {
-    drive: DriveName {
-        controller: 0,
-        target: 0,
-        disk: 0,
-    },
-    slice: 0,
-};
-
-const VOLUME_BLOCKS: u64 = 2;
 
 /// The open database's active places lie on the drives.
 #[derive(Drop)]
@@ -312,72 +300,6 @@ fn master_on(line: &SliceLine, key: &Key, fresh: u64) -> Master {
     }
 }
 
-// The same lists, and no volume, or that of the number.
-fn next_table(alloc: Global, last: &Table, number: u16) -> Result<Table, AllocError>
-    ensures { IfOk result (λ next. next.plan.lists ≡ last.now.plan.lists) }
-{
-    let mut next = Table::empty(alloc, Places::new());
-    next.plan.lists = same_lists(&last.plan.lists);
-    next.plan.volumes = volumes_of(alloc, number)?;
-    Ok(next)
-}
-
-fn same_lists(lists: &Lists) -> Lists
-    ensures { result ≡ lists.now }
-{
-    match lists {
-        Lists::One(places) => Lists::One(same_places(places)),
-        Lists::Two(old, new) => Lists::Two(same_places(old), same_places(new)),
-    }
-}
-
-// Places have no copy of their own.
-fn same_places(places: &Places) -> Places
-    ensures { result ≡ places.now }
-{
-    let mut same = Places::new();
-    for place in all_of(places) {
-        same.push(*place);
-    }
-    same
-}
-
-// The places, and that they are few.
-fn all_of(places: &Places) -> &[Place]
-    ensures value { result.now ≡ places.now }
-    ensures few { length result.now ≤ 50 }
-{
-    let _few = places.is_full();
-    places.as_slice()
-}
-
-fn volumes_of(alloc: Global, number: u16) -> Result<Volumes, AllocError> {
-    let mut volumes = Volumes::new(alloc);
-    if 0 < number && number < 8192 {
-        volumes.push(Volume::stripe_on(VolId(number), VOLUME_SLICE, VOLUME_BLOCKS))?;
-    }
-    Ok(volumes)
-}
-
-// Volumes of the numbers below this one, all on one slice: so a commit can write the text, and no boot reads it.
-fn many_volumes(alloc: Global, count: u16) -> Result<Volumes, AllocError> {
-    let mut volumes = Volumes::new(alloc);
-    for number in 0..count.min(8192) {
-        if volumes.is_behind(VolId(number)) {
-            volumes.push(Volume::stripe_on(VolId(number), VOLUME_SLICE, VOLUME_BLOCKS))?;
-        }
-    }
-    Ok(volumes)
-}
-
-fn number_of(table: &Table) -> u16 {
-    match table.plan.volumes.as_slice() {
-        [only] => only.number.0,
-        [] => 0,
-        _ => u16::MAX,
-    }
-}
-
 fn found_in(store: &Store) -> Found {
     Found {
         fresh: store.identity().fresh,
@@ -389,7 +311,7 @@ fn found_in(store: &Store) -> Found {
 
 // How many places the table lists, one that is in both lists once.
 fn places_in(table: &Table) -> usize {
-    let places = table.plan.lists.each();
+    let places = each_of(&table.plan.lists);
     places.as_slice().len()
 }
 
@@ -481,7 +403,7 @@ impl Host {
         let shelf = &mut self.shelf;
         match create(shelf, alloc, key, identity, lines, count, BLOCKS) {
             Ok(store) => {
-                let places = store.table().plan.lists.each();
+                let places = each_of(&store.table().plan.lists);
                 self.letters = Letters::made(alloc, places.as_slice())?;
                 self.store = Some(store);
                 Ok(Made::Done)
@@ -505,7 +427,7 @@ impl Host {
         let new = lines_on(alloc, &self.site, new)?;
         let mut table = Table::empty(alloc, Places::new());
         table.plan.lists = Lists::Two(firsts_on(old.as_slice()), firsts_on(new.as_slice()));
-        table.plan.volumes = volumes_of(alloc, number)?;
+        add_volume(alloc, &mut table, number)?;
         let mut body = [ZERO_BLOCK; 6];
         let Ok(bytes) = encode(&table, body.as_flattened_mut()) else {
             return Err("a slot".into());
@@ -583,13 +505,13 @@ impl Host {
     /// The places that the open database lists.
     pub fn places(&self) -> Option<EachPlace> {
         let store = self.store.as_ref()?;
-        Some(store.table().plan.lists.each())
+        Some(each_of(&store.table().plan.lists))
     }
 
     /// The nine letters of a listed place; of none where those that were kept are of other places.
     pub fn flags(&self, place: &Place) -> Option<Flags> {
         let store = self.store.as_ref()?;
-        let places = store.table().plan.lists.each();
+        let places = each_of(&store.table().plan.lists);
         if !self.letters.are_of(places.as_slice()) {
             return None;
         }
@@ -607,8 +529,7 @@ impl Host {
     /// A commit of a table of so many volumes, all of them on one slice.
     pub fn commit_many(&mut self, alloc: Global, count: u16) -> Result<Committed, Fail> {
         let mut store = self.store.take().ok_or("a database")?;
-        let mut next = next_table(alloc, store.table(), 0)?;
-        next.plan.volumes = many_volumes(alloc, count)?;
+        let next = many_volumes(alloc, store.table(), count)?;
         let answer = store.commit(&mut self.shelf, next);
         self.store = Some(store);
         Ok(came_of(answer))

@@ -2,6 +2,7 @@
 #![tactic(auto)]
 
 mod host;
+mod numbered;
 mod step;
 mod tables;
 

@@ -1,10 +1,11 @@
--- How many reads the slots of a replica take.
-use Rattle.std.proofs.Common.{◌≡◌, inl, inr, ℕ, ◌+◌, ◌≤◌, List, refl, sym, ap, subst, Some, None, Option, Result, Ok, Err, arith}
+-- What the slots of a replica have that were read one behind the other, and how many reads they take.
+use Rattle.std.proofs.Common.{◌≡◌, inl, inr, ℕ, ◌+◌, ◌≤◌, List, refl, sym, ◌∙◌, ap, subst, Some, None, Option, Result, Ok, Err, IfOk, arith}
 use Rattle.mdv_survey.specs.Below.{Closed, First, Gate, Geometry, Ghosts, Head, IsSpareSlot, Open, PlaceAt, Second, Slot, Tale, gate_of, last, other_slot}
 use Rattle.mdv_survey.specs.Counts.{AreReadFor, AreSlotsBy, IsCounted, IsHeldCounted, IsSlotBy, IsUnfitBy, open_slots, reads_of}
-use Rattle.mdv_survey.specs.Slots.{Fits, IsHeld, OnlyReads}
+use Rattle.mdv_survey.specs.Slots.{AreSlots, BothFit, Fits, IsHeld, IsNewestRead, OnlyReads}
 use Rattle.mdv_survey.specs.declared.slots.Held.{Held}
 use Rattle.mdv_survey.specs.declared.slots.Held.TheVariants.{Nothing, Kept, Other}
+use Rattle.mdv_survey.specs.declared.slots.Slots.{Slots}
 use Rattle.mdv_survey.proofs.Counting.{both_slots, few_more, few_of, reads_more, slot_few, slot_read}
 use Rattle.mdv_survey.proofs.Tables.{closed_fits, kept_fits}
 
@@ -28,15 +29,42 @@ module _ {S : Type 0} (shelf : Ghosts S) (g : Geometry) (at : PlaceAt) (head : H
   visited a b Q (Ok None) by reads = record { calls = reads.calls; few = reads.few; made = reads.made; by = λ t is. by t reads.calls (reads.by t is) }
   visited a b Q (Err fault) by reads = let few = slots_few head in let most = reads.1 in record { calls = reads.0; few = omega (arith, few, most); made = reads.2; by = λ t is. by t reads.0 tt }
 
-  -- the one slot, and then the other
-  module _ (slot : Slot) (gate : Gate) (is : gate ≡ gate_of head slot) (spare : IsSpareSlot head slot) (tie : slot ≡ Second → IsSpareSlot head First → ⊥) where
-    all_slots : reads_of gate + reads_of (gate_of head (other_slot slot)) ≡ open_slots head
-    all_slots = subst (λ (x : Gate). reads_of x + reads_of (gate_of head (other_slot slot)) ≡ open_slots head) (sym is) (both_slots head slot)
+  fits_at : (content : ℕ → List ℕ) (slot : Slot) → BothFit g at head content → Fits g at slot (gate_of head slot) content
+  fits_at content First both = both.first
+  fits_at content Second both = both.second
 
+  both_fit : (content : ℕ → List ℕ) (slot : Slot) → Fits g at slot (gate_of head slot) content → Fits g at (other_slot slot) (gate_of head (other_slot slot)) content → BothFit g at head content
+  both_fit content First one other = record { first = one; second = other }
+  both_fit content Second one other = record { first = other; second = one }
+
+  -- what is read of the one slot, and then of the other
+  module _ (slot : Slot) (gate : Gate) (is : gate ≡ gate_of head slot) where
     held_fits : (content : ℕ → List ℕ) (held : Held) → (held ≡ Other → ⊥) → IsHeld g at slot gate content held → Fits g at slot gate content
     held_fits content Nothing never closed = closed_fits g at content slot gate closed
     held_fits content (Kept mark table) never kept = kept_fits g at content slot gate mark table kept
     held_fits content Other never unfit = absurd (never refl)
+
+    unfit_slots : (content : ℕ → List ℕ) (held : Held) → held ≡ Other → IsHeld g at slot gate content held → AreSlots g at head content None
+    unfit_slots content Nothing other closed = absurd (cc (other))
+    unfit_slots content (Kept mark table) other kept = absurd (cc (other))
+    unfit_slots content Other other unfit = λ both. unfit (subst (λ (x : Gate). Fits g at slot x content) (sym is) (fits_at content slot both))
+
+    slots_are : (content : ℕ → List ℕ) (held : Held) → (held ≡ Other → ⊥) → IsHeld g at slot gate content held → (answer : Option Slots) → IsNewestRead g at head (other_slot slot) content answer → AreSlots g at head content answer
+    slots_are content held never one None unfit = λ both. unfit (fits_at content (other_slot slot) both)
+    slots_are content held never one (Some slots) newest = (both_fit content slot (subst (λ (x : Gate). Fits g at slot x content) is (held_fits content held never one)) newest.0, newest.1)
+
+    pub one_slots : (a b : S) (held : Held) → held ≡ Other → OnlyReads shelf (λ t. IsHeld g at slot gate (last t at.drive.0) held) a b → OnlyReads shelf (λ t. AreSlots g at head (last t at.drive.0) None) a b
+    one_slots a b held other reads = record { same = reads.same; gave = λ t now. unfit_slots (last t at.drive.0) held other (reads.gave t now) }
+
+    pub two_slots : {E : Type 0} (a b c : S) (held : Held) → (held ≡ Other → ⊥) → OnlyReads shelf (λ t. IsHeld g at slot gate (last t at.drive.0) held) a b
+        → (result : Result (Option Slots) E) → OnlyReads shelf (λ t. IfOk result (IsNewestRead g at head (other_slot slot) (last t at.drive.0))) b c → OnlyReads shelf (λ t. IfOk result (AreSlots g at head (last t at.drive.0))) a c
+    two_slots a b c held never one (Ok answer) two = record { same = two.same ∙ one.same; gave = λ t now. slots_are (last t at.drive.0) held never (one.gave t now) answer (two.gave t (one.same ∙ now)) }
+    two_slots a b c held never one (Err fault) two = record { same = two.same ∙ one.same; gave = λ t now. tt }
+
+  -- and how many reads they take
+  module _ (slot : Slot) (gate : Gate) (is : gate ≡ gate_of head slot) (spare : IsSpareSlot head slot) (tie : slot ≡ Second → IsSpareSlot head First → ⊥) where
+    all_slots : reads_of gate + reads_of (gate_of head (other_slot slot)) ≡ open_slots head
+    all_slots = subst (λ (x : Gate). reads_of x + reads_of (gate_of head (other_slot slot)) ≡ open_slots head) (sym is) (both_slots head slot)
 
     unfit_first : (content : ℕ → List ℕ) (n : ℕ) → (Fits g at slot gate content → ⊥) → IsSlotBy at.place.blocks gate n → IsUnfitBy g at head content n
     unfit_first content n unfit by = record {
@@ -77,7 +105,7 @@ module _ {S : Type 0} (shelf : Ghosts S) (g : Geometry) (at : PlaceAt) (head : H
           calls = reads_of gate + k;
           few = omega (arith, one, two, few);
           made = reads_more shelf a b c (reads_of gate) k (reads_of gate + k) refl (slot_read shelf E a b at.place.blocks gate held never first) made;
-          by = λ t now. unfit_second (last t at.drive.0) k (held_fits (last t at.drive.0) held never (reads.gave t now)) by;
+          by = λ t now. unfit_second (last t at.drive.0) k (held_fits slot gate is (last t at.drive.0) held never (reads.gave t now)) by;
         }
     both_read {E = E} a b c held never first reads (Err fault) second =
         let all = all_slots in

@@ -9,7 +9,7 @@ pub use Rattle.mdv_base.specs.declared.mark.Mark.{Mark}
 pub use Rattle.mdv_base.specs.declared.place.Place.{Place}
 pub use Rattle.mdv_name.specs.declared.geometry.Geometry.{Geometry}
 pub use Rattle.mdv_name.specs.declared.slice_lines.SliceLine.{SliceLine}
-pub use Rattle.mdv_record.specs.Parsing.{IsTextOf}
+pub use Rattle.mdv_encoding.specs.Parsing.{IsTextOf}
 pub use Rattle.mdv_replica.specs.Form.{IsReadable, IsSpareSlot, SlotFits, gate_of, other_slot, room_of, shows, text_of}
 pub use Rattle.mdv_replica.specs.Replica.{IsFormed, IsHead, IsPlaced, body_at, slot_blocks, with_blocks}
 pub use Rattle.mdv_replica.specs.Seen.{IsMasterAt}
@@ -28,6 +28,6 @@ pub use Rattle.mdv_shown.specs.Found.{Counts, IsFound, IsInChain}
 pub use Rattle.mdv_shown.specs.Shown.{ShowsNone, SlotShows}
 pub use Rattle.mdv_shown.specs.Site.{IsSite, place_on, size_on}
 pub use Rattle.mdv_shown.specs.declared.site.Site.{Site}
-pub use Rattle.mdv_table.specs.declared.plan.Lists.{Lists}
-pub use Rattle.mdv_table.specs.declared.plan.Lists.TheVariants.{One, Two}
-pub use Rattle.mdv_table.specs.declared.table.Table.{Table}
+pub use Rattle.mdv_plan.specs.declared.lists.Lists.{Lists}
+pub use Rattle.mdv_plan.specs.declared.lists.Lists.TheVariants.{One, Two}
+pub use Rattle.mdv_plan.specs.declared.table.Table.{Table}

@@ -9,11 +9,12 @@ ghost use Rattle.mdv_survey.specs.Counts.{AreReadFor, IsTextBy, ReadOn, blocks_f
 ghost use Rattle.mdv_survey.specs.Slots.{IsFoundText, IsRead, OnlyReads, ReadAnswer};
 
 use mdv_base::{BLOCK_BYTES, Block, Failed, ZERO_BLOCK};
+use mdv_encoding::decode;
+use mdv_fields::RecordError;
 use mdv_name::Geometry;
-use mdv_record::{RecordError, decode};
+use mdv_plan::Table;
 use mdv_replica::{PlaceAt, Slot, read_body};
 use mdv_shelf::Shelf;
-use mdv_table::Table;
 use std::alloc::{AllocError, Global};
 use std::marker::Model;
 

@@ -9,7 +9,7 @@ ghost use Rattle.mdv_survey.specs.Newest.{IsGreatest, IsMarked};
 use crate::head::shows;
 use crate::replica::{Newest, Replica, Survey};
 use mdv_base::{Identity, Place, Places, SliceName};
-use mdv_table::Lists;
+use mdv_plan::Lists;
 use mdv_votes::more_than_half;
 
 /// What a boot makes of a survey.

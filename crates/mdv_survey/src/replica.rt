@@ -5,8 +5,8 @@ ghost use Rattle.mdv_survey.specs.Replica.{at_of, other_of};
 
 use mdv_base::{DriveSet, Flags, Mark, Place};
 use mdv_name::SliceLine;
+use mdv_plan::Table;
 use mdv_replica::{Head, Master, PlaceAt, Slot};
-use mdv_table::Table;
 use mdv_votes::Row;
 use std::alloc::{AllocError, Global};
 

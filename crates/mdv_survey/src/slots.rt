@@ -13,9 +13,9 @@ use crate::head::{gate_of_slot, other_slot, shows, spare_slot};
 use crate::replica::Shown;
 use mdv_base::Mark;
 use mdv_name::Geometry;
+use mdv_plan::Table;
 use mdv_replica::{Gate, Head, PlaceAt, Slot};
 use mdv_shelf::Shelf;
-use mdv_table::Table;
 use std::alloc::Global;
 
 /// The slots of a readable replica, with its newest table, where it shows one.

@@ -1,5 +1,5 @@
 -- What a host's lines show of its database is so by a history of the runs that answered them: it goes on from history to history.
-use Rattle.std.proofs.Common.{◌≡◌, ◌⊎◌, inl, inr, ℕ, List, [], ◌∷◌, ◌++◌, None, Option, Some, Contains, ap, refl, sym, ◌∙◌, subst, append_assoc}
+use Rattle.std.proofs.Common.{◌≡◌, ◌⊎◌, inl, inr, ℕ, List, [], ◌∷◌, ◌++◌, None, Option, Some, Contains, refl, sym, ◌∙◌, subst, append_assoc}
 use Rattle.std.proofs.lemmas.List.{append-nil}
 use Rattle.std.proofs.lemmas.List.Elements.{Contains-append_left, Contains-append_right}
 use Rattle.mdv_base.specs.declared.drive.SliceName.{SliceName}
@@ -7,8 +7,7 @@ use Rattle.mdv_base.specs.declared.name.Key.TheVariants.{Local}
 use Rattle.mdv_base.specs.declared.name.VolId.{VolId}
 use Rattle.mdv_engine_law.specs.Replies.{ok_line, refusal_line, text_of}
 use Rattle.mdv_engine_law.specs.Awake.{Happening}
-use Rattle.mdv_engine_law.specs.Commands.{Effect, IsAllowed, case_of}
-use Rattle.mdv_engine_law.specs.Line.{Kept, Memory, deeds}
+use Rattle.mdv_engine_law.specs.Line.{Kept, deeds}
 use Rattle.mdv_store.specs.Opened.{Opened}
 use Rattle.mdv_engine_law.specs.Standing.{IsKnown}
 use Rattle.mdv_engine_law.specs.declared.answer.Answer.{Answer}
@@ -16,31 +15,31 @@ use Rattle.mdv_engine_law.specs.declared.host.Host.{Host}
 use Rattle.mdv_engine_law.proofs.Going.{may_course}
 use Rattle.mdv_home.specs.View.{own_view}
 use Rattle.mdv_name.specs.declared.geometry.Geometry.{Geometry}
+use Rattle.mdv_plan.specs.Table.{empty_table}
 use Rattle.mdv_run_law.specs.Lives.{host_of}
 use Rattle.mdv_run_law.specs.Run.{IsAnswered, IsSaid}
 use Rattle.mdv_shelf.specs.Failing.{Outcomes}
 use Rattle.mdv_store_law.specs.Log.{Log}
-use Rattle.mdv_table.specs.Slices.{IsSound}
-use Rattle.mdv_table.specs.declared.table.Table.{Table}
+use Rattle.mdv_config.specs.Slices.{IsSound}
+use Rattle.mdv_plan.specs.declared.table.Table.{Table}
 use Rattle.mdv_volumes.specs.Databases.{log_of}
 use Rattle.mdv_store_law.specs.Machine as machine
 use Rattle.mdv_status.specs.Values.{values_reply}
 use Rattle.mdv_volumes.specs.Happening.{issued_by}
 use Rattle.mdv_volumes.specs.History.{Deed, Deleted, Event, History, history_after, history_after_all}
 use Rattle.mdv_words.specs.declared.command.Command.{Command}
-use Rattle.mdv_words.specs.declared.command.Command.TheVariants.{AddListed, AddPlaces, DropPlaces, MakeStripe, Print, Read, Write}
+use Rattle.mdv_words.specs.declared.command.Command.TheVariants.{AddListed, AddPlaces, Alter, DropPlaces, Print, Read, Write}
 use Rattle.mdv_run_law.proofs.Deeds.{part_contains}
-use Rattle.mdv_volumes.specs.HistoryLaws.{KeepDatabase}
+use Rattle.mdv_volumes.specs.HistoryLaws.{KeepDatabase, new_history}
 use Rattle.mdv_volumes.proofs.Found.{AreLasting}
 use Rattle.mdv_volumes.proofs.Lists.{contains_first}
-use Rattle.mdv_volumes.proofs.Maps.{has_new}
 use Rattle.mdv_theorem.specs.Exchanges.{Asks, Exchange, IsGranted, IsTold, MayHaveBegun, ShowsThere}
 use Rattle.mdv_theorem.specs.Words.{HasDatabase, IsMadeBy, IsMadeOn, IsThere, MayTakeDatabase, NeedsDatabase, spread}
 use Rattle.mdv_theorem.proofs.Agreeing.{own_sound}
 use Rattle.mdv_theorem.proofs.Along.{line_lies, open_lies}
-use Rattle.mdv_theorem.proofs.Changes.{HasStripe, stripe, stripe_stays}
 use Rattle.mdv_theorem.proofs.Creating.{made_there}
 use Rattle.mdv_theorem.proofs.Ends.{taken_away}
+use Rattle.mdv_theorem.proofs.Having.{HasCome, come_none, come_quiet}
 use Rattle.mdv_theorem.proofs.Leading.{IsIdled, IsLed, lasting_over}
 use Rattle.mdv_theorem.proofs.Lined.{AreInWork, AreOfReply, AreQuiet, AreReplied, alone, idle_quiet, line_replied, lined_lives}
 use Rattle.mdv_theorem.proofs.Lines.{MayBegin, begins_asked, the_only}
@@ -49,7 +48,8 @@ use Rattle.mdv_theorem.proofs.Lists.{ListsLie, lie_quiet}
 use Rattle.mdv_theorem.proofs.Parting.{Parts, in_first, in_second, parts}
 use Rattle.mdv_theorem.proofs.Staying.{HasIt, has_carried}
 use Rattle.mdv_theorem.proofs.Steps.{Between, EachSo, Steps, no_step, one_step, skipped}
-use Rattle.mdv_theorem.proofs.Tables.{IsCarried, Keeps, carried_made, granted_done, keeps_line, keeps_open, shown_there}
+use Rattle.mdv_theorem.proofs.Tabled.{come_line, come_work}
+use Rattle.mdv_theorem.proofs.Tables.{IsCarried, Keeps, keeps_line, keeps_open, shown_there}
 use Rattle.mdv_theorem.proofs.Tells.{granted_open}
 use Rattle.mdv_theorem.proofs.Refused.{AreRefused, IsClosed}
 
@@ -81,11 +81,7 @@ abbrev pub Any : Table → Type 0
 Any table = Unit {0}
 
 pub any_carried : (g : Geometry) → IsCarried g Any
-any_carried g = (λ old new volume slice after is. tt, λ table is. tt, λ change old is. tt)
-
--- a volume stays on its slice
-pub stripe_carried : (g : Geometry) (volume : VolId) (slice : SliceName) → IsCarried g (HasStripe g volume slice)
-stripe_carried g volume slice = (stripe_stays g volume slice, λ table has. has, λ change old has. has)
+any_carried g asked old new made is = tt
 
 -- what none of the lines behind may have done the last one may not, nor those before it
 module _ {Does : Exchange → Type 0} (one : Exchange) (behind rest : List Exchange) (is : behind ≡ rest ++ one ∷ []) (stays : (other : Exchange) → Contains behind other → Does other → ⊥) where
@@ -99,28 +95,18 @@ module _ (drives : Geometry) (name : List ℕ) where
   abbrev pub own_log : History → Log
   own_log h = log_of h.databases (Local name)
 
-  -- one of these lines was told to have made the volume on that slice, and none behind it may have taken the database away
-  pub record IsMadeIn (volume : VolId) (slice : SliceName) (lines : List Exchange) : Type 0 where
-    pub made : Exchange
-    pub before : List Exchange
-    pub behind : List Exchange
-    pub parts : lines ≡ before ++ made ∷ behind
-    pub asks : Asks made (MakeStripe volume slice)
-    pub told : IsTold made ok_line
-    pub stays : (one : Exchange) → Contains behind one → MayTakeDatabase one → ⊥
-
-  -- What these lines show of the database is so by the history: each table that a boot may find has the volumes; one is found; and the lists of places lie so.
+  -- What these lines show of the database is so by the history: each table that a boot may find has the volumes, and is one that they may have made; one is found; and the lists of places lie so.
   pub record Accords (lines : List Exchange) (h : History) : Type 0 where
     pub there : (volume : VolId) → IsThere volume lines → AreLasting (own_view drives name) (HasIt (own_view drives name) volume) (own_log h)
-    pub laid : (volume : VolId) (slice : SliceName) → IsMadeIn volume slice lines → AreLasting (own_view drives name) (HasStripe (own_view drives name) volume slice) (own_log h)
+    pub tables : HasCome drives name lines h
     pub firm : HasDatabase lines → AreLasting (own_view drives name) Any (own_log h)
     pub lists : (made : IsMadeOn lines) → ListsLie drives name (spread made.count made.slices) made.behind h
 
   -- no lines show anything
-  pub accords_none : (h : History) → Accords [] h
-  accords_none h = record {
+  pub accords_none : Accords [] new_history
+  accords_none = record {
     there = λ volume is. absurd (never_parts is.before is.behind is.shown is.parts);
-    laid = λ volume slice is. absurd (never_parts is.before is.behind is.made is.parts);
+    tables = come_none drives name;
     firm = λ is. absurd (never_parts is.before is.behind is.shown is.parts);
     lists = λ is. absurd (never_parts is.before is.behind is.made is.parts);
   }
@@ -139,8 +125,8 @@ module _ (drives : Geometry) (name : List ℕ) where
     -- and all of it
     pub accords_quiet : (lines : List Exchange) (h : History) (es : List Event) → machine.IsCourse history_after (Happening host) h es → AreQuiet es → Accords lines h → Accords lines (history_after_all h es)
     accords_quiet lines h es course quiet old = record {
-      there = λ volume is. lasting_over host (λ deed. ⊥) (HasIt host.drives volume) (λ asked a b may made has. carried_made host.drives (HasIt host.drives volume) (has_carried host.drives volume) asked a b made has) (λ none. none) h es course quiet (old.there volume is);
-      laid = λ volume slice is. lasting_over host (λ deed. ⊥) (HasStripe host.drives volume slice) (λ asked a b may made has. carried_made host.drives (HasStripe host.drives volume slice) (stripe_carried host.drives volume slice) asked a b made has) (λ none. none) h es course quiet (old.laid volume slice is);
+      there = λ volume is. lasting_over host (λ deed. ⊥) (HasIt host.drives volume) (λ asked a b may made has. has_carried host.drives volume asked a b made has) (λ none. none) h es course quiet (old.there volume is);
+      tables = come_quiet drives name (empty_table []) lines h es course quiet old.tables;
       firm = λ is. lasting_over host (λ deed. ⊥) Any (λ asked a b may made has. tt) (λ none. none) h es course quiet (old.firm is);
       lists = λ is. lists_quiet (spread is.count is.slices) is.behind h es course quiet (old.lists is);
     }
@@ -157,9 +143,9 @@ module _ (drives : Geometry) (name : List ℕ) where
       ungranted (AddPlaces slices force count blocks) granted = untold ok_line granted
       ungranted (AddListed number force) granted = untold ok_line granted
       ungranted (DropPlaces slices force) granted = untold ok_line granted
-      ungranted (MakeStripe volume slice) granted = untold ok_line granted
+      ungranted (Alter alteration) granted = untold ok_line granted
       ungranted (Read volume at count) granted = untold (values_reply granted.0 granted.1) granted.2
-      ungranted (Write volume at block) granted = untold ok_line granted
+      ungranted (Write volume at what) granted = untold ok_line granted
       ungranted (Print names) granted = untold granted.0 granted.1
 
       begun : MayHaveBegun one
@@ -169,7 +155,7 @@ module _ (drives : Geometry) (name : List ℕ) where
       begins deed has = begins_asked host one are.ask are.asks begun deed (part_contains (issued_by es) (deeds are.ask) deed are.begins has)
 
       kept_work : (P : Table → Type 0) → IsCarried host.drives P → (MayTakeDatabase one → ⊥) → AreLasting host.drives P (own_log h) → AreLasting host.drives P (own_log (history_after_all h es))
-      kept_work P carried never was = lasting_over host (λ deed. MayBegin (Local name) deed one) P (λ asked a b may made has. carried_made host.drives P carried asked a b made has) never h es course begins was
+      kept_work P carried never was = lasting_over host (λ deed. MayBegin (Local name) deed one) P (λ asked a b may made has. carried asked a b made has) never h es course begins was
 
       lists_work : (slices : List SliceName) (behind : List Exchange) → (MayTakeDatabase one → ⊥) → ListsLie drives name slices behind h → ListsLie drives name slices (behind ++ one ∷ []) (history_after_all h es)
       lists_work slices behind never lie =
@@ -182,14 +168,6 @@ module _ (drives : Geometry) (name : List ℕ) where
         | inr before ↦
             let was = old.there volume (record { shown = is.shown; before = is.before; behind = before.0; parts = before.1; shows = is.shows; stays = rest_stays one is.behind before.0 before.2 is.stays }) in
             kept_work (HasIt host.drives volume) (has_carried host.drives volume) (λ takes. last_stays one is.behind before.0 before.2 is.stays (taken_away volume one takes)) was
-      ]
-
-      laid_work : (volume : VolId) (slice : SliceName) → IsMadeIn volume slice (lines ++ one ∷ []) → AreLasting host.drives (HasStripe host.drives volume slice) (own_log (history_after_all h es))
-      laid_work volume slice is = elim (parts_last lines is.before is.behind one is.made is.parts) [
-        | inl last ↦ absurd (untold ok_line (subst (λ (e : Exchange). IsTold e ok_line) last.0 is.told))
-        | inr before ↦
-            let was = old.laid volume slice (record { made = is.made; before = is.before; behind = before.0; parts = before.1; asks = is.asks; told = is.told; stays = rest_stays one is.behind before.0 before.2 is.stays }) in
-            kept_work (HasStripe host.drives volume slice) (stripe_carried host.drives volume slice) (last_stays one is.behind before.0 before.2 is.stays) was
       ]
 
       firm_work : HasDatabase (lines ++ one ∷ []) → AreLasting host.drives Any (own_log (history_after_all h es))
@@ -209,7 +187,7 @@ module _ (drives : Geometry) (name : List ℕ) where
       ]
 
       pub accords_work : Accords (lines ++ one ∷ []) (history_after_all h es)
-      accords_work = record { there = there_work; laid = laid_work; firm = firm_work; lists = lists_there }
+      accords_work = record { there = there_work; tables = come_work drives name (empty_table []) lines one h es course silent are old.tables; firm = firm_work; lists = lists_there }
 
     module _ (calls : Outcomes) (from mid : Between host) (one : Exchange) (answer : Answer) (comes : IsAnswered calls host from.kept one.text answer mid.kept) (said : IsSaid answer) (told : IsTold one (text_of answer))
         (led : IsLed host one from.sure.history mid.sure.history) where
@@ -233,27 +211,11 @@ module _ (drives : Geometry) (name : List ℕ) where
       there_line : (volume : VolId) → IsThere volume so_far → Keeps host (HasIt host.drives volume) mid
       there_line volume is = elim (parts_last lines is.before is.behind one is.shown is.parts) [
         | inl last ↦
-            let there = shown_there host calls from.kept mid.kept one answer comes said told volume mid.sure (subst (ShowsThere volume) last.0 is.shows) in
+            let there = shown_there host calls from.kept mid.kept one answer comes said told volume from.sure mid.sure (subst (ShowsThere volume) last.0 is.shows) in
             keeps_open host (HasIt host.drives volume) mid there.o there.opened (_, there.lies)
         | inr before ↦
             let was = old.there volume (record { shown = is.shown; before = is.before; behind = before.0; parts = before.1; shows = is.shows; stays = rest_stays one is.behind before.0 before.2 is.stays }) in
             keeps_line host (HasIt host.drives volume) (has_carried host.drives volume) one from mid led (λ takes. last_stays one is.behind before.0 before.2 is.stays (taken_away volume one takes)) was
-      ]
-
-      stripe_kept : (volume : VolId) (slice : SliceName) → IsAllowed (case_of host from.kept) (MakeStripe volume slice) × Effect calls host from.kept (MakeStripe volume slice) answer mid.kept → Keeps host (HasStripe host.drives volume slice) mid
-      stripe_kept volume slice (free, (ok, its_own, opened, made)) =
-          keeps_open host (HasStripe host.drives volume slice) mid made.opened (ap (λ (m : Memory). m.opened) made.memory)
-          (subst (λ (t : Table). HasStripe host.drives volume slice t) (sym (ap (λ (x : Opened). x.table) made.committed.is)) (has_new (stripe host.drives volume slice) its_own.table.plan.volumes))
-
-      laid_line : (volume : VolId) (slice : SliceName) → IsMadeIn volume slice so_far → Keeps host (HasStripe host.drives volume slice) mid
-      laid_line volume slice is = elim (parts_last lines is.before is.behind one is.made is.parts) [
-        | inl last ↦
-            let asks = subst (λ (e : Exchange). Asks e (MakeStripe volume slice)) last.0 is.asks in
-            let granted = subst (λ (e : Exchange). IsTold e ok_line) last.0 is.told in
-            stripe_kept volume slice (granted_done host calls from.kept mid.kept one answer comes said told (MakeStripe volume slice) asks granted)
-        | inr before ↦
-            let was = old.laid volume slice (record { made = is.made; before = is.before; behind = before.0; parts = before.1; asks = is.asks; told = is.told; stays = rest_stays one is.behind before.0 before.2 is.stays }) in
-            keeps_line host (HasStripe host.drives volume slice) (stripe_carried host.drives volume slice) one from mid led (last_stays one is.behind before.0 before.2 is.stays) was
       ]
 
       firm_line : HasDatabase so_far → Keeps host Any mid
@@ -284,7 +246,7 @@ module _ (drives : Geometry) (name : List ℕ) where
 
       -- So it is behind a line that was told.
       pub accords_line : Accords so_far mid.sure.history
-      accords_line = record { there = there_line; laid = laid_line; firm = firm_line; lists = lists_line }
+      accords_line = record { there = there_line; tables = come_line drives name (empty_table []) fresh lines calls from mid one answer comes said told led old.tables; firm = firm_line; lists = lists_line }
 
     -- and behind any such lines of a run, before each of which nothing is open, if each line so far that makes a database was refused
     pub accords_steps : (Failed : ℕ → Type 0) (lines : List Exchange) (from last : Between host) (es : List Exchange) → Accords lines from.sure.history → (steps : Steps host Failed from es last) → EachSo host Failed ClosedAt lines from last es steps → Accords (lines ++ es) last.sure.history

@@ -5,8 +5,8 @@ use Rattle.std.specs.Prelude.{nat_le}
 use Rattle.std.proofs.lemmas.Bool.{and_from, false≢true, le-leb}
 use Rattle.std.proofs.lemmas.List.{length-map, length-replicate}
 use Rattle.mdv_base.specs.declared.block.TheConstants.{ZERO_BLOCK}
-use Rattle.mdv_record.specs.Record.{IsRecordOf}
-use Rattle.mdv_record.proofs.Rooms.{room_most}
+use Rattle.mdv_encoding.specs.Record.{IsRecordOf}
+use Rattle.mdv_encoding.proofs.Rooms.{room_most}
 use Rattle.mdv_base.specs.DriveSet.{Drives, has_drive}
 use Rattle.mdv_base.specs.declared.drive.DriveNo.{DriveNo}
 use Rattle.mdv_base.specs.declared.drive.SliceName.{SliceName}
@@ -27,7 +27,7 @@ use Rattle.mdv_quorum.specs.World.{after_all}
 use Rattle.mdv_quorum.specs.declared.machine.Core.{Core}
 use Rattle.mdv_replica.specs.Form.{shows}
 use Rattle.mdv_replica.specs.Replica.{slot_blocks}
-use Rattle.mdv_record.proofs.Lengths.{length-record_text}
+use Rattle.mdv_encoding.proofs.Lengths.{length-record_text}
 use Rattle.mdv_shelf.specs.Everywhere.{Image}
 use Rattle.mdv_shelf.specs.Settle.{IsSynced}
 use Rattle.mdv_shelf.specs.Tale.{MayLeave, Tale, last, values, IsImage}
@@ -77,22 +77,22 @@ use Rattle.mdv_survey.specs.Survey.{IsSurvey, IsSurveyOf, answers_in}
 use Rattle.mdv_survey.specs.declared.replica.Newest.{Newest}
 use Rattle.mdv_survey.specs.declared.replica.Replica.{Replica}
 use Rattle.mdv_survey.specs.declared.replica.Survey.{Survey}
-use Rattle.mdv_record.specs.Text.{record_text}
-use Rattle.mdv_table.proofs.Testing.{same_place-true}
-use Rattle.mdv_table.specs.Tests.{same_place}
-use Rattle.mdv_table.specs.Plan.{last_of, places_of}
+use Rattle.mdv_encoding.specs.Text.{record_bytes}
+use Rattle.mdv_config.proofs.Testing.{same_place-true}
+use Rattle.mdv_config.specs.Lists.{same_place}
+use Rattle.mdv_config.specs.Lists.{last_of, places_of}
 use Rattle.mdv_store.specs.Settled.{again_of, first_room}
-use Rattle.mdv_table.specs.Table.{IsListsOf, IsOfGeometry}
-use Rattle.mdv_table.specs.declared.plan.Lists.{Lists}
-use Rattle.mdv_table.specs.declared.plan.Lists.TheVariants.{One, Two}
-use Rattle.mdv_table.specs.declared.table.Table.{Table}
+use Rattle.mdv_config.specs.Table.{IsListsOf, IsOfGeometry}
+use Rattle.mdv_plan.specs.declared.lists.Lists.{Lists}
+use Rattle.mdv_plan.specs.declared.lists.Lists.TheVariants.{One, Two}
+use Rattle.mdv_plan.specs.declared.table.Table.{Table}
 use Rattle.mdv_store.specs.declared.seats.Seat.{Seat}
 use Rattle.mdv_name.specs.declared.slice_lines.SliceLine.{SliceLine}
 use Rattle.mdv_votes.specs.Spots.{covers, is_in, is_majority}
-use Rattle.mdv_record.specs.Parsing.{read_of}
+use Rattle.mdv_encoding.specs.Parsing.{read_of}
 use Rattle.mdv_store.specs.Shares.{short_of}
 use Rattle.mdv_store.specs.declared.seats.Need.TheVariants.{More}
-use Rattle.mdv_table.proofs.Listed.{listed_few}
+use Rattle.mdv_config.proofs.Listed.{listed_few}
 use Rattle.mdv_theorem.proofs.Adopted.{open_shows}
 
 answering : (a b : Bool) → a ≡ true → b ≡ false → (a && not b) ≡ true
@@ -172,7 +172,7 @@ module _ (g : Geometry) (key : Key) (all : List Database) (t : Tale) (sound : Is
   replicas = survey.replicas
 
   abbrev text : ℕ
-  text = blocks_for (length (record_text newest.table))
+  text = blocks_for (record_bytes newest.table)
 
   -- drives that hold just what was read
   abbrev began : Tale

@@ -38,8 +38,6 @@ use Rattle.mdv_survey.specs.declared.choosing.Choice.TheVariants as chosen
 use Rattle.mdv_survey.specs.declared.replica.Newest.{Newest}
 use Rattle.mdv_survey.specs.declared.replica.Replica.{Replica}
 use Rattle.mdv_survey.specs.declared.replica.Survey.{Survey}
-use Rattle.mdv_table.specs.Plan.{settled}
-use Rattle.mdv_table.specs.declared.table.Table.{Table}
 use Rattle.mdv_volumes.specs.History.{History}
 use Rattle.mdv_volumes.proofs.Lists.{contains_behind, contains_first, first_or_behind}
 use Rattle.mdv_theorem.proofs.Lines.{never_in}
@@ -48,10 +46,6 @@ use Rattle.mdv_theorem.proofs.Lines.{never_in}
 pub open_shows : (head : Head) (slot : Slot) (mark : Mark) (bytes : ℕ) → gate_of head slot ≡ Open mark bytes → shows head ≡ true
 open_shows head First mark bytes is = or_left (is_open head.first) (is_open head.second) (ap is_open is)
 open_shows head Second mark bytes is = or_right (is_open head.first) (is_open head.second) (ap is_open is)
-
--- what is so of a table stays so, once the change of its places is over
-abbrev pub IsStill : (Table → Type 0) → Type 0
-IsStill P = (table : Table) → P table → P (settled table)
 
 -- of drives that stand with a firm log that isn't about to be deleted some replica shows a table
 pub firm_shows : (host : Host) (h : History) (t : Tale) → StandsAt host h t → (log_of h.databases (key_of host)).fate ≡ Lives → is_firm (log_of h.databases (key_of host)) ≡ true → (content : Image) → IsSame content (contents t) → HasNoTableOn host.drives (key_of host) content → ⊥

@@ -1,5 +1,5 @@
 -- What a read tells of a block is what a read of an earlier run told of it, by which no call had failed on the block's drive, or was written in between.
-use Rattle.std.proofs.Common.{◌≡◌, ◌⊎◌, inl, inr, ℕ, ◌+◌, true, false, List, [], ◌∷◌, ◌++◌, length, Contains, refl, sym, ◌∙◌, ap, subst, append_assoc, if◌then◌else◌, arith}
+use Rattle.std.proofs.Common.{◌≡◌, ◌⊎◌, inl, inr, ℕ, ◌+◌, true, List, [], ◌∷◌, ◌++◌, length, Contains, refl, sym, ◌∙◌, ap, subst, append_assoc, if◌then◌else◌, arith}
 use Rattle.std.proofs.lemmas.List.{append-nil, append_cancel_left}
 use Rattle.std.proofs.lemmas.List.Elements.{Contains-append_cases}
 use Rattle.std.proofs.lemmas.Slice.Eq.{bytes_eq-Decides}
@@ -7,6 +7,7 @@ use Rattle.std.specs.Prelude.{Bool}
 use Rattle.std.specs.Str.{bytes_eq}
 use Rattle.mdv_base.specs.declared.drive.DriveNo.{DriveNo}
 use Rattle.mdv_base.specs.declared.name.VolId.{VolId}
+use Rattle.mdv_dev.proofs.Copies.{has_copy}
 use Rattle.mdv_engine_law.specs.declared.host.Host.{Host}
 use Rattle.mdv_engine_law.proofs.Plain.{nothing_answers}
 use Rattle.mdv_home.proofs.Siting.{sites_are_own}
@@ -24,12 +25,13 @@ use Rattle.mdv_shelf.proofs.Blocks.{last_may_be_left}
 use Rattle.mdv_status.specs.Telling.{replies_in}
 use Rattle.mdv_status.specs.Values.{significant, values_reply}
 use Rattle.mdv_shown.specs.Site.{site_area}
-use Rattle.mdv_table.specs.Slices.{IsSound}
-use Rattle.mdv_table.specs.declared.table.Table.{Table}
+use Rattle.mdv_config.specs.Slices.{IsSound}
+use Rattle.mdv_plan.specs.declared.table.Table.{Table}
 use Rattle.mdv_volumes.proofs.Lists.{first_or_behind}
 use Rattle.mdv_words.proofs.Lines.{one_line}
 use Rattle.mdv_words.specs.Line.{Exec}
 use Rattle.mdv_words.specs.declared.command.Command.TheVariants.{Read, Write}
+use Rattle.mdv_layout_law.specs.Laid.{plain_area}
 use Rattle.mdv_theorem.specs.Exchanges.{Exchange, IsSameBlock, MayBeWritten, TellsBlock, exchanges, exchanges_by, exchanges_of}
 use Rattle.mdv_theorem.specs.Observed.{Bears, RunsAgree}
 use Rattle.mdv_theorem.specs.Running.{HasAnswered, HaveMetNone, Running, Runs, WentOn, exchanges_now, ran_on}
@@ -37,8 +39,8 @@ use Rattle.mdv_theorem.specs.Words.{IsOrWasWritten, MayTakeDatabase, TakesDataba
 use Rattle.mdv_theorem.proofs.Contents.{IsToldOf, told_block}
 use Rattle.mdv_theorem.proofs.Given.{Given}
 use Rattle.mdv_theorem.proofs.Later.{Lasts, LastsNow, lasts_between, lasts_runs, lines_since, take_before, take_behind}
-use Rattle.mdv_theorem.proofs.Leaving.{Leaves, Written, leaves_more, own, spot_out}
-use Rattle.mdv_theorem.proofs.Place.{Spot, at_run, one_spot}
+use Rattle.mdv_theorem.proofs.Leaving.{Leaves, Written, leaves_more, own}
+use Rattle.mdv_theorem.proofs.Place.{Spot, one_spot, spot_own, spot_plain}
 use Rattle.mdv_theorem.proofs.Tail.{rest_told, tail_leaves}
 use Rattle.mdv_theorem.proofs.Until.{AtRead, ThePlace, all_left, into, its, lie, place, spot}
 use Rattle.mdv_theorem.proofs.Agreeing.{taken_or}
@@ -57,7 +59,10 @@ use Rattle.mdv_theorem.proofs.Tables.{Grows}
 
 -- a read writes no block
 never_written : (read : Exchange) (volume other : VolId) (number at : ℕ) (old new : List ℕ) (tells : TellsBlock volume at old read) → MayBeWritten other number new read → ⊥
-never_written read volume other number at old new tells may = (let same : Exec (Read volume tells.at _) ≡ Exec (Write other number new) = one_line read.text (Exec (Read volume tells.at _)) (Exec (Write other number new)) tells.asks may.asks in cc (same))
+never_written read volume other number at old new tells may =
+    let its = may.writes in
+    let same : Exec (Read volume tells.at (length tells.blocks)) ≡ Exec (Write other its.at its.what) = one_line read.text (Exec (Read volume tells.at (length tells.blocks))) (Exec (Write other its.at its.what)) tells.asks its.asks in
+    cc same
 
 -- nor does it take the database away
 read_keeps : (read : Exchange) (volume : VolId) (number : ℕ) (block : List ℕ) → TellsBlock volume number block read → MayTakeDatabase read → ⊥
@@ -139,12 +144,12 @@ module _ (given : Given) (drives : Geometry) (name : List ℕ) (before : List Ra
   there_old drive block on from = ap significant (known.reads drive block ∙ sym (λ i. at.place.at.kept.content (on i) (from i))) ∙ sym then_told.same
 
   -- where no call had failed on its drive, a crash would leave just that
-  pub settled_so : (drive : DriveNo) → Contains host.site.drives drive → HasAnswered run drive → (b : ℕ) (out : site_area host.site drive.0 b ≡ false) → IsSettledAt host (its_sound drives name before script sound of_table run) refl drive.0 b out (tale_of known.story)
-  settled_so drive is_own calm b out =
+  pub settled_so : (drive : DriveNo) → Contains host.site.drives drive → HasAnswered run drive → (b : ℕ) → plain_area host.drives drive.0 b ≡ true → IsSettledAt drive.0 b (tale_of known.story)
+  settled_so drive is_own calm b plain =
       let begun = run.moment.begins in
       let same = known_point given drives name before script sound of_table run here rest behind read reply tells.told went.m went.tells.bytes at now in
-      subst (λ (u : Story). IsSettledAt host (its_sound drives name before script sound of_table run) refl drive.0 b out (tale_of u)) (sym same)
-      (settled_there drives name before script sound of_table run here rest behind read reply tells.told went.m went.tells.bytes at now begun.0 begun.1 drive is_own calm b out)
+      subst (λ (u : Story). IsSettledAt drive.0 b (tale_of u)) (sym same)
+      (settled_there drives name before script sound of_table run here rest behind read reply tells.told went.m went.tells.bytes at now begun.0 begun.1 drive is_own calm b plain)
 
 -- The read of the later run: the volume lies where it lay, on a slice of which no drive had failed.
 module _ (given : Given) (drives : Geometry) (name : List ℕ) (before more : List Ran) (script other : Script) (next : Tale) (sound : IsSound drives) (of_table : Contains drives.hosts name) (run : Running drives name before script) (went : WentOn run next)
@@ -223,15 +228,15 @@ module _ (given : Given) (drives : Geometry) (name : List ℕ) (before more : Li
     -- no call had failed on its drive by the first read
     settled : (x : List ℕ) → MayLeave (tale_of known_then.story) its_spot.at.drive its_spot.at.block x → x ≡ last (tale_of known_then.story) its_spot.at.drive its_spot.at.block
     settled =
-        let lies = lie drives name more other sound of_table later given again its_here its_rest volume number block parts tells_again by in
-        let there = at_run its_spot.map number its_spot.at lies.at.drive.0 lies.at.start lies.at.blocks lies.is in
-        let on = there.0 in
-        let within = there.2 in
-        let calm = bears.answered lies.slice lies.at lies.may lies.has lies.plain (omega (arith, within)) in
-        let is_own = subst (λ (l : List DriveNo). Contains l lies.at.drive) (sym (sites_are_own.drives (own_view drives name) name)) ((view_is_own.seen drives name lies.slice lies.at).0 lies.has).1 in
-        let out = subst (λ (d : ℕ). site_area (own drives name).site d its_spot.at.block ≡ false) on (spot_out drives name sound of_table told_again.o.table volume number its_spot) in
-        subst (λ (d : ℕ). (x : List ℕ) → MayLeave (tale_of known_then.story) d its_spot.at.block x → x ≡ last (tale_of known_then.story) d its_spot.at.block) (sym on)
-        (settled_so given drives name before script sound of_table run next went here rest behind read volume number old tells now so_went lies.at.drive is_own calm its_spot.at.block out)
+        let map = its_spot.map in
+        let place = its_spot.at in
+        let within = place.within in
+        let may = lie drives name more other sound of_table later given again its_here its_rest volume number block parts tells_again by in
+        let calm = bears.answered map may (omega (arith, within)) number place.drive place.block (omega arith) (has_copy map number place.drive place.block place.lies) in
+        let own_sound = view_is_own.sound drives name sound in
+        let is_own = subst (λ (l : List DriveNo). Contains l (record { 0 = place.drive })) (sym (sites_are_own.drives (own_view drives name) name)) (spot_own drives name told_again.o.table volume number own_sound its_spot) in
+        settled_so given drives name before script sound of_table run next went here rest behind read volume number old tells now so_went (record { 0 = place.drive }) is_own calm place.block
+        (spot_plain (own_view drives name) told_again.o.table volume number own_sound its_spot)
 
     -- so it has what the first read told, or what a line since may have written
     by_value : (grows : Grows (own drives name).drives told_first.o.table told_again.o.table) (x : List ℕ) → IsSameBlock block x → MayLeave (tale_of known_then.story) its_spot.at.drive its_spot.at.block x ⊎ Written volume number ((read ∷ behind) ++ (since ++ its_here)) x → IsOrWasWritten volume number old between block

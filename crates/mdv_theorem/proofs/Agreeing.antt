@@ -9,9 +9,10 @@ use Rattle.mdv_name.specs.declared.geometry.Geometry.{Geometry}
 use Rattle.mdv_run_law.specs.Lives.{host_of}
 use Rattle.mdv_run_law.proofs.Extents.{SeesOwn}
 use Rattle.mdv_status.specs.Values.{significant, values_reply}
-use Rattle.mdv_table.specs.Slices.{IsSound}
-use Rattle.mdv_table.specs.declared.table.Table.{Table}
+use Rattle.mdv_config.specs.Slices.{IsSound}
+use Rattle.mdv_plan.specs.declared.table.Table.{Table}
 use Rattle.mdv_volumes.specs.Tables.{IsMapOf}
+use Rattle.mdv_volumes.proofs.Made.{map_stays}
 use Rattle.mdv_theorem.specs.Exchanges.{Exchange, IsSameBlock}
 use Rattle.mdv_theorem.specs.Observed.{ReadsAgree}
 use Rattle.mdv_theorem.specs.Words.{IsOrWasWritten}
@@ -19,7 +20,7 @@ use Rattle.mdv_theorem.proofs.Contents.{IsStill, IsToldOf, content_steps, told_b
 use Rattle.mdv_theorem.proofs.Ends.{TakeDatabase, taken_away}
 use Rattle.mdv_theorem.proofs.Kept.{keeps_over}
 use Rattle.mdv_theorem.proofs.Steps.{Between, Failed, Steps, reached, stepped, steps_cut}
-use Rattle.mdv_theorem.proofs.Tables.{Keeps, keeps_open, map_carried, open_keeps}
+use Rattle.mdv_theorem.proofs.Tables.{Keeps, keeps_open, open_keeps}
 use Rattle.mdv_theorem.proofs.Place.{BlockAt, one_spot, spot_beside}
 use Rattle.mdv_shown.specs.Site.{site_area}
 
@@ -67,7 +68,7 @@ module _ (host : Host) (sound : IsSound host.drives) (sees : SeesOwn host) (volu
     by now (inr (one, new, has, may, reads)) = inr (inl (one, new, has, may, told_there map place last next block now again ∙ ap significant reads))
 
     agree_on : IsOrWasWritten volume number old es block
-    agree_on = elim (keeps_over host Lies (map_carried host.drives volume map) Failed mid last es keeps steps) [
+    agree_on = elim (keeps_over host Lies (map_stays host.drives volume map) Failed mid last es keeps steps) [
       | inl takes ↦ taken_or volume number old es block takes
       | inr now ↦ elim (content_steps host sound sees volume map number place out Failed mid last es keeps steps) [
         | inl takes ↦ taken_or volume number old es block takes

@@ -46,7 +46,7 @@ use Rattle.mdv_store.specs.declared.booting.BootEnd.{BootEnd}
 use Rattle.mdv_store.specs.declared.booting.BootEnd.TheVariants as end
 use Rattle.mdv_survey.specs.Survey.{IsSurvey, IsSurveyOf}
 use Rattle.mdv_survey.specs.declared.replica.Survey.{Survey}
-use Rattle.mdv_table.specs.Slices.{IsSound}
+use Rattle.mdv_config.specs.Slices.{IsSound}
 use Rattle.mdv_volumes.proofs.Alive.{each_lives}
 use Rattle.mdv_volumes.proofs.Lists.{in_filter}
 use Rattle.mdv_volumes.specs.History.{History, history_after_all}

@@ -30,9 +30,9 @@ use Rattle.mdv_shelf.specs.Tale.{Tale, told}
 use Rattle.mdv_status.specs.Telling.{Said as SaidBytes, replies_in}
 use Rattle.mdv_store.specs.Opened.{Opened}
 use Rattle.mdv_store_law.proofs.Machine.{after_more}
-use Rattle.mdv_table.specs.Plan.{last_of}
-use Rattle.mdv_table.specs.declared.plan.Lists.{Lists}
-use Rattle.mdv_table.specs.declared.plan.Lists.TheVariants.{One, Two}
+use Rattle.mdv_config.specs.Lists.{last_of}
+use Rattle.mdv_plan.specs.declared.lists.Lists.{Lists}
+use Rattle.mdv_plan.specs.declared.lists.Lists.TheVariants.{One, Two}
 use Rattle.mdv_volumes.specs.Happening.{IsCourse}
 use Rattle.mdv_volumes.specs.History.{Event, History, history_after, history_after_all}
 use Rattle.mdv_volumes.specs.HistoryLaws.{AllLists, KeepDatabase}
@@ -129,9 +129,9 @@ module _ (drives : Geometry) (name : List ℕ) (from : List SliceName) (fresh : 
     told_lies (command.AddListed number force, asks, moves, ok) = lie_any drives name from lines h es course keep lie one (λ old_slices next_slices. inr (command.AddListed number force, asks, tt, begun ok))
     told_lies (command.DropPlaces slices true, asks, moves, ok) = absurd (keeps (record { command = command.DropPlaces slices true; asks = asks; takes = refl; begun = begun ok }))
     told_lies (command.DropPlaces slices false, asks, moves, ok) = less_lies slices asks ok (granted_done host calls kept next one answer comes said is_told (command.DropPlaces slices false) asks ok)
-    told_lies (command.MakeStripe volume slice, asks, moves, ok) = absurd moves
+    told_lies (command.Alter alteration, asks, moves, ok) = absurd moves
     told_lies (command.Read volume at count, asks, moves, ok) = absurd moves
-    told_lies (command.Write volume at block, asks, moves, ok) = absurd moves
+    told_lies (command.Write volume at what, asks, moves, ok) = absurd moves
     told_lies (command.Print names, asks, moves, ok) = absurd moves
 
     -- So it is behind the line.

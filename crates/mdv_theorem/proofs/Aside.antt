@@ -1,38 +1,53 @@
 -- What a line on a volume of the open table is refused for: neither that there is no database, nor that the volume isn't there.
-use Rattle.std.proofs.Common.{◌≡◌, inl, inr, ℕ, Bool, true, false, List, [], ◌++◌, ◌+◌, Option, Some, All, refl, sym, ◌∙◌, ap, subst, arith}
-use Rattle.std.proofs.lemmas.List.Elements.{All-append, All-cons, All-nil}
-use Rattle.std.specs.List.{find}
-use Rattle.std.specs.Option.{is_none}
-use Rattle.std.specs.Prelude.{nat_lt, not, ◌||◌, ◌∷◌}
-use Rattle.mdv_base.specs.Order.{order, where_so}
+use Rattle.std.proofs.Common.{◌≡◌, inl, inr, ℕ, Bool, true, false, ◌||◌, if◌then◌else◌, nat_lt, List, [], ◌∷◌, ◌++◌, ◌+◌, length, Option, Some, None, All, refl, sym, ◌∙◌, ap, subst, arith}
+use Rattle.std.proofs.lemmas.Bool.{false≢true}
+use Rattle.std.proofs.lemmas.List.Elements.{All-append, All-cons, All-head, All-nil, All-tail}
+use Rattle.std.proofs.lemmas.List.Folds.{list_any-append}
+use Rattle.std.specs.List.{list_any}
+use Rattle.std.specs.Option.{is_none, option_map}
+use Rattle.mdv_base.specs.Order.{first_refusal, order, where_so}
 use Rattle.mdv_base.specs.Refusal.{number_of}
 use Rattle.mdv_base.specs.declared.name.Named.{Named}
 use Rattle.mdv_base.specs.declared.name.Named.TheVariants as named
-use Rattle.mdv_base.specs.declared.refusal.Refusal.TheVariants.{IoFault, NameTaken, NoSuchPool, NoSuchVolume, TooMany}
+use Rattle.mdv_base.specs.declared.refusal.Refusal.TheVariants.{IoFault, NoSuchPool, NoSuchVolume, TooMany, WrongKind}
 use Rattle.mdv_base.proofs.Order.{first_holds}
+use Rattle.mdv_change.specs.Change.{carried, condition}
+use Rattle.mdv_change.specs.declared.change.Change.{Change as PlanChange}
+use Rattle.mdv_change.specs.declared.change.Change.TheVariants.{MakeStripe}
+use Rattle.mdv_components.specs.Bases.{is_missing, volume_of}
+use Rattle.mdv_components.specs.Causes.{first_of, told}
+use Rattle.mdv_components.specs.Causes.{order as causes_order}
+use Rattle.mdv_components.specs.Stripes.{all_bases}
+use Rattle.mdv_components.specs.declared.asked.RowAsked.{RowAsked}
+use Rattle.mdv_components.specs.declared.cause.Carried.{Carried}
+use Rattle.mdv_components.specs.declared.cause.Cause.{Cause}
+use Rattle.mdv_components.specs.declared.cause.Cause.TheVariants as reason
+use Rattle.mdv_engine_law.specs.Altering.{change_of}
 use Rattle.mdv_engine_law.specs.Answers.{refusing}
 use Rattle.mdv_engine_law.specs.Commands.{CameTo, ComesTo, Effect, case_of, refused, wanting, done, faulted, over}
 use Rattle.mdv_shelf.specs.Failing.{Outcomes}
 use Rattle.mdv_engine_law.specs.Line.{Kept, record_room}
-use Rattle.mdv_engine_law.specs.Refusals.{Case, bytes_after, has_number, held, held_of_blocks, held_of_change, held_of_read, held_of_names, held_of_print, held_past, refusal_of, size_of}
+use Rattle.mdv_engine_law.specs.Refusals.{Case, bytes_after, held, held_of_alteration, held_of_blocks, held_of_names, held_of_print, held_of_transfer, held_past, listed, refusal_of, told_by_table}
 use Rattle.mdv_engine_law.specs.Replies.{refusal_line, text_of}
 use Rattle.mdv_engine_law.specs.declared.answer.Answer.{Answer}
 use Rattle.mdv_engine_law.specs.declared.answer.Answer.TheVariants.{Over}
-use Rattle.mdv_name.specs.SliceIndex.{slice_at}
-use Rattle.mdv_run_law.specs.Below.{Command, AddListed, AddPlaces, DropPlaces, Entry, Host, meant, Line, MakeStripe, NoSuchSlice, OutOfMemory, OutOfRange, Print, Read, Refusal, ReplicaFull, SliceInUse, SliceName, VolId, Volume, Write, WrongKind}
+use Rattle.mdv_keeping.specs.Built.{IsOfSlices, IsSlice, names_db}
+use Rattle.mdv_keeping.specs.Refused.{cause_with}
+use Rattle.mdv_map.specs.Maps.{Map}
+use Rattle.mdv_plan.specs.declared.plan.Plan.{Plan}
+use Rattle.mdv_plan.specs.declared.volume.Base.{Base}
+use Rattle.mdv_plan.specs.declared.volume.Base.TheVariants.{Slice, Volume}
+use Rattle.mdv_run_law.specs.Below.{Command, AddListed, AddPlaces, Alter, DropPlaces, Entry, Host, meant, Line, OutOfMemory, OutOfRange, Print, Read, Refusal, ReplicaFull, VolId, Write}
 use Rattle.mdv_run_law.specs.Run.{IsAnswered, IsSaid}
-use Rattle.mdv_table.specs.Change as table
-use Rattle.mdv_table.specs.Change.{is_db}
-use Rattle.mdv_table.specs.Plan.{is_in_use, used_slices}
-use Rattle.mdv_table.specs.Volumes.{HasVolume, has_volume}
-use Rattle.mdv_table.proofs.Deciding.{has_volume-true}
-use Rattle.mdv_table.specs.declared.change.Change.TheVariants as change
+use Rattle.mdv_volumes.specs.Tables.{IsMapOf, map_of}
+use Rattle.mdv_volumes.proofs.Maps.{found_as}
 use Rattle.mdv_words.proofs.Lines.{one_line}
-use Rattle.mdv_words.specs.Line.{Exec, IsLine}
-use Rattle.mdv_theorem.specs.Exchanges.{IsAbout}
+use Rattle.mdv_words.specs.Line.{Exec, IsLine, blocks_of}
+use Rattle.mdv_words.specs.declared.command.Alteration.{Alteration}
+use Rattle.mdv_theorem.specs.Exchanges.{Asks, Exchange, IsAbout}
+use Rattle.mdv_theorem.proofs.Altered.{asks_built}
 use Rattle.mdv_theorem.proofs.Telling.{ok_is_none, one_number, values_are_none, listing_is_none}
 use Rattle.mdv_store.specs.Opened.{Opened}
-use Rattle.mdv_plan.specs.Slices.{meets_db}
 
 -- it is neither NoDatabase nor NoSuchVolume
 abbrev IsAsideNumber : ℕ → Type 0
@@ -46,66 +61,118 @@ pub where_all : (P : Refusal → Type 0) (holds : Bool) (r : Refusal) → P r �
 where_all P true r is = All-cons P r [] is (All-nil P)
 where_all P false r is = All-nil P
 
--- those of a stripe, by its table
-stripe_aside : (gone taken db used : Bool) → All IsAside ((where_so gone NoSuchSlice ++ where_so taken NameTaken ++ where_so db WrongKind) ++ where_so used SliceInUse)
-stripe_aside gone taken db used =
-    let named : List Refusal = where_so gone NoSuchSlice ++ where_so taken NameTaken in
-    All-append IsAside (named ++ where_so db WrongKind) (where_so used SliceInUse)
-    (All-append IsAside named (where_so db WrongKind)
-    (All-append IsAside (where_so gone NoSuchSlice) (where_so taken NameTaken) (where_all IsAside gone NoSuchSlice (omega arith)) (where_all IsAside taken NameTaken (omega arith)))
-    (where_all IsAside db WrongKind (omega arith)))
-    (where_all IsAside used SliceInUse (omega arith))
+-- each cause but that a volume isn't there
+told_aside_of : (its : Carried) (cause : Cause) → (cause ≡ reason.NoSuchVolume → ⊥) → IsAside (told its cause)
+told_aside_of its reason.NoSuchVolume other = absurd (other refl)
+told_aside_of its reason.NoSuchPool other = omega arith
+told_aside_of its reason.NoSuchSlice other = omega arith
+told_aside_of its reason.NameTaken other = omega arith
+told_aside_of its reason.WrongKind other = omega arith
+told_aside_of its reason.WrongState other = omega arith
+told_aside_of its reason.LastCopy other = omega arith
+told_aside_of its reason.TooFew other = omega arith
+told_aside_of its reason.TooMany other = omega arith
+told_aside_of its reason.BadInterlace other = omega arith
+told_aside_of its reason.SliceInUse other = omega arith
+told_aside_of its reason.HasParent other = omega arith
+told_aside_of its reason.Nested other = omega arith
+told_aside_of its reason.SpareInUse other = omega arith
+told_aside_of its reason.TooSmall other = omega arith
+told_aside_of its reason.NoSpace other = omega arith
 
-pub change_aside : (host : Host) (o : Opened) (volume : VolId) (slice : SliceName) → All IsAside (held_of_change host (Some o) (change.MakeStripe volume slice))
-change_aside host o volume slice =
-    let size = bytes_after host o (change.MakeStripe volume slice) in
+one_aside : (r : Refusal) → IsAside r → All IsAside (r ∷ [])
+one_aside r is = All-cons IsAside r [] is (All-nil IsAside)
+
+listed_first : (causes : List Refusal) → All IsAside causes → (first : Option Refusal) → first_refusal causes ≡ first → All IsAside (listed first)
+listed_first causes all None is = All-nil IsAside
+listed_first causes all (Some r) is = one_aside r (first_holds IsAside order causes r all is)
+
+cause_aside : (its : Carried) (found : Option Cause) (is_db : Bool) → ((cause : Cause) → found ≡ Some cause → cause ≡ reason.NoSuchVolume → ⊥) → All IsAside (listed (cause_with (option_map (told its) found) is_db))
+cause_aside its None false other = All-nil IsAside
+cause_aside its None true other = one_aside WrongKind (omega arith)
+cause_aside its (Some cause) false other = one_aside (told its cause) (told_aside_of its cause (other cause refl))
+cause_aside its (Some cause) true other =
+    let causes : List Refusal = told its cause ∷ WrongKind ∷ [] in
+    listed_first causes (All-cons IsAside (told its cause) (WrongKind ∷ []) (told_aside_of its cause (other cause refl)) (one_aside WrongKind (omega arith))) (first_refusal causes) refl
+
+-- the first cause holds
+first_so : (holds : Cause → Bool) (causes : List Cause) (cause : Cause) → first_of holds causes ≡ Some cause → holds cause ≡ true
+first_so holds [] cause is = absurd (cc is)
+first_so holds (c ∷ causes) cause is = by (holds c) refl (first_so holds causes cause) is where
+  by : (here : Bool) → holds c ≡ here → (first_of holds causes ≡ Some cause → holds cause ≡ true) → (if here then Some c else first_of holds causes) ≡ Some cause → holds cause ≡ true
+  by true so rest same = (let both : Some c ≡ Some cause = same in let one : c ≡ cause = cc both in subst (λ (x : Cause). holds x ≡ true) one so)
+  by false so rest same = rest same
+
+-- slices are no volumes that may be missing
+none_missing : (p : Plan) (bases : List Base) → All IsSlice bases → list_any (is_missing p) bases ≡ false
+none_missing p [] are = refl
+none_missing p (Slice slice ∷ bases) are = none_missing p bases (All-tail IsSlice (Slice slice) bases are)
+none_missing p (Volume volume ∷ bases) are = absurd (All-head IsSlice (Volume volume) bases are)
+
+rows_there : (p : Plan) (rows : List RowAsked) → All IsOfSlices rows → list_any (is_missing p) (all_bases rows) ≡ false
+rows_there p [] are = refl
+rows_there p (row ∷ rows) are =
+    list_any-append (is_missing p) row.components (all_bases rows)
+    ∙ (λ i. none_missing p row.components (All-head IsOfSlices row rows are) i || rows_there p rows (All-tail IsOfSlices row rows are) i)
+
+pub alteration_aside : (host : Host) (o : Opened) (one : Exchange) (alteration : Alteration) → Asks one (Alter alteration) → All IsAside (held_of_alteration host (Some o) (change_of alteration))
+alteration_aside host o one alteration asks =
+    let asked = asks_built one alteration asks in
+    let change : PlanChange = MakeStripe asked.volume asked.rows None in
+    let size = bytes_after host o change in
     let full : Refusal = ReplicaFull size (record_room o) in
-    All-append IsAside (table.held host.drives o.table.plan (change.MakeStripe volume slice)) (where_so (nat_lt (record_room o) size) full)
-    (stripe_aside (is_none (slice_at host.drives.slices slice)) (has_volume o.table.plan.volumes volume) (is_db (slice_at host.drives.slices slice)) (is_in_use host.drives.slices (used_slices o.table.plan) slice || meets_db host.drives slice))
-    (where_all IsAside (nat_lt (record_room o) size) full (omega arith))
+    let holds = condition host.drives host.site.drives o.table change in
+    let named : (cause : Cause) → first_of holds causes_order ≡ Some cause → cause ≡ reason.NoSuchVolume → ⊥ = λ cause found same.
+    false≢true (sym (rows_there o.table.plan asked.rows asked.built.2) ∙ subst (λ (c : Cause). holds c ≡ true) same (first_so holds causes_order cause found)) in
+    subst (λ (c : Option PlanChange). All IsAside (held_of_alteration host (Some o) c)) (sym asked.alters)
+    (All-append IsAside (listed (told_by_table host o change)) (where_so (nat_lt (record_room o) size) full)
+    (cause_aside (carried host.drives o.table change) (first_of holds causes_order) (names_db host.drives change) named)
+    (where_all IsAside (nat_lt (record_room o) size) full (omega arith)))
 
 -- of a volume that is there
-past_aside : (found : Option Volume) (of : Volume) (end : ℕ) → found ≡ Some of → All IsAside (held_past found end)
-past_aside found of end is = subst (λ (o : Option Volume). All IsAside (held_past o end)) (sym is) (where_all IsAside (nat_lt (size_of of.kind) end) OutOfRange (omega arith))
+past_aside : (found : Option Map) (v : Map) (end : ℕ) → found ≡ Some v → All IsAside (held_past found end)
+past_aside found v end is = subst (λ (o : Option Map). All IsAside (held_past o end)) (sym is) (where_all IsAside (nat_lt v.blocks end) OutOfRange (omega arith))
 
-module _ (case : Case) (o : Opened) (opened : case.memory.opened ≡ Some o) (volume : VolId) (of : Volume) (found : find (has_number volume) o.table.plan.volumes ≡ Some of)
-    (has : HasVolume o.table.plan.volumes volume of) where
+module _ (case : Case) (o : Opened) (opened : case.memory.opened ≡ Some o) (volume : VolId) (v : Map) (lies : IsMapOf case.host.drives o.table volume v) where
   -- with this database open
   by_opened : (causes : Option Opened → List Refusal) → All IsAside (causes (Some o)) → All IsAside (causes case.memory.opened)
   by_opened causes is = subst (λ (p : Option Opened). All IsAside (causes p)) (sym opened) is
 
-  blocks_aside : (other : VolId) (end : ℕ) → other ≡ volume → All IsAside (held_of_blocks (Some o) other end)
-  blocks_aside other end on = subst (λ (n : VolId). All IsAside (held_of_blocks (Some o) n end)) (sym on) (past_aside (find (has_number volume) o.table.plan.volumes) of end found)
+  blocks_aside : (other : VolId) (end : ℕ) → other ≡ volume → All IsAside (held_of_blocks case.host (Some o) other end)
+  blocks_aside other end on = subst (λ (n : VolId). All IsAside (held_of_blocks case.host (Some o) n end)) (sym on) (past_aside (map_of case.host.drives o.table volume) v end lies)
+
+  transfer_aside : (other : VolId) (at count : ℕ) → other ≡ volume → All IsAside (held_of_transfer case.host (Some o) other at count)
+  transfer_aside other at count on =
+      All-append IsAside (held_of_blocks case.host (Some o) other (at + count)) (where_so (nat_lt 1024 count) TooMany) (blocks_aside other (at + count) on) (where_all IsAside (nat_lt 1024 count) TooMany (omega arith))
 
   -- of a print of the volume alone
-  print_aside : (names : List Named) → names ≡ named.Volume volume ∷ [] → All IsAside (held_of_names o.table.plan.volumes names)
+  print_aside : (names : List Named) → names ≡ named.Volume volume ∷ [] → All IsAside (held_of_names o.table.plan names)
   print_aside names alone =
-      let there : has_volume o.table.plan.volumes volume ≡ true = (has_volume-true o.table.plan.volumes volume).1 (of, has) in
-      subst (λ (l : List Named). All IsAside (held_of_names o.table.plan.volumes l)) (sym alone)
-      (subst (λ (b : Bool). All IsAside (where_so (not b || false) NoSuchVolume ++ where_so false NoSuchPool)) (sym there) (All-nil IsAside))
+      let found = found_as case.host.drives o.table volume v lies in
+      let there : is_none (volume_of o.table.plan volume) ≡ false = ap is_none found.found in
+      subst (λ (l : List Named). All IsAside (held_of_names o.table.plan l)) (sym alone)
+      (subst (λ (b : Bool). All IsAside (where_so (b || false) NoSuchVolume ++ where_so false NoSuchPool)) (sym there) (All-nil IsAside))
 
-  held_aside : (command : Command) → IsAbout volume command → All IsAside (held case command)
-  held_aside (AddPlaces slices force count blocks) on = absurd on
-  held_aside (AddListed number force) on = absurd on
-  held_aside (DropPlaces slices force) on = absurd on
-  held_aside (MakeStripe other slice) on = by_opened (λ p. held_of_change case.host p (change.MakeStripe other slice)) (change_aside case.host o other slice)
-  held_aside (Read other at count) on =
-      by_opened (λ p. held_of_read p other at count)
-      (All-append IsAside (held_of_blocks (Some o) other (at + count)) (where_so (nat_lt 1024 count) TooMany) (blocks_aside other (at + count) on) (where_all IsAside (nat_lt 1024 count) TooMany (omega arith)))
-  held_aside (Write other at block) on = by_opened (λ p. held_of_blocks p other (at + 1)) (blocks_aside other (at + 1) on)
-  held_aside (Print names) alone = by_opened (λ p. held_of_print p names) (print_aside names alone)
+  held_aside : (one : Exchange) (command : Command) → Asks one command → IsAbout volume command → All IsAside (held case command)
+  held_aside one (AddPlaces slices force count blocks) asks on = absurd on
+  held_aside one (AddListed number force) asks on = absurd on
+  held_aside one (DropPlaces slices force) asks on = absurd on
+  held_aside one (Alter alteration) asks on = by_opened (λ p. held_of_alteration case.host p (change_of alteration)) (alteration_aside case.host o one alteration asks)
+  held_aside one (Read other at count) asks on = by_opened (λ p. held_of_transfer case.host p other at count) (transfer_aside other at count on)
+  held_aside one (Write other at what) asks on = by_opened (λ p. held_of_transfer case.host p other at (length (blocks_of what))) (transfer_aside other at (length (blocks_of what)) on)
+  held_aside one (Print names) asks alone = by_opened (λ p. held_of_print p names) (print_aside names alone)
 
-  pub refused_aside : (command : Command) (r : Refusal) → IsAbout volume command → refusal_of case command ≡ Some r → IsAside r
-  refused_aside command r on is = first_holds IsAside order (held case command) r (held_aside command on) is
+  pub refused_aside : (one : Exchange) (command : Command) (r : Refusal) → Asks one command → IsAbout volume command → refusal_of case command ≡ Some r → IsAside r
+  refused_aside one command r asks on is = first_holds IsAside order (held case command) r (held_aside one command asks on) is
 
 -- what is done is told by no refusal
 pub done_untold : (calls : Outcomes) (host : Host) (kept next : Kept) (command : Command) (answer : Answer) (r : Refusal) → Effect calls host kept command answer next → text_of answer ≡ refusal_line r → ⊥
 done_untold calls host kept next (AddPlaces slices force count blocks) answer r effect told = ok_is_none r (sym (ap text_of effect.0) ∙ told)
 done_untold calls host kept next (AddListed number force) answer r effect told = effect
 done_untold calls host kept next (DropPlaces slices force) answer r effect told = ok_is_none r (sym (ap text_of effect.0) ∙ told)
-done_untold calls host kept next (MakeStripe volume slice) answer r effect told = ok_is_none r (sym (ap text_of effect.0) ∙ told)
+done_untold calls host kept next (Alter alteration) answer r effect told = ok_is_none r (sym (ap text_of effect.0) ∙ told)
 done_untold calls host kept next (Read volume at count) answer r effect told = values_are_none at _ r (sym (ap text_of effect.6) ∙ told)
-done_untold calls host kept next (Write volume at block) answer r effect told = ok_is_none r (sym (ap text_of effect.3) ∙ told)
+done_untold calls host kept next (Write volume at what) answer r effect told = ok_is_none r (sym (ap text_of effect.3) ∙ told)
 done_untold calls host kept next (Print names) answer r (calm, o, opened, text, same) told = listing_is_none o.table.plan names r (sym (ap text_of text) ∙ told)
 
 -- what a line that spells a command comes to, by what it means
@@ -140,13 +207,14 @@ means_itself : (volume : VolId) (entries : List Entry) (command : Command) → I
 means_itself volume entries (AddPlaces slices force count blocks) on = absurd on
 means_itself volume entries (AddListed number force) on = absurd on
 means_itself volume entries (DropPlaces slices force) on = absurd on
-means_itself volume entries (MakeStripe other slice) on = refl
+means_itself volume entries (Alter alteration) on = refl
 means_itself volume entries (Read other at count) on = refl
-means_itself volume entries (Write other at block) on = refl
+means_itself volume entries (Write other at what) on = refl
 means_itself volume entries (Print names) on = refl
 
 -- where this is kept the volume is in the open table: so a line on it is refused for neither of the two
-pub told_aside : (calls : Outcomes) (host : Host) (kept next : Kept) (o : Opened) → kept.memory.opened ≡ Some o → (volume : VolId) (of : Volume) → find (has_number volume) o.table.plan.volumes ≡ Some of → HasVolume o.table.plan.volumes volume of → (command : Command) → IsAbout volume command
+pub told_aside : (calls : Outcomes) (host : Host) (kept next : Kept) (o : Opened) → kept.memory.opened ≡ Some o → (volume : VolId) (v : Map) → IsMapOf host.drives o.table volume v → (one : Exchange) (command : Command) → Asks one command → IsAbout volume command
     → (answer : Answer) → IsSaid answer → (r : Refusal) → text_of answer ≡ refusal_line r → Commanded calls host kept command answer next → IsAside r
-told_aside calls host kept next o opened volume of found has command on answer said r told is =
-    told_as IsAsideNumber (omega arith) (omega arith) calls host kept next command (λ s why. refused_aside (case_of host kept) o opened volume of found has command s on (ap (refusal_of (case_of host kept)) (sym (means_itself volume kept.memory.entries command on)) ∙ why)) answer said r told is
+told_aside calls host kept next o opened volume v lies one command asks on answer said r told is =
+    told_as IsAsideNumber (omega arith) (omega arith) calls host kept next command
+    (λ s why. refused_aside (case_of host kept) o opened volume v lies one command s asks on (ap (refusal_of (case_of host kept)) (sym (means_itself volume kept.memory.entries command on)) ∙ why)) answer said r told is

@@ -30,8 +30,8 @@ use Rattle.mdv_status.specs.Telling.{replies_in}
 use Rattle.mdv_engine_law.proofs.Plain.{nothing_answers}
 use Rattle.mdv_store.specs.Opened.{Opened}
 use Rattle.mdv_store_law.specs.Log.{Lives, Version}
-use Rattle.mdv_table.specs.declared.plan.Lists.{Lists}
-use Rattle.mdv_table.specs.declared.plan.Lists.TheVariants.{One, Two}
+use Rattle.mdv_plan.specs.declared.lists.Lists.{Lists}
+use Rattle.mdv_plan.specs.declared.lists.Lists.TheVariants.{One, Two}
 use Rattle.mdv_volumes.specs.Databases.{log_of}
 use Rattle.mdv_volumes.specs.Happening.{MayBeFound}
 use Rattle.mdv_volumes.specs.History.{History, history_after_all}
@@ -193,7 +193,7 @@ module _ (drives : Geometry) (name : List ℕ) (from : List SliceName) (fresh : 
         halves (DropPlaces slices true) asks o opened = absurd (gentle slices asks)
         halves (DropPlaces slices false) asks o opened =
             (refl, half_still (list_of o) (open_lie o opened), half_by (list_of o) _ (open_lie o opened) (less_made drives name (in_work text) slices false (list_of o) asks (work_begun text)))
-        halves (command.MakeStripe volume slice) asks o opened = half_still (list_of o) (open_lie o opened)
+        halves (command.Alter alteration) asks o opened = half_still (list_of o) (open_lie o opened)
         halves (Read volume at_block count) asks o opened = half_still (list_of o) (open_lie o opened)
         halves (Write volume at_block block) asks o opened = half_still (list_of o) (open_lie o opened)
         halves (Print names) asks o opened = half_still (list_of o) (open_lie o opened)

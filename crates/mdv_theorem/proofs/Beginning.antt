@@ -1,6 +1,7 @@
 -- What a read tells of a block is what the new drives held there, on the slice where the volume lies, or was written since.
-use Rattle.std.proofs.Common.{◌≡◌, ◌⊎◌, ⊎_elim, inl, inr, ℕ, ◌+◌, ◌<◌, List, [], ◌∷◌, ◌++◌, refl, sym, ◌∙◌, ap, subst, Contains}
+use Rattle.std.proofs.Common.{◌≡◌, ◌⊎◌, ⊎_elim, inl, inr, ℕ, List, [], ◌∷◌, ◌++◌, refl, sym, ◌∙◌, ap, subst, Contains}
 use Rattle.mdv_base.specs.declared.name.VolId.{VolId}
+use Rattle.mdv_dev.proofs.Copies.{has_copy}
 use Rattle.mdv_engine_law.proofs.Plain.{nothing_answers}
 use Rattle.mdv_name.specs.declared.geometry.Geometry.{Geometry}
 use Rattle.mdv_port.specs.Script.{Script}
@@ -13,7 +14,7 @@ use Rattle.mdv_shelf.proofs.Everywhere.{last_image}
 use Rattle.mdv_status.specs.Values.{significant, values_reply}
 use Rattle.mdv_status.specs.Telling.{replies_in}
 use Rattle.mdv_store_law.specs.Laws.{restarted}
-use Rattle.mdv_table.specs.Slices.{IsSound}
+use Rattle.mdv_config.specs.Slices.{IsSound}
 use Rattle.mdv_theorem.specs.Exchanges.{Exchange, TellsBlock, exchanges, exchanges_by}
 use Rattle.mdv_theorem.specs.Observed.{BlocksBegin}
 use Rattle.mdv_theorem.specs.Running.{Running, exchanges_now}
@@ -21,13 +22,12 @@ use Rattle.mdv_theorem.specs.Words.{HeldAtFirst, IsOrWasWritten}
 use Rattle.mdv_theorem.proofs.Contents.{IsToldOf}
 use Rattle.mdv_theorem.proofs.Given.{Given}
 use Rattle.mdv_theorem.proofs.Leaving.{Leaves, Written}
-use Rattle.mdv_theorem.proofs.Lying.{LiesOn}
 use Rattle.mdv_theorem.proofs.Over.{since_are}
 use Rattle.mdv_theorem.proofs.Agreeing.{taken_or}
 use Rattle.mdv_theorem.proofs.Ends.{TakeDatabase}
 use Rattle.mdv_theorem.proofs.Later.{lines_since, take_before, take_behind}
 use Rattle.mdv_theorem.proofs.Until.{AtRead, ThePlace, all_left, its, lie, place}
-use Rattle.mdv_theorem.proofs.Place.{BlockAt, at_run}
+use Rattle.mdv_theorem.proofs.Place.{BlockAt}
 use Rattle.mdv_theorem.proofs.Steps.{unreplied}
 
 -- new drives hold what they held
@@ -72,34 +72,36 @@ module _ (drives : Geometry) (name : List ℕ) (before : List Ran) (script : Scr
       ]
 
   -- where it lies
-  abbrev its_lie : LiesOn drives name before script sound of_table run volume all it.spot.map
-  its_lie = lie drives name before script sound of_table run given read here later volume number block parts tells by
-
   abbrev its_place : BlockAt it.spot.map number
   its_place = it.spot.at
 
-  on_slice : (its_place.drive ≡ its_lie.at.drive.0) × (its_place.block ≡ its_lie.at.start + number) × (number < its_lie.at.blocks)
-  on_slice = at_run it.spot.map number its_place its_lie.at.drive.0 its_lie.at.start its_lie.at.blocks its_lie.is
+  abbrev first_held : List ℕ
+  first_held = run.made its_place.drive its_place.block
 
-  held : run.made its_place.drive its_place.block ≡ run.made its_lie.at.drive.0 (its_lie.at.start + number)
-  held = λ i. run.made (on_slice.0 i) (on_slice.1 i)
-
-  value : IsOrWasWritten volume number (run.made its_lie.at.drive.0 (its_lie.at.start + number)) all block
+  value : IsOrWasWritten volume number first_held all block
   value = elim left [
-    | inl takes ↦ taken_or volume number (run.made its_lie.at.drive.0 (its_lie.at.start + number)) all block takes
+    | inl takes ↦ taken_or volume number first_held all block takes
     | inr (end, leaves) ↦
         let x = read_place.at.kept.content its_place.drive its_place.block in
         let now = tale_of end.story in
         let reads : last now its_place.drive its_place.block ≡ x = end.reads its_place.drive its_place.block in
         let may : MayLeave now its_place.drive its_place.block x = subst (MayLeave now its_place.drive its_place.block) reads ((last_image now).each its_place.drive its_place.block) in
         ⊎_elim
-        (λ old. inl (it.same ∙ ap significant (begun_left _ its_place.drive its_place.block x old ∙ held)))
+        (λ old. inl (it.same ∙ ap significant (begun_left _ its_place.drive its_place.block x old)))
         (λ (w : Written volume number all x). inr (inl (w.0, w.1, w.2, w.3, it.same ∙ ap significant w.4)))
         (leaves x may)
   ]
 
-  begins_with : HeldAtFirst drives name run.made all volume number (run.made its_lie.at.drive.0 (its_lie.at.start + number))
-  begins_with = record { slice = its_lie.slice; may = its_lie.may; at = its_lie.at; has = its_lie.has; plain = its_lie.plain; within = on_slice.2; held = refl }
+  begins_with : HeldAtFirst drives name run.made all volume number first_held
+  begins_with = record {
+    map = it.spot.map;
+    may = lie drives name before script sound of_table run given read here later volume number block parts tells by;
+    within = its_place.within;
+    drive = its_place.drive;
+    block = its_place.block;
+    lies = has_copy it.spot.map number its_place.drive its_place.block its_place.lies;
+    held = refl;
+  }
 
   block_begins : Begins drives name run.made volume number block all
   block_begins = (_, begins_with, value)

@@ -17,8 +17,8 @@ use Rattle.mdv_shelf.specs.Tale.{Among, Tale, last}
 use Rattle.mdv_shelf.proofs.Blocks.{both_ways}
 use Rattle.mdv_status.specs.Values.{significant}
 use Rattle.mdv_store_law.proofs.Machine.{all_more}
-use Rattle.mdv_table.specs.Slices.{IsSound}
-use Rattle.mdv_table.specs.declared.table.Table.{Table}
+use Rattle.mdv_config.specs.Slices.{IsSound}
+use Rattle.mdv_plan.specs.declared.table.Table.{Table}
 use Rattle.mdv_volumes.specs.Databases.{is_volume, log_of}
 use Rattle.mdv_volumes.specs.Events.{Answers, Begins, Flushes, Issues, VolumeEvent, Woke, issued_to}
 use Rattle.mdv_volumes.specs.Events as lives
@@ -30,8 +30,9 @@ use Rattle.mdv_volumes.specs.Tables.{IsMapOf}
 use Rattle.mdv_volumes.proofs.Databases.{volume_key, volume_number}
 use Rattle.mdv_volumes.proofs.Found.{AreLasting, some_lasts}
 use Rattle.mdv_volumes.proofs.Lists.{contains_first}
+use Rattle.mdv_words.specs.Line.{blocks_of}
 use Rattle.mdv_words.specs.declared.command.Command.TheVariants.{Write}
-use Rattle.mdv_theorem.specs.Exchanges.{Exchange, IsAcknowledged, MayBeWritten, exchanges_by}
+use Rattle.mdv_theorem.specs.Exchanges.{Exchange, IsAcknowledged, MayBeWritten, Writes, exchanges_by}
 use Rattle.mdv_theorem.specs.Words.{IsOrWasWritten}
 use Rattle.mdv_theorem.proofs.Found.{asked_at, deed_told, es, its, its_course, lined, ok_sated, range_found}
 use Rattle.mdv_theorem.proofs.Ends.{TakeDatabase, lined_ends}
@@ -102,22 +103,27 @@ module _ (key : Key) (volume : VolId) (number : ℕ) (x : List ℕ) where
         | inr later ↦ issued_more (begins e) (issued_by es) (issued_deed es later)
       ]
 
-  -- of one block it is that block's
-  one_issue : (at : ℕ) (blocks : List (List ℕ)) (block : List ℕ) → blocks ≡ block ∷ [] → is_among at (length blocks) number ≡ true → x ≡ slice_index_or blocks (number - at) [] → (at ≡ number) × (x ≡ block)
-  one_issue at blocks block one among value =
-      let is = among_at at 1 number (subst (λ (l : List (List ℕ)). is_among at (length l) number ≡ true) one among) in
-      let lt = is.below in
-      let place = is.is in
-      let first : number - at ≡ 0 = omega (arith, lt, place) in
-      (omega (arith, lt, place), value ∙ ap (λ (l : List (List ℕ)). slice_index_or l (number - at) []) one ∙ ap (λ (i : ℕ). slice_index_or (block ∷ []) i []) first)
+  -- one of these blocks it is
+  pub record IsOneOf (at : ℕ) (blocks : List (List ℕ)) : Type 0 where
+    pub place : ℕ
+    pub within : place < length blocks
+    pub numbered : number ≡ at + place
+    pub value : x ≡ slice_index_or blocks place []
 
--- the blocks that a deed writes
-abbrev blocks_of : Deed → List (List ℕ)
-blocks_of (Created other) = []
-blocks_of (Changed other change) = []
-blocks_of (Deleted other) = []
-blocks_of (Wrote other volume at blocks) = blocks
-blocks_of (Saw other volume at blocks) = []
+  one_issue : (at : ℕ) (blocks : List (List ℕ)) → is_among at (length blocks) number ≡ true → x ≡ slice_index_or blocks (number - at) [] → IsOneOf at blocks
+  one_issue at blocks among value =
+      let is = among_at at (length blocks) number among in
+      let numbered = is.is in
+      let place : number - at ≡ is.index = omega (arith, numbered) in
+      record { place = is.index; within = is.below; numbered = numbered; value = value ∙ ap (λ (i : ℕ). slice_index_or blocks i []) place }
+
+-- from which block on a deed writes, and which blocks
+abbrev written_at : Deed → ℕ × List (List ℕ)
+written_at (Created other) = (0, [])
+written_at (Changed other change) = (0, [])
+written_at (Deleted other) = (0, [])
+written_at (Wrote other volume at blocks) = (at, blocks)
+written_at (Saw other volume at blocks) = (0, [])
 
 module _ (drives : Geometry) (name : List ℕ) (made : Image) (before : List Ran) (t : Tale) (sound : IsSound drives) (of_table : Contains drives.hosts name) (life : IsLife drives made before t) where
   abbrev own : Host
@@ -130,8 +136,14 @@ module _ (drives : Geometry) (name : List ℕ) (made : Image) (before : List Ran
   its_key = Local name
 
   module _ (first between : List Exchange) (write : Exchange) (volume : VolId) (number : ℕ) (old : List ℕ) (stood : exchanges_by name before ≡ first ++ write ∷ between) (acknowledged : IsAcknowledged volume number old write) where
+    abbrev writes : Writes volume number old write
+    writes = acknowledged.writes
+
+    abbrev blocks : List (List ℕ)
+    blocks = blocks_of writes.what
+
     abbrev deed : Deed
-    deed = Wrote its_key volume number (old ∷ [])
+    deed = Wrote its_key volume writes.at blocks
 
     line : IsLinedAt drives name write between all
     line = lined_at drives name first write between all (subst (λ (l : List Exchange). AreLined drives name l all) stood (lined drives name made before t sound of_table life))
@@ -141,12 +153,12 @@ module _ (drives : Geometry) (name : List ℕ) (made : Image) (before : List Ran
 
     its_told : IsToldAt deed line.own
     its_told =
-        let tells = deed_told drives name made before t sound of_table life write (Write volume number old) deed line.own (λ done acks. acks) acknowledged.asks replied in
+        let tells = deed_told drives name made before t sound of_table life write (Write volume writes.at writes.what) deed line.own (λ done acks. acks) writes.asks replied in
         told_at deed line.own tt (subst (λ (l : List Deed). Contains l deed) (sym tells) (contains_first deed []))
 
     -- where it was told, what came before, and behind
     abbrev event : Event
-    event = Acknowledges its_told.place its_key volume number (old ∷ [])
+    event = Acknowledges its_told.place its_key volume writes.at blocks
 
     abbrev front : List Event
     front = line.first ++ its_told.at.first
@@ -157,8 +169,8 @@ module _ (drives : Geometry) (name : List ℕ) (made : Image) (before : List Ran
     stands_so : all ≡ front ++ event ∷ rest
     stands_so = at_among event all line.first line.own line.later line.is its_told.at
 
-    -- the volume was there with the block
-    its_range : HasRange own.drives (history_after_all new_history front).databases its_key volume number 1
+    -- the volume was there with the blocks
+    its_range : HasRange own.drives (history_after_all new_history front).databases its_key volume writes.at (length blocks)
     its_range = (may_at own.drives new_history event all front rest stands_so (its_course drives name made before t sound of_table life)).0.1
 
     abbrev its_map : Map
@@ -175,7 +187,7 @@ module _ (drives : Geometry) (name : List ℕ) (made : Image) (before : List Ran
         let is : issued_by line.own ≡ issued_by a ++ issued_by b = ap issued_by its_told.at.is ∙ all_more begins a (event ∷ b) in
         let here : Contains (issued_by line.own) issue = subst (λ (l : List Deed). Contains l issue) (sym is) (Contains-append_right (issued_by a) (issued_by b) issue has) in
         let may = lets replied.ask ok_line issue (part_contains (issued_by line.own) (issuable replied.ask ok_line) issue replied.begins here) in
-        let asked = asked_at drives name made before t sound of_table life write ok_line (Write volume number old) line.own acknowledged.asks (ok_sated drives name made before t sound of_table life) replied in
+        let asked = asked_at drives name made before t sound of_table life write ok_line (Write volume writes.at writes.what) line.own writes.asks (ok_sated drives name made before t sound of_table life) replied in
         the_only deed issue (subst (λ (a : Ask). Contains (deeds a) issue) asked may.asked)
 
     -- a line behind it may have taken the database away, or no end of it began
@@ -194,32 +206,43 @@ module _ (drives : Geometry) (name : List ℕ) (made : Image) (before : List Ran
         elim (Contains-append_cases (issued_by its_told.at.later) (issued_by line.later) issue (subst (λ (l : List Deed). Contains l issue) (all_more begins its_told.at.later line.later) is.deed)) [
           | inl now ↦
               let same = own_issue issue now in
-              inl (ap significant (one_issue its_key volume number x is.at is.blocks old (sym (ap blocks_of same)) is.among is.value).1)
+              let parts : (writes.at, blocks) ≡ (is.at, is.blocks) = ap written_at same in
+              let one = one_issue its_key volume number x is.at is.blocks is.among is.value in
+              let numbered = one.numbered in
+              let first : writes.at ≡ is.at = ap (λ (p : ℕ × List (List ℕ)). p.0) parts in
+              let its_number = writes.numbered in
+              let place : one.place ≡ writes.place = omega (arith, numbered, first, its_number) in
+              let value : x ≡ old = one.value ∙ (λ i. slice_index_or ((sym parts) i).1 (place i) []) ∙ sym writes.value in
+              inl (ap significant value)
           | inr later ↦
               let came = lined_begins drives name between line.later line.of_between issue later in
-              let value = one_issue its_key volume number x is.at is.blocks came.2.0 came.2.1 is.among is.value in
-              inr (inl (came.0, came.2.0, came.1, subst (λ (n : ℕ). MayBeWritten volume n came.2.0 came.0) value.0 came.2.2, ap significant value.1))
+              let one = one_issue its_key volume number x is.at is.blocks is.among is.value in
+              let new = slice_index_or is.blocks one.place [] in
+              inr (inl (came.0, new, came.1, subst (λ (n : ℕ). MayBeWritten volume n new came.0) (sym one.numbered) (came.2 one.place one.within), ap significant one.value))
         ]
 
     -- where none did
     module _ (keep : KeepDatabase its_key rest) where
       its_tables : AreLasting own.drives Lies (log_of (history_after_all new_history all).databases its_key)
-      its_tables = range_found drives name made before t sound of_table life front (event ∷ rest) volume number 1 stands_so its_range keep
+      its_tables = range_found drives name made before t sound of_table life front (event ∷ rest) volume writes.at (length blocks) stands_so its_range keep
 
       -- the values that its block may have
       log_value : (x : List ℕ) → MayBe ((history_after_all new_history all).volumes its_key volume) number x → IsOrWasWritten volume number old between x
       log_value x may =
-          let here : number + 0 ≡ number = omega arith in
-          let lasts = (its drives name made before t sound of_table life).lasts front rest its_told.place its_key volume number (old ∷ []) stands_so keep in
-          let so : MayBe ((history_after_all new_history (front ++ event ∷ rest)).volumes its_key volume) (number + 0) x =
-          subst (λ (l : List Event). MayBe ((history_after_all new_history l).volumes its_key volume) (number + 0) x) stands_so (subst (λ (n : ℕ). MayBe ((history_after_all new_history all).volumes its_key volume) n x) (sym here) may) in
-          elim (lasts.lasts 0 x (omega arith) so) [
-            | inl same ↦ inl (ap significant same)
-            | inr later ↦ later_value x (issued_deed its_key volume number x rest (subst (λ (n : ℕ). Among (issued_to n (events_of its_key volume rest)) x) here later))
+          let lasts = (its drives name made before t sound of_table life).lasts front rest its_told.place its_key volume writes.at blocks stands_so keep in
+          let so : MayBe ((history_after_all new_history (front ++ event ∷ rest)).volumes its_key volume) (writes.at + writes.place) x =
+          subst (λ (l : List Event). MayBe ((history_after_all new_history l).volumes its_key volume) (writes.at + writes.place) x) stands_so (subst (λ (n : ℕ). MayBe ((history_after_all new_history all).volumes its_key volume) n x) writes.numbered may) in
+          elim (lasts.lasts writes.place x writes.within so) [
+            | inl same ↦ inl (ap significant (same ∙ sym writes.value))
+            | inr later ↦ later_value x (issued_deed its_key volume number x rest (subst (λ (n : ℕ). Among (issued_to n (events_of its_key volume rest)) x) (sym writes.numbered) later))
           ]
 
       its_blocks : number < its_map.blocks
-      its_blocks = let within = its_range.within in omega (arith, within)
+      its_blocks =
+          let within = its_range.within in
+          let below = writes.within in
+          let numbered = writes.numbered in
+          omega (arith, within, below, numbered)
 
       -- a table that a boot may find has it
       its_named : IsNamed own.drives (history_after_all new_history all).databases its_key volume its_map

@@ -67,9 +67,9 @@ module _ (calls : Outcomes) (host : Host) (kept next : Kept) (answer : Answer) w
   effect_never (AddPlaces slices force count blocks) is of = (let never : ⊥ = subst IsOfBoot is.0 of in never)
   effect_never (AddListed number force) is of = is
   effect_never (DropPlaces slices force) is of = (let never : ⊥ = subst IsOfBoot is.0 of in never)
-  effect_never (command.MakeStripe volume slice) is of = (let never : ⊥ = subst IsOfBoot is.0 of in never)
+  effect_never (command.Alter alteration) is of = (let never : ⊥ = subst IsOfBoot is.0 of in never)
   effect_never (Read volume at count) is of = (let never : ⊥ = subst IsOfBoot is.6 of in never)
-  effect_never (Write volume at block) is of = (let never : ⊥ = subst IsOfBoot is.3 of in never)
+  effect_never (Write volume at what) is of = (let never : ⊥ = subst IsOfBoot is.3 of in never)
   effect_never (Print names) is of = (let never : ⊥ = subst IsOfBoot is.3 of in never)
 
   gives_never : (cmd : Command) (over : Ended) → GivesUp calls host kept cmd over next → IsOfBoot (Ends over) → ⊥
@@ -79,16 +79,16 @@ module _ (calls : Outcomes) (host : Host) (kept next : Kept) (answer : Answer) w
   gives_never (AddPlaces slices force count blocks) (stop.NoQuorum readable needed) gives of = gives
   gives_never (AddListed number force) (stop.NoQuorum readable needed) gives of = gives
   gives_never (DropPlaces slices force) (stop.NoQuorum readable needed) gives of = gives
-  gives_never (command.MakeStripe volume slice) (stop.NoQuorum readable needed) gives of = gives
+  gives_never (command.Alter alteration) (stop.NoQuorum readable needed) gives of = gives
   gives_never (Read volume at count) (stop.NoQuorum readable needed) gives of = gives
-  gives_never (Write volume at block) (stop.NoQuorum readable needed) gives of = gives
+  gives_never (Write volume at what) (stop.NoQuorum readable needed) gives of = gives
   gives_never (Print names) (stop.NoQuorum readable needed) gives of = gives
   gives_never (AddPlaces slices force count blocks) (stop.TwoDatabases a b) gives of = gives
   gives_never (AddListed number force) (stop.TwoDatabases a b) gives of = gives
   gives_never (DropPlaces slices force) (stop.TwoDatabases a b) gives of = gives
-  gives_never (command.MakeStripe volume slice) (stop.TwoDatabases a b) gives of = gives
+  gives_never (command.Alter alteration) (stop.TwoDatabases a b) gives of = gives
   gives_never (Read volume at count) (stop.TwoDatabases a b) gives of = gives
-  gives_never (Write volume at block) (stop.TwoDatabases a b) gives of = gives
+  gives_never (Write volume at what) (stop.TwoDatabases a b) gives of = gives
   gives_never (Print names) (stop.TwoDatabases a b) gives of = gives
 
   came_never : (cmd : Command) → CameTo calls host kept cmd answer next → IsOfBoot answer → ⊥

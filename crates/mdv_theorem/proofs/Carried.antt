@@ -7,7 +7,7 @@ use Rattle.mdv_run_law.proofs.Meaning.{none_formed}
 use Rattle.mdv_shelf.specs.Everywhere.{Image}
 use Rattle.mdv_store.specs.Commit as commit
 use Rattle.mdv_store.specs.Create as create
-use Rattle.mdv_table.specs.declared.table.Table.{Table}
+use Rattle.mdv_plan.specs.declared.table.Table.{Table}
 use Rattle.mdv_run_law.specs.Below.{Entry}
 use Rattle.std.proofs.Common.{◌≡◌, inl, inr, ℕ, ◌+◌, Bool, true, false, List, Option, Some, None, MatchOption, Contains, refl, sym, ◌∙◌, ap, subst}
 use Rattle.std.specs.Bool.{MatchBool}
@@ -37,6 +37,8 @@ use Rattle.mdv_words.specs.Line.{IsInForm, IsLine, Line}
 use Rattle.mdv_words.specs.declared.command.Command.{Command}
 use Rattle.mdv_words.specs.declared.command.Command.TheVariants.{AddListed, AddPlaces, DropPlaces, Print, Read, Write}
 use Rattle.mdv_words.specs.declared.command.Command.TheVariants as command
+use Rattle.mdv_engine_law.specs.Altering.{table_by}
+use Rattle.mdv_theorem.proofs.Altered.{lists_by}
 use Rattle.mdv_theorem.proofs.Lines.{never_in}
 use Rattle.mdv_theorem.proofs.Sited.{added_own}
 
@@ -109,9 +111,9 @@ module _ (host : Host) (is_host : IsOfTable host) (calls : Outcomes) (P : Opened
   wanting_holds (AddPlaces slices force count blocks) holds left = wanting_more kept.memory.opened holds left.1
   wanting_holds (AddListed number force) holds left = absurd left
   wanting_holds (DropPlaces slices force) holds left = stays_holds holds left.4
-  wanting_holds (command.MakeStripe volume slice) holds left = stays_holds holds left.1
+  wanting_holds (command.Alter alteration) holds left = stays_holds holds left.2
   wanting_holds (Read volume at count) holds left = stays_holds holds left.1
-  wanting_holds (Write volume at block) holds left = absurd left
+  wanting_holds (Write volume at what) holds left = stays_holds holds left.2
   wanting_holds (Print names) holds left = stays_holds holds left.1
 
   more_holds : (slices : List SliceName) (force : Bool) (count blocks : ℕ) (opened : Option Opened) → HoldsAt kept → IsAllowed (case_of host kept) (AddPlaces slices force count blocks) → IsInForm (AddPlaces slices force count blocks) → kept.memory.opened ≡ opened
@@ -129,10 +131,10 @@ module _ (host : Host) (is_host : IsOfTable host) (calls : Outcomes) (P : Opened
   effect_holds (AddPlaces slices force count blocks) holds free form is = more_holds slices force count blocks kept.memory.opened holds free form refl is.1
   effect_holds (AddListed number force) holds free form is = absurd is
   effect_holds (DropPlaces slices force) holds free form is = less_holds slices is.1 (are_all is.1 slices) holds is.2 is.3
-  effect_holds (command.MakeStripe volume slice) holds free form is =
-      holds_open P next is.3.opened (ap (λ (m : Memory). m.opened) is.3.memory) (as_formed _ is.3.memory refl holds) (stay.changed is.1 is.3.opened _ refl (holds.held is.1 is.2) is.3.committed)
+  effect_holds (command.Alter alteration) holds free form is =
+      holds_open P next is.3.opened (ap (λ (m : Memory). m.opened) is.3.memory) (as_formed _ is.3.memory refl holds) (stay.changed is.1 is.3.opened (table_by host.drives alteration is.1.table) (lists_by host.drives alteration form is.1.table) (holds.held is.1 is.2) is.3.committed)
   effect_holds (Read volume at count) holds free form is = stays_holds holds is.7
-  effect_holds (Write volume at block) holds free form is = same_holds holds is.4
+  effect_holds (Write volume at what) holds free form is = same_holds holds is.4
   effect_holds (Print names) holds free form is = stays_holds holds is.4
 
   fault_more : (slices : List SliceName) (count blocks : ℕ) (opened : Option Opened) → HoldsAt kept
@@ -148,9 +150,9 @@ module _ (host : Host) (is_host : IsOfTable host) (calls : Outcomes) (P : Opened
   fault_holds (AddPlaces slices force count blocks) holds is = fault_more slices count blocks kept.memory.opened holds is
   fault_holds (AddListed number force) holds is = absurd is
   fault_holds (DropPlaces slices force) holds is = fault_less is.0 holds is.1 is.3
-  fault_holds (command.MakeStripe volume slice) holds is = absurd is
+  fault_holds (command.Alter alteration) holds is = absurd is
   fault_holds (Read volume at count) holds is = stays_holds holds is.1
-  fault_holds (Write volume at block) holds is = opened_holds (record kept.memory { unsteady = next.memory.unsteady }) is.1.beside refl refl holds
+  fault_holds (Write volume at what) holds is = opened_holds (record kept.memory { unsteady = next.memory.unsteady }) is.1.beside refl refl holds
   fault_holds (Print names) holds is = absurd is
 
   came_holds : (cmd : Command) → HoldsAt kept → IsInForm cmd → IsSaid answer → CameTo calls host kept cmd answer next → HoldsAt next

@@ -17,27 +17,29 @@ use Rattle.mdv_run_law.proofs.Extents.{SeesOwn}
 use Rattle.mdv_run_law.proofs.Placing.{off_or_there}
 use Rattle.mdv_status.specs.Values.{significant, values_reply}
 use Rattle.mdv_status.proofs.Apart.{values_are_told}
-use Rattle.mdv_table.specs.Slices.{IsSound}
-use Rattle.mdv_table.specs.declared.table.Table.{Table}
+use Rattle.mdv_config.specs.Slices.{IsSound}
+use Rattle.mdv_plan.specs.declared.table.Table.{Table}
 use Rattle.mdv_volumes.specs.Tables.{IsMapOf}
 use Rattle.mdv_volumes.proofs.Lists.{contains_behind, contains_first}
 use Rattle.mdv_words.specs.Line as words
 use Rattle.mdv_words.proofs.Lines.{one_line}
-use Rattle.mdv_words.specs.Line.{IsLine, Line}
+use Rattle.mdv_words.specs.Line.{IsLine, Line, blocks_of}
 use Rattle.mdv_words.specs.declared.command.Command.TheVariants.{Read, Write}
-use Rattle.mdv_theorem.specs.Exchanges.{Exchange, IsAcknowledged, IsSameBlock, IsTold, MayBeWritten, MayHaveBegun, TellsBlock}
+use Rattle.mdv_words.specs.declared.written.Written.{Written}
+use Rattle.mdv_volumes.proofs.Made.{map_stays}
+use Rattle.mdv_theorem.specs.Exchanges.{Exchange, IsAcknowledged, IsSameBlock, IsTold, MayBeWritten, MayHaveBegun, TellsBlock, Writes}
 use Rattle.mdv_theorem.proofs.Steps.{Between, Steps, no_step, one_step, skipped, told_once}
 use Rattle.mdv_theorem.proofs.Ends.{TakeDatabase}
 use Rattle.mdv_theorem.proofs.Kept.{keeps_or_takes}
-use Rattle.mdv_theorem.proofs.Tables.{IsCarried, Keeps, WroteThere, granted_done, keeps_idle, map_carried, open_keeps, text_kept}
+use Rattle.mdv_theorem.proofs.Tables.{IsCarried, Keeps, WroteThere, granted_done, keeps_idle, open_keeps, text_kept}
 use Rattle.mdv_theorem.proofs.Telling.{is_fault, ok_is_none, one_number}
 use Rattle.mdv_shelf.specs.Everywhere.{Image}
 use Rattle.mdv_shelf.specs.Tale.{Among}
 use Rattle.mdv_store.specs.Booting.{boot_area, has_written}
 use Rattle.mdv_store.specs.Opened.{Opened}
 use Rattle.mdv_shown.specs.Site.{site_area}
-use Rattle.mdv_theorem.proofs.Place.{BlockAt, Spot, at_place, block_at, one_value, same_block}
-use Rattle.mdv_theorem.proofs.Sure.{IsSure, sure_plan}
+use Rattle.mdv_theorem.proofs.Place.{BlockAt, Spot, at_place, block_at, same_block}
+use Rattle.mdv_theorem.proofs.Sure.{IsSure, sure_table}
 
 -- a write that was told ok, or that a call failed, may have begun
 may_have_begun : (one : Exchange) (answer : Answer) → IsTold one (text_of answer) → (answer ≡ accepted) ⊎ (answer ≡ refusing IoFault) → MayHaveBegun one
@@ -62,7 +64,7 @@ module _ (host : Host) (sound : IsSound host.drives) (sees : SeesOwn host) (volu
   Lies t = IsMapOf host.drives t volume v
 
   carried : IsCarried host.drives Lies
-  carried = map_carried host.drives volume v
+  carried = map_stays host.drives volume v
 
   abbrev drive : ℕ
   drive = at_it.drive
@@ -82,39 +84,39 @@ module _ (host : Host) (sound : IsSound host.drives) (sees : SeesOwn host) (volu
   abbrev IsLeft : Exchange → Kept → Kept → Type 0
   IsLeft one kept next = IsKept kept next ⊎ IsWritten one next
 
-  -- a write of a block of the open table, which may be this one
-  put_left : (one : Exchange) (answer : Answer) (from : Between host) (next : Kept) → Keeps host Lies from → IsTold one (text_of answer) → (other : VolId) (at : ℕ) (block : List ℕ) → IsLine one.text (words.Exec (Write other at block)) → (w : Map) → HasBlocks host from.kept.memory other at 1 w
-      → MayBePut w at (block ∷ []) from.kept.content next.content → (answer ≡ accepted) ⊎ (answer ≡ refusing IoFault) → IsLeft one from.kept next
-  put_left one answer from next keeps told other at block spelled w there put came = elim (off_or_there w at 1 drive spot) [
+  -- a write of blocks of the open table, among which this one may be
+  put_left : (one : Exchange) (answer : Answer) (from : Between host) (next : Kept) → Keeps host Lies from → IsTold one (text_of answer) → (other : VolId) (at : ℕ) (what : Written) → IsLine one.text (words.Exec (Write other at what)) → (w : Map)
+      → HasBlocks host from.kept.memory other at (length (blocks_of what)) w → MayBePut w at (blocks_of what) from.kept.content next.content → (answer ≡ accepted) ⊎ (answer ≡ refusing IoFault) → IsLeft one from.kept next
+  put_left one answer from next keeps told other at what spelled w there put came = elim (off_or_there w at (length (blocks_of what)) drive spot) [
     | inl off ↦ inl (put.elsewhere drive spot off)
     | inr (k, below, has) ↦
-        let plan = sure_plan host from.kept there.o from.sure there.opened in
+        let plan = sure_table host from.kept there.o from.sure there.opened in
         let lies = open_keeps host Lies from there.o keeps there.opened in
         let bound = there.within in
         let same = same_block host.drives sound there.o.table plan volume other v w b (at + k) drive spot lies there.lies at_it.within (omega (arith, below, bound)) (at_place v b at_it) has in
-        let number = same.1 in
+        let asks = subst (λ (x : VolId). IsLine one.text (words.Exec (Write x at what))) same.0 spelled in
         elim (put.here k drive spot below has) [
           | inl old ↦ inl old
           | inr new ↦ inr (record {
-            new = block;
-            may = record { asks = subst (λ (n : ℕ). IsLine one.text (words.Exec (Write volume n block))) (omega (arith, below, number)) (subst (λ (x : VolId). IsLine one.text (words.Exec (Write x at block))) same.0 spelled); begun = may_have_begun one answer told came };
-            reads = new ∙ one_value block k below;
+            new = slice_index_or (blocks_of what) k [];
+            may = record { writes = record { at = at; what = what; asks = asks; place = k; within = below; numbered = sym same.1; value = refl }; begun = may_have_begun one answer told came };
+            reads = new;
           })
         ]
   ]
 
   -- what a write leaves
-  write_left : (calls : Outcomes) (one : Exchange) (answer : Answer) (from : Between host) (next : Kept) → Keeps host Lies from → IsSaid answer → IsTold one (text_of answer) → (other : VolId) (at : ℕ) (block : List ℕ) → IsLine one.text (words.Exec (Write other at block))
-      → CameTo calls host from.kept (Write other at block) answer next → IsLeft one from.kept next
-  write_left calls one answer from next keeps said told other at block spelled (came.refused quiet r why left) = inl (left.1.content drive spot)
-  write_left calls one answer from next keeps said told other at block spelled (came.wanting quiet is wants) = absurd wants
-  write_left calls one answer from next keeps said told other at block spelled (came.done free (calm, w, there, ok, memory, put)) =
-      let plan = sure_plan host from.kept there.o from.sure there.opened in
+  write_left : (calls : Outcomes) (one : Exchange) (answer : Answer) (from : Between host) (next : Kept) → Keeps host Lies from → IsSaid answer → IsTold one (text_of answer) → (other : VolId) (at : ℕ) (what : Written) → IsLine one.text (words.Exec (Write other at what))
+      → CameTo calls host from.kept (Write other at what) answer next → IsLeft one from.kept next
+  write_left calls one answer from next keeps said told other at what spelled (came.refused quiet r why left) = inl (left.1.content drive spot)
+  write_left calls one answer from next keeps said told other at what spelled (came.wanting quiet is wants) = inl (wants.2.content drive spot)
+  write_left calls one answer from next keeps said told other at what spelled (came.done free (calm, w, there, ok, memory, put)) =
+      let plan = sure_table host from.kept there.o from.sure there.opened in
       let bound = there.within in
-      let places : (k : ℕ) → k < 1 → BlockAt w (at + k) = λ k below. block_at host.drives sound there.o.table plan other w (at + k) there.lies (omega (arith, below, bound)) in
-      put_left one answer from next keeps told other at block spelled w there (may_be_put w at (block ∷ []) from.kept.content next.content places put) (inl ok)
-  write_left calls one answer from next keeps said told other at block spelled (came.faulted free is (failed, unsettled, put)) = put_left one answer from next keeps told other at block spelled failed.map failed.there put (inr is)
-  write_left calls one answer from next keeps said told other at block spelled (came.over end free over gives) = absurd (let never : ⊥ = subst IsSaid over said in never)
+      let places : (k : ℕ) → k < length (blocks_of what) → BlockAt w (at + k) = λ k below. block_at host.drives sound there.o.table plan other w (at + k) there.lies (omega (arith, below, bound)) in
+      put_left one answer from next keeps told other at what spelled w there (may_be_put w at (blocks_of what) from.kept.content next.content places put) (inl ok)
+  write_left calls one answer from next keeps said told other at what spelled (came.faulted free is (failed, unsettled, put)) = put_left one answer from next keeps told other at what spelled failed.map failed.there put (inr is)
+  write_left calls one answer from next keeps said told other at what spelled (came.over end free over gives) = absurd (let never : ⊥ = subst IsSaid over said in never)
 
   -- what a line leaves
   line_left : (calls : Outcomes) (one : Exchange) (answer : Answer) (from mid : Between host) → Keeps host Lies from → IsAnswered calls host from.kept one.text answer mid.kept → IsSaid answer → IsTold one (text_of answer)
@@ -124,9 +126,9 @@ module _ (host : Host) (sound : IsSound host.drives) (sees : SeesOwn host) (volu
     | inr wrote ↦ by wrote comes
   ] where
     by : (w : WroteThere host from.kept.memory one.text from.sure.tale mid.sure.tale) → IsAnswered calls host from.kept one.text answer mid.kept → IsLeft one from.kept mid.kept
-    by w (inl (none, quiet, refused)) = absurd (none (words.Exec (Write w.volume w.at w.block)) w.spelled)
+    by w (inl (none, quiet, refused)) = absurd (none (words.Exec (Write w.volume w.at w.what)) w.spelled)
     by w (inr (inl (spelled, is, does))) =
-        write_left calls one answer from mid.kept keeps said told w.volume w.at w.block w.spelled (subst (λ (l : Line). ComesTo calls host from.kept l answer mid.kept) (one_line one.text spelled (words.Exec (Write w.volume w.at w.block)) is w.spelled) does)
+        write_left calls one answer from mid.kept keeps said told w.volume w.at w.what w.spelled (subst (λ (l : Line). ComesTo calls host from.kept l answer mid.kept) (one_line one.text spelled (words.Exec (Write w.volume w.at w.what)) is w.spelled) does)
     by w (inr (inr (quiet, refused))) = inl (refused.1.content drive spot)
 
   -- what a boot leaves: it writes but replicas
@@ -197,7 +199,7 @@ module _ (host : Host) (sound : IsSound host.drives) (calls : Outcomes) (kept ne
       let less = tells.within in
       let bound = there.within in
       let number_is = tells.numbered in
-      let plan = sure_plan host kept there.o sure there.opened in
+      let plan = sure_table host kept there.o sure there.opened in
       let place = block_at host.drives sound there.o.table plan volume v number there.lies (omega (arith, number_is, bound, less)) in
       let among = seen.each tells.place (omega (arith, less, many)) in
       let reads = one_reading v number place.drive place.block place.lies kept.content (slice_index_or blocks tells.place []) (subst (λ (n : ℕ). Among (readings v kept.content n) (slice_index_or blocks tells.place [])) (sym number_is) among) in
@@ -208,21 +210,24 @@ module _ (host : Host) (sound : IsSound host.drives) (calls : Outcomes) (kept ne
   told_block volume number block tells =
       values_told volume number block tells (granted_done host calls kept next one answer comes said told (Read volume tells.at (length tells.blocks)) tells.asks (tells.at, tells.blocks, tells.told)).1
 
-  block_written : (volume : VolId) (number : ℕ) (block : List ℕ) → Effect calls host kept (Write volume number block) answer next → IsWrittenTo host volume number block kept next
-  block_written volume number block (calm, v, there, ok, memory, put) =
+  block_written : (volume : VolId) (number : ℕ) (block : List ℕ) (writes : Writes volume number block one) → Effect calls host kept (Write volume writes.at writes.what) answer next → IsWrittenTo host volume number block kept next
+  block_written volume number block writes (calm, v, there, ok, memory, put) =
       let bound = there.within in
-      let first : number + 0 ≡ number = omega arith in
-      let plan = sure_plan host kept there.o sure there.opened in
-      let place = block_at host.drives sound there.o.table plan volume v number there.lies (omega (arith, bound)) in
+      let below = writes.within in
+      let numbered = writes.numbered in
+      let plan = sure_table host kept there.o sure there.opened in
+      let place = block_at host.drives sound there.o.table plan volume v number there.lies (omega (arith, bound, below, numbered)) in
       let reading = reads_there v number place.drive place.block place.lies next.content in
       record {
         o = there.o;
         opened = there.opened;
         memory = memory;
         spot = record { map = v; plan = plan; lies = there.lies; at = place };
-        reads = put.here 0 (next.content place.drive place.block) (omega arith) (subst (λ (n : ℕ). Among (readings v next.content n) (next.content place.drive place.block)) (sym first) reading);
+        reads = put.here writes.place (next.content place.drive place.block) below (subst (λ (n : ℕ). Among (readings v next.content n) (next.content place.drive place.block)) numbered reading) ∙ sym writes.value;
       }
 
   -- and a write that was acknowledged put it there
   pub acked_block : (volume : VolId) (number : ℕ) (block : List ℕ) → IsAcknowledged volume number block one → IsWrittenTo host volume number block kept next
-  acked_block volume number block acked = block_written volume number block (granted_done host calls kept next one answer comes said told (Write volume number block) acked.asks acked.told).1
+  acked_block volume number block acked =
+      let its = acked.writes in
+      block_written volume number block its (granted_done host calls kept next one answer comes said told (Write volume its.at its.what) its.asks acked.told).1

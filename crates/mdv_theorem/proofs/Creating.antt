@@ -21,8 +21,8 @@ use Rattle.mdv_run_law.proofs.Extents.{SeesOwn}
 use Rattle.mdv_shelf.specs.Failing.{Outcomes}
 use Rattle.mdv_store.specs.Create.{seats_asked}
 use Rattle.mdv_store.specs.Opened.{Opened}
-use Rattle.mdv_table.specs.Slices.{IsSound}
-use Rattle.mdv_table.specs.declared.plan.Lists.TheVariants.{One}
+use Rattle.mdv_config.specs.Slices.{IsSound}
+use Rattle.mdv_plan.specs.declared.lists.Lists.TheVariants.{One}
 use Rattle.mdv_words.proofs.Form.{commands_are_in_form}
 use Rattle.mdv_words.specs.declared.command.Command.TheVariants.{AddPlaces}
 use Rattle.mdv_theorem.specs.Exchanges.{Asks, Exchange, IsTold}

@@ -1,10 +1,10 @@
 -- A database that a line showed stays: no line of the host behind it is told that there is none, nor one that adds replicas that it needs force to make one.
 use Rattle.std.proofs.Common.{◌≡◌, ◌==◌, ℕ, Bool, true, false, not, ◌&&◌, ◌+◌, List, [], ◌++◌, Option, Some, None, All, refl, sym, ap, subst, arith, ◌∷◌, ◌*◌, ◌||◌, length}
 use Rattle.std.proofs.lemmas.List.Elements.{All-append, All-cons, All-nil}
-use Rattle.std.specs.List.{find, list_any}
+use Rattle.std.specs.List.{list_any}
 use Rattle.std.specs.Option.{is_some}
 use Rattle.std.specs.Prelude.{nat_lt}
-use Rattle.mdv_base.specs.Order.{order, where_so}
+use Rattle.mdv_base.specs.Order.{first_refusal, order, where_so}
 use Rattle.mdv_base.specs.Refusal.{number_of}
 use Rattle.mdv_base.specs.declared.refusal.Refusal.TheVariants.{NeedForce, NoDatabase, NoSuchPool, ReplicaFull, TooMany, TooSmall, WrongState, BadLine}
 use Rattle.mdv_base.specs.declared.state_word.StateWord.TheVariants.{Down}
@@ -13,16 +13,21 @@ use Rattle.mdv_words.specs.Listed.{as_listed}
 use Rattle.mdv_engine_law.specs.Below.{Place, StateWord}
 use Rattle.mdv_engine_law.specs.Places.{are_all, bytes_with, list_more, list_of, room_with}
 use Rattle.mdv_engine_law.specs.Commands.{case_of}
-use Rattle.mdv_engine_law.specs.Refusals.{Case, has_number, held_of_blocks, held_of_change, held_of_creation, held_of_print, held_of_read, held_past, held_of_drop, held_of_less, held_of_lists, held_of_others, in_state, is_plain, rest_of, state_of_less, names_no_volume, names_pool, refusal_of, size_of, held_of_replicas, is_doubled, is_missing, is_short, is_taken, places_open}
+use Rattle.mdv_engine_law.specs.Refusals.{Case, held_of_alteration, held_of_blocks, held_of_creation, held_of_print, held_of_transfer, held_past, held_of_drop, held_of_less, held_of_lists, held_of_others, in_state, is_plain, rest_of, state_of_less, names_no_volume, names_pool, refusal_of, held_of_replicas, is_doubled, is_missing, is_short, is_taken, places_open}
 use Rattle.mdv_engine_law.specs.Replies.{refusal_line, text_of}
 use Rattle.mdv_base.specs.declared.name.Named.{Named}
 use Rattle.mdv_name.specs.SliceIndex.{slice_at}
-use Rattle.mdv_run_law.specs.Below.{Command, Entry, AddListed, AddPlaces, DropPlaces, Replicas, listed_by, meant, MakeStripe, NoSuchSlice, NoSuchVolume, OutOfRange, Print, Read, Refusal, SliceInUse, SliceName, VolId, Volume, Write, WrongKind}
+use Rattle.mdv_run_law.specs.Below.{Command, Entry, AddListed, AddPlaces, Alter, DropPlaces, Replicas, listed_by, meant, NoSuchSlice, NoSuchVolume, OutOfRange, Print, Read, Refusal, SliceInUse, SliceName, VolId, Write, WrongKind}
 use Rattle.mdv_run_law.specs.Lives.{host_of}
-use Rattle.mdv_table.specs.declared.change.Change.TheVariants as change
+use Rattle.mdv_engine_law.specs.Altering.{change_of}
+use Rattle.mdv_map.specs.Maps.{Map}
+use Rattle.mdv_volumes.specs.Tables.{map_of}
+use Rattle.mdv_words.specs.Line.{blocks_of}
+use Rattle.mdv_words.specs.declared.command.Alteration.{Alteration}
+use Rattle.mdv_theorem.specs.Exchanges.{Asks, Exchange}
 use Rattle.mdv_theorem.specs.Observed.{DatabasesStay, HaveAnswered}
 use Rattle.mdv_theorem.specs.Words.{HasDatabase, MakesDatabase}
-use Rattle.mdv_theorem.proofs.Aside.{IsAside, change_aside, commanded, told_as, where_all}
+use Rattle.mdv_theorem.proofs.Aside.{IsAside, alteration_aside, commanded, told_as, where_all}
 use Rattle.mdv_theorem.proofs.Enduring.{database_open}
 use Rattle.mdv_theorem.proofs.Refused.{replicas_all}
 use Rattle.mdv_theorem.proofs.Starting.{starts}
@@ -76,9 +81,9 @@ module _ (n : ℕ) (its : is_of_none n ≡ true) where
     makes_refused entries (AddPlaces slices force count blocks) makes r is = more_refused slices force count blocks r is
     makes_refused entries (AddListed number force) makes r is = said_refused number force (listed_by entries number) r is
     makes_refused entries (DropPlaces slices force) makes r is = absurd makes
-    makes_refused entries (MakeStripe volume slice) makes r is = absurd makes
+    makes_refused entries (Alter alteration) makes r is = absurd makes
     makes_refused entries (Read volume at count) makes r is = absurd makes
-    makes_refused entries (Write volume at block) makes r is = absurd makes
+    makes_refused entries (Write volume at what) makes r is = absurd makes
     makes_refused entries (Print names) makes r is = absurd makes
 
 -- that number isn't NoDatabase's
@@ -107,38 +112,49 @@ drop_else case o slices force = (All-append IsElse (held_of_less case o slices f
     (less_else (list_any (is_missing case.host) slices) (list_any (λ slice. is_plain (slice_at case.host.drives.slices slice)) slices) (are_all o slices && not force) (state_of_less case o slices))
     (lists_else o (rest_of o slices)))
 
-past_else : (found : Option Volume) (end : ℕ) → All IsElse (held_past found end)
+past_else : (found : Option Map) (end : ℕ) → All IsElse (held_past found end)
 past_else None end = All-cons IsElse NoSuchVolume [] (omega arith) (All-nil IsElse)
-past_else (Some volume) end = where_all IsElse (nat_lt (size_of volume.kind) end) OutOfRange (omega arith)
+past_else (Some v) end = where_all IsElse (nat_lt v.blocks end) OutOfRange (omega arith)
+
+-- what an entry says is no change of volumes
+meant_alters : (entries : List Entry) (command : Command) (alteration : Alteration) → meant entries command ≡ Alter alteration → command ≡ Alter alteration
+meant_alters entries (AddListed number force) alteration same = absurd (by (listed_by entries number) same) where
+  by : (said : Option Replicas) → as_listed number force said ≡ Alter alteration → ⊥
+  by None is = cc is
+  by (Some r) is = cc is
+meant_alters entries (AddPlaces slices force count blocks) alteration same = same
+meant_alters entries (DropPlaces slices force) alteration same = same
+meant_alters entries (Alter other) alteration same = same
+meant_alters entries (Read volume at count) alteration same = same
+meant_alters entries (Write volume at what) alteration same = same
+meant_alters entries (Print names) alteration same = same
 
 -- and so is each command where a database is open
 module _ (case : Case) (o : Opened) (opened : case.memory.opened ≡ Some o) where
-  blocks_else : (volume : VolId) (end : ℕ) → All IsElse (held_of_blocks (Some o) volume end)
-  blocks_else volume end = past_else (find (has_number volume) o.table.plan.volumes) end
+  transfer_else : (volume : VolId) (at count : ℕ) → All IsElse (held_of_transfer case.host (Some o) volume at count)
+  transfer_else volume at count =
+      All-append IsElse (held_of_blocks case.host (Some o) volume (at + count)) (where_so (nat_lt 1024 count) TooMany) (past_else (map_of case.host.drives o.table volume) (at + count)) (where_all IsElse (nat_lt 1024 count) TooMany (omega arith))
 
-  read_else : (volume : VolId) (at count : ℕ) → All IsElse (held_of_read (Some o) volume at count)
-  read_else volume at count =
-      All-append IsElse (held_of_blocks (Some o) volume (at + count)) (where_so (nat_lt 1024 count) TooMany) (blocks_else volume (at + count)) (where_all IsElse (nat_lt 1024 count) TooMany (omega arith))
+  transfer_refused : (volume : VolId) (at count : ℕ) (r : Refusal) → first_refusal (held_of_transfer case.host case.memory.opened volume at count) ≡ Some r → IsElse r
+  transfer_refused volume at count r is =
+      first_holds IsElse order (held_of_transfer case.host case.memory.opened volume at count) r (subst (λ (p : Option Opened). All IsElse (held_of_transfer case.host p volume at count)) (sym opened) (transfer_else volume at count)) is
 
   print_else : (names : List Named) → All IsElse (held_of_print (Some o) names)
   print_else names =
-      let missing = list_any (names_no_volume o.table.plan.volumes) names in
+      let missing = list_any (names_no_volume o.table.plan) names in
       let pools = list_any names_pool names in
       All-append IsElse (where_so missing NoSuchVolume) (where_so pools NoSuchPool) (where_all IsElse missing NoSuchVolume (omega arith)) (where_all IsElse pools NoSuchPool (omega arith))
 
-  refused_else : (command : Command) (r : Refusal) → refusal_of case command ≡ Some r → IsElse r
-  refused_else (AddPlaces slices force count blocks) r is = more_refused 2 refl case o opened slices force count blocks r is
-  refused_else (AddListed number force) r is = listed_refused 2 refl case o opened number force r is
-  refused_else (DropPlaces slices force) r is = first_holds IsElse order (held_of_drop case case.memory.opened slices force) r (subst (λ (p : Option Opened). All IsElse (held_of_drop case p slices force)) (sym opened) (drop_else case o slices force)) is
-  refused_else (MakeStripe volume slice) r is =
-      let make = change.MakeStripe volume slice in
-      (first_holds IsAside order (held_of_change case.host case.memory.opened make) r
-      (subst (λ (p : Option Opened). All IsAside (held_of_change case.host p make)) (sym opened) (change_aside case.host o volume slice)) is).0
-  refused_else (Read volume at count) r is =
-      first_holds IsElse order (held_of_read case.memory.opened volume at count) r (subst (λ (p : Option Opened). All IsElse (held_of_read p volume at count)) (sym opened) (read_else volume at count)) is
-  refused_else (Write volume at block) r is =
-      first_holds IsElse order (held_of_blocks case.memory.opened volume (at + 1)) r (subst (λ (p : Option Opened). All IsElse (held_of_blocks p volume (at + 1))) (sym opened) (blocks_else volume (at + 1))) is
-  refused_else (Print names) r is = first_holds IsElse order (held_of_print case.memory.opened names) r (subst (λ (p : Option Opened). All IsElse (held_of_print p names)) (sym opened) (print_else names)) is
+  refused_else : (one : Exchange) (command : Command) → ((alteration : Alteration) → command ≡ Alter alteration → Asks one (Alter alteration)) → (r : Refusal) → refusal_of case command ≡ Some r → IsElse r
+  refused_else one (AddPlaces slices force count blocks) asks r is = more_refused 2 refl case o opened slices force count blocks r is
+  refused_else one (AddListed number force) asks r is = listed_refused 2 refl case o opened number force r is
+  refused_else one (DropPlaces slices force) asks r is = first_holds IsElse order (held_of_drop case case.memory.opened slices force) r (subst (λ (p : Option Opened). All IsElse (held_of_drop case p slices force)) (sym opened) (drop_else case o slices force)) is
+  refused_else one (Alter alteration) asks r is =
+      (first_holds IsAside order (held_of_alteration case.host case.memory.opened (change_of alteration)) r
+      (subst (λ (p : Option Opened). All IsAside (held_of_alteration case.host p (change_of alteration))) (sym opened) (alteration_aside case.host o one alteration (asks alteration refl))) is).0
+  refused_else one (Read volume at count) asks r is = transfer_refused volume at count r is
+  refused_else one (Write volume at what) asks r is = transfer_refused volume at (length (blocks_of what)) r is
+  refused_else one (Print names) asks r is = first_holds IsElse order (held_of_print case.memory.opened names) r (subst (λ (p : Option Opened). All IsElse (held_of_print p names)) (sym opened) (print_else names)) is
 
 -- nor NeedForce's, nor WrongState's
 abbrev forced_number : ℕ → Type 0
@@ -157,7 +173,8 @@ databases_stay drives name before script of_table run one earlier command answer
       λ told.
           let at = reached_from run starts_so.of answered.here answered.later one (refusal_line NoDatabase) answered.is told in
           let there = database_open drives name before script sound of_table run starts_so answered.here one at calm shown in
-          let other : IsElse NoDatabase = told_as IsElseNumber (omega arith) (omega arith) at.calls its_host at.kept at.next command (refused_else (case_of its_host at.kept) there.0 there.1 (meant at.kept.memory.entries command)) at.answer at.said NoDatabase
+          let other : IsElse NoDatabase = told_as IsElseNumber (omega arith) (omega arith) at.calls its_host at.kept at.next command (refused_else (case_of its_host at.kept) there.0 there.1 one (meant at.kept.memory.entries command)
+          (λ alteration same. subst (Asks one) (meant_alters at.kept.memory.entries command alteration same) asks)) at.answer at.said NoDatabase
           (told_once one (text_of at.answer) (refusal_line NoDatabase) at.told told) (commanded at.calls its_host at.kept at.next one.text command at.answer asks at.comes) in
           other refl,
       λ makes told.

@@ -56,9 +56,9 @@ module _ (host : Host) (is_host : IsOfTable host) (calls : Outcomes) (kept next 
   effect_end (AddPlaces slices force count blocks) is = ok_end is.0
   effect_end (AddListed number force) is = absurd is
   effect_end (DropPlaces slices force) is = ok_end is.0
-  effect_end (command.MakeStripe volume slice) is = ok_end is.0
+  effect_end (command.Alter alteration) is = ok_end is.0
   effect_end (Read volume at count) is = subst IsEnd (sym is.6) tt
-  effect_end (Write volume at block) is = ok_end is.3
+  effect_end (Write volume at what) is = ok_end is.3
   effect_end (Print names) is = subst IsEnd (sym is.3) tt
 
   -- a change of places of what is open
@@ -87,27 +87,27 @@ module _ (host : Host) (is_host : IsOfTable host) (calls : Outcomes) (kept next 
   never_short (AddPlaces slices force count blocks) readable needed gives = gives
   never_short (AddListed number force) readable needed gives = gives
   never_short (DropPlaces slices force) readable needed gives = gives
-  never_short (command.MakeStripe volume slice) readable needed gives = gives
+  never_short (command.Alter alteration) readable needed gives = gives
   never_short (Read volume at count) readable needed gives = gives
-  never_short (Write volume at block) readable needed gives = gives
+  never_short (Write volume at what) readable needed gives = gives
   never_short (Print names) readable needed gives = gives
 
   never_two : (cmd : Command) (a b : Identity) → GivesUp calls host kept cmd (stop.TwoDatabases a b) next → ⊥
   never_two (AddPlaces slices force count blocks) a b gives = gives
   never_two (AddListed number force) a b gives = gives
   never_two (DropPlaces slices force) a b gives = gives
-  never_two (command.MakeStripe volume slice) a b gives = gives
+  never_two (command.Alter alteration) a b gives = gives
   never_two (Read volume at count) a b gives = gives
-  never_two (Write volume at block) a b gives = gives
+  never_two (Write volume at what) a b gives = gives
   never_two (Print names) a b gives = gives
 
   gives_end : (cmd : Command) (end : Ended) → HoldsAt kept → IsAllowed (case_of host kept) cmd → IsInForm cmd → GivesUp calls host kept cmd end next → IsEnd (Ends end)
   gives_end (AddPlaces slices force count blocks) (stop.Lost active listed) holds free form gives = lost_places slices force count blocks active listed kept.memory.opened holds free form refl gives
   gives_end (DropPlaces slices force) (stop.Lost active listed) holds free form gives = lost_less slices force active listed holds free gives.0 gives.1 gives.2
-  gives_end (command.MakeStripe volume slice) (stop.Lost active listed) holds free form gives = lost_change host is_host calls gives.0 _ active listed (holds.held gives.0 gives.1) gives.2.lost
+  gives_end (command.Alter alteration) (stop.Lost active listed) holds free form gives = lost_change host is_host calls gives.0 _ active listed (holds.held gives.0 gives.1) gives.2.lost
   gives_end (AddListed number force) (stop.Lost active listed) holds free form gives = absurd gives
   gives_end (Read volume at count) (stop.Lost active listed) holds free form gives = absurd gives
-  gives_end (Write volume at block) (stop.Lost active listed) holds free form gives = absurd gives
+  gives_end (Write volume at what) (stop.Lost active listed) holds free form gives = absurd gives
   gives_end (Print names) (stop.Lost active listed) holds free form gives = absurd gives
   gives_end cmd (stop.NoQuorum readable needed) holds free form gives = absurd (never_short cmd readable needed gives)
   gives_end cmd (stop.TwoDatabases a b) holds free form gives = absurd (never_two cmd a b gives)

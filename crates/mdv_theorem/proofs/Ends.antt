@@ -52,9 +52,9 @@ takes_away : (volume : VolId) (its : Command) → TakesDatabase its → TakesAwa
 takes_away volume (command.AddPlaces slices force count blocks) takes = takes
 takes_away volume (command.AddListed number force) takes = takes
 takes_away volume (command.DropPlaces slices force) takes = takes
-takes_away volume (command.MakeStripe other slice) takes = takes
+takes_away volume (command.Alter alteration) takes = takes
 takes_away volume (command.Read other at count) takes = takes
-takes_away volume (command.Write other at block) takes = takes
+takes_away volume (command.Write other at what) takes = takes
 takes_away volume (command.Print names) takes = takes
 
 pub taken_away : (volume : VolId) (one : Exchange) → MayTakeDatabase one → MayTakeAway volume one

@@ -13,8 +13,7 @@ use Rattle.mdv_run_law.specs.Lives.{IsHistoryOf, Ran, host_of}
 use Rattle.mdv_run_law.specs.Run.{started}
 use Rattle.mdv_store.specs.Opened.{Opened}
 use Rattle.mdv_words.specs.declared.command.Command.{Command}
-use Rattle.mdv_words.specs.declared.command.Command.TheVariants.{AddListed, AddPlaces, DropPlaces, MakeStripe, Print, Read, Write}
-use Rattle.mdv_volumes.proofs.Maps.{found_as, found_has}
+use Rattle.mdv_words.specs.declared.command.Command.TheVariants.{AddListed, AddPlaces, Alter, DropPlaces, Print, Read, Write}
 use Rattle.mdv_theorem.specs.Exchanges.{Exchange, IsOn, exchanges_by}
 use Rattle.mdv_theorem.specs.Observed.{HaveAnswered, MostAnswered, VolumesStay}
 use Rattle.mdv_theorem.specs.Running.{AllAnswered, Running}
@@ -37,9 +36,9 @@ on_needs : (volume : VolId) (command : Command) → IsOn volume command → Need
 on_needs volume (AddPlaces slices force count blocks) on = tt
 on_needs volume (AddListed number force) on = tt
 on_needs volume (DropPlaces slices force) on = absurd on
-on_needs volume (MakeStripe other slice) on = tt
+on_needs volume (Alter alteration) on = tt
 on_needs volume (Read other at count) on = tt
-on_needs volume (Write other at block) on = tt
+on_needs volume (Write other at what) on = tt
 on_needs volume (Print names) on = tt
 
 -- so where a volume is there its database is
@@ -163,7 +162,6 @@ volumes_stay drives name before script of_table run one earlier volume command a
     let at = reached_from run starts_so.of answered.here answered.later one (refusal_line refusal) answered.is told in
     let there = it_stays drives name before script sound of_table run starts_so answered.here one at (subst (HaveAnswered run) answered.behind calm) volume (subst (IsThere volume) answered.behind is_there) in
     let its_host = host_of drives name run.fresh in
-    let found = found_as its_host.drives there.o.table volume there.so.0 there.so.1 in
-    let aside : IsAside refusal = told_aside at.calls its_host at.kept at.next there.o there.opened volume found.of found.found (found_has there.o.table.plan volume found.of found.found) command about at.answer at.said refusal
+    let aside : IsAside refusal = told_aside at.calls its_host at.kept at.next there.o there.opened volume there.so.0 there.so.1 one command asks about at.answer at.said refusal
     (told_once one (text_of at.answer) (refusal_line refusal) at.told told) (commanded at.calls its_host at.kept at.next one.text command at.answer asks at.comes) in
     (λ no_database. aside.0 (ap number_of no_database), λ no_volume. aside.1 (ap number_of no_volume))

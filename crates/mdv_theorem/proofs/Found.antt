@@ -1,8 +1,6 @@
 -- What each table has that a boot may find at the start of a run, behind the earlier ones: a volume of which a line was told that it was made.
-use Rattle.std.proofs.Common.{◌≡◌, inl, inr, ℕ, Bool, List, [], ◌∷◌, ◌++◌, Option, Some, if◌then◌else◌, Contains, refl, sym, ◌∙◌, ap, subst}
-use Rattle.std.proofs.lemmas.List.Elements.{Contains-append_left}
+use Rattle.std.proofs.Common.{◌≡◌, inl, inr, ℕ, Bool, List, [], ◌∷◌, ◌++◌, Option, if◌then◌else◌, Contains, refl, sym, ◌∙◌, ap, subst}
 use Rattle.std.proofs.lemmas.Slice.Eq.{bytes_eq-Decides}
-use Rattle.mdv_base.specs.declared.drive.SliceName.{SliceName}
 use Rattle.mdv_base.specs.declared.name.Key.{Key}
 use Rattle.mdv_base.specs.declared.name.Key.TheVariants.{Local}
 use Rattle.mdv_base.specs.declared.name.VolId.{VolId}
@@ -14,43 +12,29 @@ use Rattle.mdv_name.specs.declared.geometry.Geometry.{Geometry}
 use Rattle.mdv_run_law.specs.Lives.{BlocksAre, IsLife, Ran}
 use Rattle.mdv_run_law.specs.Standing.{IsWanting}
 use Rattle.mdv_run_law.proofs.Coming.{no_ok, one_asked}
-use Rattle.mdv_run_law.proofs.Deeds.{deed_has}
 use Rattle.mdv_run_law.proofs.Living.{blocks_hold}
 use Rattle.mdv_shelf.specs.Everywhere.{Image}
 use Rattle.mdv_shelf.specs.Tale.{Tale}
-use Rattle.mdv_store_law.specs.Changes.{Change, OfPlan}
-use Rattle.mdv_store_law.specs.Log as log
-use Rattle.mdv_store_law.specs.Log.{AreMade, IsLog, IsMade, Log, Version}
+use Rattle.mdv_store_law.specs.Log.{IsLog, Log}
 use Rattle.mdv_store_law.proofs.Logs.{empty_is_log}
-use Rattle.mdv_store_law.proofs.Machine.{after_more, all_more}
-use Rattle.mdv_table.specs.Slices.{IsSound}
-use Rattle.mdv_table.specs.declared.change.Change.TheVariants.{MakeStripe}
-use Rattle.mdv_table.specs.declared.table.Table.{Table}
+use Rattle.mdv_store_law.proofs.Machine.{after_more}
+use Rattle.mdv_config.specs.Slices.{IsSound}
 use Rattle.mdv_volumes.specs.Databases.{log_of}
-use Rattle.mdv_volumes.specs.Happening.{HasRange, IsCourse, MayHappen, deed_of, tells, told_by}
-use Rattle.mdv_volumes.specs.History.{Changed, Deed, Event, History, history_after, history_after_all}
-use Rattle.mdv_volumes.specs.HistoryLaws.{KeepDatabase, log_events_of, new_history}
+use Rattle.mdv_volumes.specs.Happening.{HasRange, IsCourse, MayHappen, told_by}
+use Rattle.mdv_volumes.specs.History.{Deed, Event, History, history_after, history_after_all}
+use Rattle.mdv_volumes.specs.HistoryLaws.{KeepDatabase, new_history}
 use Rattle.mdv_volumes.specs.Tables.{IsMapOf}
 use Rattle.mdv_volumes.proofs.Databases.{is_log_of}
-use Rattle.mdv_volumes.proofs.Ending.{none_begins}
 use Rattle.mdv_volumes.proofs.Found.{AreLasting}
-use Rattle.mdv_volumes.proofs.Keys.{databases_live}
 use Rattle.mdv_volumes.proofs.Lasting.{still_logs}
-use Rattle.mdv_volumes.proofs.Lists.{contains_first, course_front, course_rest}
+use Rattle.mdv_volumes.proofs.Lists.{course_front, course_rest}
 use Rattle.mdv_words.specs.Line.{Exec}
 use Rattle.mdv_words.specs.declared.command.Command.{Command}
-use Rattle.mdv_words.specs.declared.command.Command.TheVariants as command
 use Rattle.mdv_theorem.specs.Exchanges.{Asks, Exchange, IsTold, exchanges_by}
 use Rattle.mdv_theorem.specs.Words.{KeepsDatabase}
-use Rattle.mdv_theorem.proofs.Changes.{HasStripe, made_has}
 use Rattle.mdv_theorem.proofs.Lined.{AreLined, AreOfReply, AreReplied, IsLinedAt, host, lined_at, lined_lives, runs_lined}
 use Rattle.mdv_theorem.proofs.Lines.{never_in}
 use Rattle.mdv_theorem.proofs.Ranges.{range_lasts}
-use Rattle.mdv_theorem.proofs.Tellings.{HasChange, HasTold, change_stays, told_lasts}
-
--- what is so of each table makes so what follows from it
-pub lasting_weaker : (g : Geometry) (P Q : Table → Type 0) → ((table : Table) → P table → Q table) → (lg : Log) → AreLasting g P lg → AreLasting g Q lg
-lasting_weaker g P Q weaker lg are = record { is_log = are.is_log; lives = are.lives; firm = are.firm; all = λ v found. weaker v.table (are.all v found) }
 
 module _ (drives : Geometry) (name : List ℕ) (made : Image) (before : List Ran) (t : Tale) (sound : IsSound drives) (of_table : Contains drives.hosts name) (life : IsLife drives made before t) where
   abbrev own : Host
@@ -121,42 +105,3 @@ module _ (drives : Geometry) (name : List ℕ) (made : Image) (before : List Ran
   deed_told one spelled deed here is asks are =
       let acks : AcksBy (ToDo deed) ok_line are.done = is are.done (subst (λ (a : Ask). AcksBy a ok_line are.done) (asked_at one ok_line spelled here asks ok_sated are) are.acks) in
       are.tells ∙ acks ∙ ap (λ (ok : Bool). if ok then deed ∷ [] else []) ((bytes_eq-Decides ok_line ok_line).1 refl)
-
-  -- A deed that a line was told `ok` for, a creation or a change, as each table has it that a boot may find.
-  module _ (front behind : List Exchange) (one : Exchange) (parts : exchanges_by name before ≡ front ++ one ∷ behind) (keeps : KeepsDatabase (one ∷ behind)) (told : IsTold one ok_line) where
-    abbrev line : IsLinedAt drives name one behind es
-    line = line_at front behind one parts ok_line told
-
-    abbrev there : History
-    there = history_after_all new_history line.first
-
-    abbrev rest : List Event
-    rest = line.own ++ line.later
-
-    rest_course : IsCourse own.drives there rest
-    rest_course = course_rest history_after (MayHappen own.drives) new_history line.first rest (subst (IsCourse own.drives new_history) line.is its_course)
-
-    front_logs : IsLog own.drives (log_of there.databases own_key)
-    front_logs = still_logs own.drives new_history line.first (course_front history_after (MayHappen own.drives) new_history line.first rest (subst (IsCourse own.drives new_history) line.is its_course)) (λ k. empty_is_log own.drives) own_key
-
-    now_is : now ≡ history_after_all there rest
-    now_is = ap (history_after_all new_history) line.is ∙ after_more history_after new_history line.first rest
-
-    module _ (P : Table → Type 0) (stays : (asked : Option Change) (old next : Table) → IsMade own.drives asked old next → P old → P next) (asked : Option Change)
-        (so : (v : Version) → AreMade own.drives v.changes v.table → HasTold asked v → P v.table) where
-      pub deed_lasts : Contains (told_by line.own) (deed_of own_key asked) → AreLasting own.drives P database
-      deed_lasts has =
-          let key = own_key in
-          let told_it : Contains (told_by rest) (deed_of key asked) = subst (λ (l : List Deed). Contains l (deed_of key asked)) (sym (all_more tells line.own line.later)) (Contains-append_left (told_by line.own) (told_by line.later) (deed_of key asked) has) in
-          let in_log : Contains (log.told_by (log_events_of key rest)) asked = subst (λ (l : List (Option Change)). Contains l asked) (sym (databases_live.tells key rest)) (deed_has key (told_by rest) asked told_it) in
-          subst (λ (h : History). AreLasting own.drives P (log_of h.databases key)) (sym now_is)
-          (subst (AreLasting own.drives P) (sym (databases_live.is key own.drives there rest rest_course))
-          (told_lasts own.drives P stays asked so (log_of there.databases key) (log_events_of key rest) front_logs (databases_live.may key own.drives there rest rest_course) (none_begins key rest (rest_keeps front behind one parts ok_line told keeps)) in_log))
-
-    -- a volume that was told to be made is in each, on the slice that was named
-    pub stripe_lasts : (volume : VolId) (slice : SliceName) → Asks one (command.MakeStripe volume slice) → AreLasting own.drives (HasStripe own.drives volume slice) database
-    stripe_lasts volume slice asks =
-        let change = OfPlan (MakeStripe volume slice) in
-        let tells_it = deed_told one (command.MakeStripe volume slice) (Changed own_key change) line.own (λ done acks. acks) asks (replied front behind one parts ok_line told) in
-        let all = deed_lasts (HasChange own.drives change) (change_stays own.drives change) (Some change) (λ v made has. (v.changes, made, has)) (subst (λ (l : List Deed). Contains l (Changed own_key change)) (sym tells_it) (contains_first (Changed own_key change) [])) in
-        lasting_weaker own.drives (HasChange own.drives change) (HasStripe own.drives volume slice) (λ table made. made_has own.drives made.0 table volume slice made.1 made.2) database all

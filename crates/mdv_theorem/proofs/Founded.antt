@@ -25,7 +25,7 @@ use Rattle.mdv_shelf.specs.Tale.{Tale}
 use Rattle.mdv_shelf.specs.Tale as tale
 use Rattle.mdv_status.specs.Telling.{replies_in}
 use Rattle.mdv_store_law.specs.Laws.{restarted}
-use Rattle.mdv_table.specs.Slices.{IsSound}
+use Rattle.mdv_config.specs.Slices.{IsSound}
 use Rattle.mdv_volumes.specs.History.{History, history_after_all}
 use Rattle.mdv_words.specs.declared.command.Command.TheVariants.{AddPlaces}
 use Rattle.mdv_theorem.specs.Exchanges.{Asks, Exchange, IsTold, exchanges, exchanges_by, exchanges_of}

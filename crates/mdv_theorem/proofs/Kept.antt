@@ -6,7 +6,7 @@ use Rattle.mdv_engine_law.specs.declared.host.Host.{Host}
 use Rattle.mdv_engine_law.proofs.Going.{may_course}
 use Rattle.mdv_store_law.specs.Log.{Log}
 use Rattle.mdv_store_law.specs.Machine as machine
-use Rattle.mdv_table.specs.declared.table.Table.{Table}
+use Rattle.mdv_plan.specs.declared.table.Table.{Table}
 use Rattle.mdv_volumes.specs.Databases.{log_of}
 use Rattle.mdv_volumes.specs.Happening.{IsCourse, issued_by}
 use Rattle.mdv_volumes.specs.History.{Deleted, Event, History, history_after, history_after_all}
@@ -20,7 +20,7 @@ use Rattle.mdv_theorem.specs.Words.{MayTakeDatabase}
 use Rattle.mdv_theorem.proofs.Ends.{TakeDatabase, ends_or_keeps}
 use Rattle.mdv_theorem.proofs.Leading.{IsLed, led_begins}
 use Rattle.mdv_theorem.proofs.Steps.{Between, Steps, no_step, one_step, skipped}
-use Rattle.mdv_theorem.proofs.Tables.{IsCarried, Keeps, carried_made, keeps_idle}
+use Rattle.mdv_theorem.proofs.Tables.{IsCarried, Keeps, keeps_idle}
 
 module _ (host : Host) (P : Table → Type 0) (carried : IsCarried host.drives P) where
   -- over events by which no end of it begins
@@ -29,7 +29,7 @@ module _ (host : Host) (P : Table → Type 0) (carried : IsCarried host.drives P
       let key = key_of host in
       let may : IsCourse host.drives h es = may_course host h es course in
       subst (λ (lg : Log). AreLasting host.drives P lg) (sym (databases_live.is key host.drives h es may))
-      (lasting_all host.drives P (carried_made host.drives P carried) (log_of h.databases key) (log_events_of key es) (databases_live.may key host.drives h es may) (none_begins key es keep) are)
+      (lasting_all host.drives P carried (log_of h.databases key) (log_events_of key es) (databases_live.may key host.drives h es may) (none_begins key es keep) are)
 
   -- over a line that was answered
   pub keeps_or_takes : (one : Exchange) (from mid : Between host) → IsLed host one from.sure.history mid.sure.history → Keeps host P from → MayTakeDatabase one ⊎ Keeps host P mid

@@ -12,6 +12,7 @@ use Rattle.mdv_run_law.specs.Run.{started}
 use Rattle.mdv_status.specs.Values.{significant, values_reply}
 use Rattle.mdv_volumes.specs.Tables.{IsMapOf}
 use Rattle.mdv_volumes.proofs.Maps.{same_map}
+use Rattle.mdv_volumes.proofs.Made.{map_stays}
 use Rattle.mdv_theorem.specs.Exchanges.{Exchange, IsAcknowledged, IsSameBlock, MayBeWritten, TellsBlock, exchanges_by}
 use Rattle.mdv_theorem.specs.Observed.{WritesLast}
 use Rattle.mdv_theorem.specs.Running.{Running}
@@ -27,7 +28,7 @@ use Rattle.mdv_theorem.proofs.Parting.{in_first, in_second, parts}
 use Rattle.mdv_theorem.proofs.Place.{BlockAt, spot_beside}
 use Rattle.mdv_theorem.proofs.Staying.{KeepsAtFirst, first_keeps, its_sound, passed}
 use Rattle.mdv_theorem.proofs.Steps.{Between, Failed, Reached, Steps, reached}
-use Rattle.mdv_theorem.proofs.Tables.{Keeps, keeps_open, map_carried, open_keeps}
+use Rattle.mdv_theorem.proofs.Tables.{Keeps, keeps_open, open_keeps}
 use Rattle.mdv_shown.specs.Site.{site_area}
 
 -- a block that has a value, or one that a line may have written, is told so
@@ -79,7 +80,7 @@ module _ (drives : Geometry) (name : List ℕ) (before : List Ran) (script : Scr
       then_value (inr (one, new, has, may, reads)) = was_told volume number old block (at.kept.content place.drive place.block) (lines ++ es) its_value (more_before volume number old (at.kept.content place.drive place.block) lines es one new has may reads)
 
     last_value : IsOrWasWritten volume number old (lines ++ es) block
-    last_value = elim (keeps_over host (Lies v) (map_carried host.drives volume v) (Failed run) mid last es keeps steps) [
+    last_value = elim (keeps_over host (Lies v) (map_stays host.drives volume v) (Failed run) mid last es keeps steps) [
       | inl takes ↦ taken_or volume number old (lines ++ es) block (take_behind lines es takes)
       | inr now ↦ elim (content_steps host own refl volume v number place out (Failed run) mid last es keeps steps) [
         | inl takes ↦ taken_or volume number old (lines ++ es) block (take_behind lines es takes)
@@ -105,7 +106,7 @@ module _ (drives : Geometry) (name : List ℕ) (before : List Ran) (script : Scr
     begun = record { kept = at.first; sure = at.first_sure }
 
     booted_so : Keeps host (Lies v) begun
-    booted_so = first_keeps drives name before script sound of_table run (its_start run of_table) here read at (Lies v) (map_carried host.drives volume v) lasts
+    booted_so = first_keeps drives name before script sound of_table run (its_start run of_table) here read at (Lies v) (map_stays host.drives volume v) lasts
 
     -- there it is read
     same : Keeps host (Lies v) last → v ≡ told.spot.map
@@ -113,7 +114,7 @@ module _ (drives : Geometry) (name : List ℕ) (before : List Ran) (script : Scr
 
     -- what earlier runs left in the block, or a line before the read may have written
     pub since_began : (rest : List Exchange) (old : List ℕ) → (v ≡ told.spot.map → IsOrWasWritten volume number old rest (contents run.t.tale told.spot.at.drive told.spot.at.block)) → IsOrWasWritten volume number old (rest ++ here) block
-    since_began rest old was = elim (keeps_over host (Lies v) (map_carried host.drives volume v) (Failed run) begun last here booted_so at.steps) [
+    since_began rest old was = elim (keeps_over host (Lies v) (map_stays host.drives volume v) (Failed run) begun last here booted_so at.steps) [
       | inl takes ↦ taken_or volume number old (rest ++ here) block (take_behind rest here takes)
       | inr now ↦
           let is = same now in

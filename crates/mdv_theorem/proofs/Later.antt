@@ -21,7 +21,7 @@ use Rattle.mdv_store.specs.Opened.{Opened}
 use Rattle.mdv_store_law.specs.Log.{IsRising, Log, Version}
 use Rattle.mdv_store_law.specs.Machine as machine
 use Rattle.mdv_store_law.proofs.Machine.{after_more, course_more}
-use Rattle.mdv_table.specs.declared.table.Table.{Table}
+use Rattle.mdv_plan.specs.declared.table.Table.{Table}
 use Rattle.mdv_volumes.specs.Databases.{log_of}
 use Rattle.mdv_volumes.specs.Happening as happening
 use Rattle.mdv_volumes.specs.History.{Crashes, Event, History, Stops, history_after, history_after_all}

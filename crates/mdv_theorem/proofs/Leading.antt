@@ -15,7 +15,7 @@ use Rattle.mdv_store_law.specs.Changes.{Change}
 use Rattle.mdv_store_law.specs.Log.{IsAskable, IsMade, Issue, Log, OfChange, OfCreation, OfEnd, OfPlaces}
 use Rattle.mdv_store_law.specs.Machine as machine
 use Rattle.mdv_store_law.specs.Machine.{AreAll}
-use Rattle.mdv_table.specs.declared.table.Table.{Table}
+use Rattle.mdv_plan.specs.declared.table.Table.{Table}
 use Rattle.mdv_volumes.specs.Databases.{log_of, same_key}
 use Rattle.mdv_volumes.specs.Happening.{IsCourse, issued_by}
 use Rattle.mdv_volumes.specs.History.{Changed, Created, Deed, Deleted, Event, History, Saw, Wrote, history_after, history_after_all}

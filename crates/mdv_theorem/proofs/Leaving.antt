@@ -1,9 +1,10 @@
 -- What a line leaves in a block of a volume, behind a crash too: what was left there before, or what the line may have written.
-use Rattle.std.proofs.Common.{◌≡◌, ◌⊎◌, ⊎_elim, inl, inr, ℕ, ◌+◌, false, List, [], ◌∷◌, ◌++◌, Contains, Some, refl, sym, ◌∙◌, subst, arith}
+use Rattle.std.proofs.Common.{◌≡◌, ◌⊎◌, ⊎_elim, inl, inr, ℕ, ◌+◌, false, List, [], ◌∷◌, ◌++◌, length, slice_index_or, Contains, Some, refl, sym, ◌∙◌, subst, arith}
 use Rattle.std.proofs.lemmas.List.Elements.{Contains-append_left, Contains-append_right}
 use Rattle.mdv_base.specs.declared.name.VolId.{VolId}
 use Rattle.mdv_base.specs.declared.refusal.Refusal.{Refusal}
 use Rattle.mdv_base.specs.declared.refusal.Refusal.TheVariants.{IoFault}
+use Rattle.mdv_engine_law.specs.Altering.{change_of}
 use Rattle.mdv_engine_law.specs.Line.{HasBlocks, Memory, asked_by}
 use Rattle.mdv_engine_law.specs.Replies.{IsPlainAnswer, ok_line, refusal_line, text_of}
 use Rattle.mdv_engine_law.specs.Standing.{ArePutBy, LineWrites, WritesOnly}
@@ -18,17 +19,19 @@ use Rattle.mdv_run_law.specs.Run.{IsMereRefusal, IsSaid, TextWrites}
 use Rattle.mdv_run_law.proofs.Placing.{off_or_there}
 use Rattle.mdv_shelf.specs.Area.{IsKept, KeptOutside, nowhere}
 use Rattle.mdv_shelf.specs.Tale.{MayLeave, Tale}
-use Rattle.mdv_table.specs.Slices.{IsSound}
-use Rattle.mdv_table.specs.declared.table.Table.{Table}
+use Rattle.mdv_config.specs.Slices.{IsSound}
+use Rattle.mdv_plan.specs.declared.table.Table.{Table}
 use Rattle.mdv_volumes.proofs.Lists.{contains_first}
 use Rattle.mdv_words.specs.Line as words
-use Rattle.mdv_words.specs.Line.{IsLine, Line}
+use Rattle.mdv_words.specs.Line.{IsLine, Line, blocks_of}
 use Rattle.mdv_words.specs.declared.command.Command.{Command}
 use Rattle.mdv_words.specs.declared.command.Command.TheVariants.{AddListed, AddPlaces, DropPlaces, Print, Read, Write}
 use Rattle.mdv_words.specs.declared.command.Command.TheVariants as command
+use Rattle.mdv_words.specs.declared.written.Written.{Written as WrittenBlocks}
 use Rattle.mdv_theorem.specs.Exchanges.{Asks, Exchange, IsTold, MayBeWritten, MayHaveBegun}
 use Rattle.mdv_theorem.proofs.Agreeing.{own_sound}
-use Rattle.mdv_theorem.proofs.Place.{Spot, at_place, one_value, same_block, spot_beside}
+use Rattle.mdv_theorem.proofs.Altered.{altered_outside}
+use Rattle.mdv_theorem.proofs.Place.{Spot, at_place, same_block, spot_beside}
 use Rattle.mdv_theorem.proofs.Steps.{told_once}
 use Rattle.mdv_theorem.proofs.Tables.{Grows}
 use Rattle.mdv_theorem.proofs.Telling.{entries_are_none, is_fault, ok_is_none, one_number, quiet_is_none, values_are_none}
@@ -107,29 +110,29 @@ module _ (drives : Geometry) (name : List ℕ) where
       abbrev its_host : Host
       its_host = host_of drives name fresh
 
-      put_leaves : (other : VolId) (at : ℕ) (new : List ℕ) → Asks one (Write other at new) → MayHaveBegun one → (w : Map) → HasBlocks its_host memory other at 1 w → ArePutBy w at (new ∷ []) t u → AreLeft (one ∷ []) t u
-      put_leaves other at new asks begun w there put = elim (off_or_there w at 1 drive block) [
+      put_leaves : (other : VolId) (at : ℕ) (what : WrittenBlocks) → Asks one (Write other at what) → MayHaveBegun one → (w : Map) → HasBlocks its_host memory other at (length (blocks_of what)) w → ArePutBy w at (blocks_of what) t u → AreLeft (one ∷ []) t u
+      put_leaves other at what asks begun w there put = elim (off_or_there w at (length (blocks_of what)) drive block) [
         | inl off ↦ kept_leaves volume number drive block (one ∷ []) t u (put.outside drive block off)
         | inr (k, below, has) ↦
             let bound = there.within in
             let its = into.0 there.o there.opened other w there.lies in
             let same = same_block own.drives its_sound final spot.plan volume other spot.map w number (at + k) drive block spot.lies its spot.at.within (omega (arith, below, bound)) (at_place spot.map number spot.at) has in
-            let number_is = same.1 in
+            let new = slice_index_or (blocks_of what) k [] in
             let may : MayBeWritten volume number new one = record {
-              asks = subst (λ (n : ℕ). Asks one (Write volume n new)) (omega (arith, below, number_is)) (subst (λ (v : VolId). Asks one (Write v at new)) same.0 asks);
+              writes = record { at = at; what = what; asks = subst (λ (v : VolId). Asks one (Write v at what)) same.0 asks; place = k; within = below; numbered = sym same.1; value = refl };
               begun = begun;
             } in
-            λ x left. ⊎_elim (λ before. inl before) (λ wrote. inr (one, new, contains_first one [], may, wrote ∙ one_value new k below)) ((put.inside k drive block below has).left x left)
+            λ x left. ⊎_elim (λ before. inl before) (λ wrote. inr (one, new, contains_first one [], may, wrote)) ((put.inside k drive block below has).left x left)
       ]
 
       pub command_leaves : (spelled : Command) → Asks one spelled → MayHaveBegun one → WritesOnly its_host (asked_by its_host spelled) memory t u → AreLeft (one ∷ []) t u
       command_leaves (AddPlaces slices force count blocks) asks begun wrote = site_leaves (one ∷ []) t u wrote.0
       command_leaves (AddListed number force) asks begun wrote = site_leaves (one ∷ []) t u wrote.0
       command_leaves (DropPlaces slices force) asks begun wrote = site_leaves (one ∷ []) t u wrote.0
-      command_leaves (command.MakeStripe other slice) asks begun wrote = site_leaves (one ∷ []) t u (λ d b out. wrote d b (into.1 d b out))
+      command_leaves (command.Alter alteration) asks begun wrote = site_leaves (one ∷ []) t u (λ d b out. altered_outside its_host memory (change_of alteration) t u wrote d b (into.1 d b out))
       command_leaves (Read other at count) asks begun wrote = none_leaves (one ∷ []) t u wrote
-      command_leaves (Write other at new) asks begun (inl kept) = none_leaves (one ∷ []) t u kept
-      command_leaves (Write other at new) asks begun (inr (w, there, put)) = put_leaves other at new asks begun w there put
+      command_leaves (Write other at what) asks begun (inl kept) = none_leaves (one ∷ []) t u kept
+      command_leaves (Write other at what) asks begun (inr (w, there, put)) = put_leaves other at what asks begun w there put
       command_leaves (Print names) asks begun wrote = none_leaves (one ∷ []) t u wrote
 
       spelled_leaves : (spelled : Line) → IsLine one.text spelled → MayHaveBegun one → LineWrites its_host spelled memory t u → AreLeft (one ∷ []) t u

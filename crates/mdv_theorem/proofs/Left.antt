@@ -30,8 +30,8 @@ use Rattle.mdv_store.specs.Opened.{Opened}
 use Rattle.mdv_store_law.specs.Machine as machine
 use Rattle.mdv_store_law.proofs.Machine.{after_more, course_more}
 use Rattle.mdv_status.specs.Telling.{Said as SaidBytes, replies_in}
-use Rattle.mdv_table.specs.Slices.{IsSound}
-use Rattle.mdv_table.specs.declared.table.Table.{Table}
+use Rattle.mdv_config.specs.Slices.{IsSound}
+use Rattle.mdv_plan.specs.declared.table.Table.{Table}
 use Rattle.mdv_volumes.specs.History.{Event, History, history_after, history_after_all}
 use Rattle.mdv_words.specs.Line as words
 use Rattle.mdv_words.specs.Line.{Exec, IsLine}

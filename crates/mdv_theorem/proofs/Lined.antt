@@ -4,8 +4,10 @@ use Rattle.std.proofs.lemmas.List.{append-nil}
 use Rattle.std.proofs.lemmas.List.Elements.{Contains-append_cases}
 use Rattle.std.proofs.lemmas.Slice.Eq.{bytes_eq-Decides}
 use Rattle.std.specs.Str.{bytes_eq}
+use Rattle.mdv_change.specs.declared.change.Change.{Change as PlanChange}
+use Rattle.mdv_engine_law.specs.Altering.{change_of}
 use Rattle.mdv_engine_law.specs.Hosts.{key_of}
-use Rattle.mdv_engine_law.specs.Line.{Ask, Nothing, asked_by_line, deeds}
+use Rattle.mdv_engine_law.specs.Line.{Ask, Nothing, asked_by_line, change_asked, deeds}
 use Rattle.mdv_engine_law.specs.Replies.{AcksBy, issuable, issuable_front, is_front_of, ok_line, refusal_line}
 use Rattle.mdv_engine_law.specs.declared.host.Host.{Host}
 use Rattle.mdv_base.specs.declared.refusal.Refusal.TheVariants.{IoFault}
@@ -153,15 +155,19 @@ module _ (drives : Geometry) (name : List ℕ) where
     its = host_of drives name fresh
 
     -- the word of a run's identities is nothing to what its lines ask
+    same_change : (asked : Option PlanChange) → change_asked its asked ≡ change_asked host asked
+    same_change None = refl
+    same_change (Some change) = refl
+
     same_ask : (spelled : Line) → asked_by_line its spelled ≡ asked_by_line host spelled
     same_ask Boot = refl
     same_ask (Tab lines) = refl
     same_ask (Exec (command.AddPlaces slices force count blocks)) = refl
     same_ask (Exec (command.AddListed number force)) = refl
     same_ask (Exec (command.DropPlaces slices force)) = refl
-    same_ask (Exec (command.MakeStripe volume slice)) = refl
+    same_ask (Exec (command.Alter alteration)) = same_change (change_of alteration)
     same_ask (Exec (command.Read volume at count)) = refl
-    same_ask (Exec (command.Write volume at block)) = refl
+    same_ask (Exec (command.Write volume at what)) = refl
     same_ask (Exec (command.Print names)) = refl
 
     same_asks : (text : List ℕ) (ask : Ask) → AsksWords its text ask → AsksWords host text ask

@@ -1,24 +1,26 @@
 -- What a line asks by its words and its reply, and what it may have begun.
-use Rattle.std.proofs.Common.{◌≡◌, ◌⊎◌, inl, inr, ℕ, Bool, true, false, ◌||◌, cond, if◌then◌else◌, List, [], ◌∷◌, Contains, refl, sym, ◌∙◌, subst, arith}
+use Rattle.std.proofs.Common.{◌≡◌, ◌⊎◌, inl, inr, ℕ, ◌+◌, ◌<◌, Option, None, Some, slice_index_or, Bool, true, false, ◌||◌, cond, if◌then◌else◌, List, [], ◌∷◌, length, Contains, refl, sym, ◌∙◌, subst, arith}
 use Rattle.std.specs.Str.{bytes_eq}
 use Rattle.std.proofs.lemmas.Slice.Eq.{bytes_eq-Decides}
 use Rattle.mdv_base.specs.declared.drive.SliceName.{SliceName}
 use Rattle.mdv_base.specs.declared.name.Key.{Key}
 use Rattle.mdv_base.specs.declared.refusal.Refusal.{Refusal}
 use Rattle.mdv_base.specs.declared.refusal.Refusal.TheVariants.{IoFault}
+use Rattle.mdv_engine_law.specs.Altering.{Alters, change_of}
 use Rattle.mdv_engine_law.specs.Hosts.{key_of}
-use Rattle.mdv_engine_law.specs.Line.{Ask, Nothing, asked_by_line, deeds}
+use Rattle.mdv_engine_law.specs.Line.{Ask, Nothing, asked_by_line, change_asked, deeds}
 use Rattle.mdv_engine_law.specs.Replies.{issuable, ok_line, refusal_line}
 use Rattle.mdv_engine_law.specs.declared.host.Host.{Host}
 use Rattle.mdv_run_law.specs.Standing.{Asks as AsksWords}
 use Rattle.mdv_store_law.specs.Changes.{AddListed, AddPlaces, Change, DropPlaces, FirstPlace, OfPlan}
-use Rattle.mdv_table.specs.declared.change.Change.TheVariants.{MakeStripe}
+use Rattle.mdv_change.specs.declared.change.Change.{Change as PlanChange}
 use Rattle.mdv_volumes.specs.History.{Changed, Created, Deed, Deleted, Saw, Wrote}
 use Rattle.mdv_volumes.proofs.Lists.{first_or_behind}
 use Rattle.mdv_words.specs.Line.{Boot, Exec, IsLine, Line, Tab}
+use Rattle.mdv_words.specs.declared.command.Alteration.{Alteration}
 use Rattle.mdv_words.specs.declared.command.Command.{Command}
 use Rattle.mdv_words.specs.declared.command.Command.TheVariants as command
-use Rattle.mdv_theorem.specs.Exchanges.{Asks, Exchange, MayBeMade, MayBeWritten, MayHaveBegun}
+use Rattle.mdv_theorem.specs.Exchanges.{Asks, Exchange, MayBeWritten, MayHaveBegun}
 use Rattle.mdv_theorem.specs.Words.{MayTakeDatabase, MovesPlaces}
 use Rattle.mdv_theorem.proofs.Telling.{is_fault, ok_is_none, one_number}
 
@@ -29,16 +31,23 @@ pub record MayMove (one : Exchange) : Type 0 where
   pub moves : MovesPlaces command
   pub begun : MayHaveBegun one
 
--- the line may have begun the deed: a database of the host's key, a change of its volumes or its places, its end, or a block that is written
+-- the line may have begun to change the volumes so
+pub record MayAlter (change : PlanChange) (one : Exchange) : Type 0 where
+  pub alteration : Alteration
+  pub asks : Asks one (command.Alter alteration)
+  pub alters : Alters alteration change
+  pub begun : MayHaveBegun one
+
+-- the line may have begun the deed: a database of the host's key, a change of its volumes or its places, its end, or blocks that are written
 abbrev pub MayBegin : Key → Deed → Exchange → Type 0
 MayBegin own (Created key) one = key ≡ own
-MayBegin own (Changed key (OfPlan (MakeStripe volume slice))) one = MayBeMade volume slice one
+MayBegin own (Changed key (OfPlan change)) one = MayAlter change one
 MayBegin own (Changed key (AddPlaces slices count blocks)) one = MayMove one
 MayBegin own (Changed key (AddListed number)) one = MayMove one
 MayBegin own (Changed key (DropPlaces slices)) one = MayMove one
 MayBegin own (Changed key FirstPlace) one = MayTakeDatabase one
 MayBegin own (Deleted key) one = MayTakeDatabase one
-MayBegin own (Wrote key volume at blocks) one = (block : List ℕ) × (blocks ≡ block ∷ []) × MayBeWritten volume at block one
+MayBegin own (Wrote key volume at blocks) one = (place : ℕ) → place < length blocks → MayBeWritten volume (at + place) (slice_index_or blocks place []) one
 MayBegin own (Saw key volume at blocks) one = Unit {0}
 
 pub never_in : {X : Type 0} (x : X) → Contains [] x → ⊥
@@ -67,6 +76,12 @@ module _ (host : Host) where
         | inr behind ↦ subst (λ (d : Deed). MayBegin (key_of host) d one) (the_only _ deed behind) takes
       ]
 
+  -- what a line by which volumes change may begin
+  altered_begins : (one : Exchange) (alteration : Alteration) → Asks one (command.Alter alteration) → MayHaveBegun one → (asked : Option PlanChange) → change_of alteration ≡ asked → (deed : Deed) → Contains (deeds (change_asked host asked)) deed → MayBegin (key_of host) deed one
+  altered_begins one alteration asks begun None is deed has = absurd (never_in deed has)
+  altered_begins one alteration asks begun (Some change) is deed has =
+      subst (λ (d : Deed). MayBegin (key_of host) d one) (the_only _ deed has) (record { alteration = alteration; asks = asks; alters = is; begun = begun })
+
   -- what a line asks it may have begun, where its reply doesn't say otherwise
   spelled_begins : (one : Exchange) (spelled : Line) → IsLine one.text spelled → MayHaveBegun one → (deed : Deed) → Contains (deeds (asked_by_line host spelled)) deed → MayBegin (key_of host) deed one
   spelled_begins one Boot is begun deed has = absurd (never_in deed has)
@@ -79,9 +94,11 @@ module _ (host : Host) where
     | inl here ↦ subst (λ (d : Deed). MayBegin (key_of host) d one) here (record { command = command.DropPlaces slices force; asks = is; moves = tt; begun = begun })
     | inr behind ↦ dropped_begins one slices force is begun deed behind
   ]
-  spelled_begins one (Exec (command.MakeStripe volume slice)) is begun deed has = subst (λ (d : Deed). MayBegin (key_of host) d one) (the_only _ deed has) (record { asks = is; begun = begun })
+  spelled_begins one (Exec (command.Alter alteration)) is begun deed has = altered_begins one alteration is begun (change_of alteration) refl deed has
   spelled_begins one (Exec (command.Read volume at count)) is begun deed has = absurd (never_in deed has)
-  spelled_begins one (Exec (command.Write volume at block)) is begun deed has = subst (λ (d : Deed). MayBegin (key_of host) d one) (the_only _ deed has) (block, refl, record { asks = is; begun = begun })
+  spelled_begins one (Exec (command.Write volume at what)) is begun deed has =
+      subst (λ (d : Deed). MayBegin (key_of host) d one) (the_only _ deed has)
+      (λ place within. record { writes = record { at = at; what = what; asks = is; place = place; within = within; numbered = refl; value = refl }; begun = begun })
   spelled_begins one (Exec (command.Print names)) is begun deed has = absurd (never_in deed has)
 
   words_begin : (one : Exchange) (ask : Ask) → AsksWords host one.text ask → MayHaveBegun one → (deed : Deed) → Contains (deeds ask) deed → MayBegin (key_of host) deed one

@@ -10,8 +10,8 @@ use Rattle.mdv_name.specs.declared.geometry.Geometry.{Geometry}
 use Rattle.mdv_store_law.specs.Changes.{Change, TellsList, list_after}
 use Rattle.mdv_store_law.specs.Log.{Lives, Version}
 use Rattle.mdv_store_law.specs.Part.{IsPart}
-use Rattle.mdv_table.specs.declared.plan.Lists.{Lists}
-use Rattle.mdv_table.specs.declared.plan.Lists.TheVariants.{One, Two}
+use Rattle.mdv_plan.specs.declared.lists.Lists.{Lists}
+use Rattle.mdv_plan.specs.declared.lists.Lists.TheVariants.{One, Two}
 use Rattle.mdv_volumes.specs.Databases.{log_of}
 use Rattle.mdv_volumes.specs.Happening.{IsCourse, issued_by}
 use Rattle.mdv_volumes.specs.History.{Changed, Event, History, history_after_all}

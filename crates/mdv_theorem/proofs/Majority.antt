@@ -24,10 +24,10 @@ use Rattle.mdv_standing.specs.Databases.{Database, current_of, log_in, log_of}
 use Rattle.mdv_standing.specs.Matching.{LiesOn}
 use Rattle.mdv_standing.proofs.Voting.{numbered}
 use Rattle.mdv_store_law.specs.Log.{Version}
-use Rattle.mdv_table.specs.Plan.{first_of, last_of, places_of}
-use Rattle.mdv_table.specs.Slices.{IsSound}
-use Rattle.mdv_table.specs.declared.plan.Lists.{Lists}
-use Rattle.mdv_table.specs.declared.plan.Lists.TheVariants.{One, Two}
+use Rattle.mdv_config.specs.Lists.{first_of, last_of, places_of}
+use Rattle.mdv_config.specs.Slices.{IsSound}
+use Rattle.mdv_plan.specs.declared.lists.Lists.{Lists}
+use Rattle.mdv_plan.specs.declared.lists.Lists.TheVariants.{One, Two}
 use Rattle.mdv_volumes.specs.History.{History}
 use Rattle.mdv_volumes.specs.HistoryLaws.{AllLists}
 use Rattle.mdv_databases.proofs.Meeting.{databases_meet}

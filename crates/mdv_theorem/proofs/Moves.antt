@@ -1,9 +1,9 @@
 -- What a line's events make of the lists of places that a boot may find: no more than the line may have begun.
-use Rattle.std.proofs.Common.{◌≡◌, ◌⊎◌, inl, inr, ⊎_elim, ℕ, Bool, true, false, ◌||◌, if◌then◌else◌, List, [], ◌∷◌, ◌++◌, Some, None, refl, sym, ◌∙◌, subst}
+use Rattle.std.proofs.Common.{◌≡◌, ◌⊎◌, inl, inr, ⊎_elim, ℕ, Bool, true, false, ◌||◌, if◌then◌else◌, List, [], ◌∷◌, ◌++◌, Option, Some, None, refl, sym, ◌∙◌, subst}
 use Rattle.mdv_base.specs.declared.drive.SliceName.{SliceName}
 use Rattle.mdv_databases.proofs.Lists.{key_itself}
 use Rattle.mdv_engine_law.specs.Hosts.{lines_asked}
-use Rattle.mdv_engine_law.specs.Line.{Ask, Nothing, asked_by_line, deeds}
+use Rattle.mdv_engine_law.specs.Line.{Ask, Nothing, asked_by_line, change_asked, deeds}
 use Rattle.mdv_name.specs.declared.geometry.Geometry.{Geometry}
 use Rattle.mdv_places.specs.Asked.{names_of}
 use Rattle.mdv_run_law.specs.Standing.{Asks as AsksWords}
@@ -11,11 +11,12 @@ use Rattle.mdv_run_law.proofs.Deeds.{part_contains, part_deeds}
 use Rattle.mdv_store_law.specs.Changes.{AddPlaces, Change, DropPlaces, KeepsPlaces, OfPlan}
 use Rattle.mdv_store_law.specs.Part.{IsPart}
 use Rattle.mdv_store_law.proofs.Parts.{part_before}
-use Rattle.mdv_table.specs.declared.change.Change.TheVariants.{MakeStripe}
+use Rattle.mdv_change.specs.declared.change.Change.{Change as PlanChange}
+use Rattle.mdv_engine_law.specs.Altering.{change_of}
 use Rattle.mdv_volumes.specs.Happening.{IsCourse, issued_by}
 use Rattle.mdv_volumes.specs.History.{Changed, Created, Deed, Event, History, Wrote, history_after_all}
 use Rattle.mdv_volumes.specs.HistoryLaws.{KeepDatabase, KeepPlaces, database_deeds}
-use Rattle.mdv_words.specs.Line.{Boot, Exec, IsLine, Line, Tab}
+use Rattle.mdv_words.specs.Line.{Boot, Exec, IsLine, Line, Tab, blocks_of}
 use Rattle.mdv_words.specs.declared.command.Command.{Command}
 use Rattle.mdv_words.specs.declared.command.Command.TheVariants as command
 use Rattle.mdv_base.specs.declared.refusal.Refusal.{Refusal}
@@ -94,6 +95,10 @@ module _ (drives : Geometry) (name : List ℕ) where
         part_before (database_deeds (key drives name from) (issued_by es)) (None ∷ []) (Some change ∷ [])
         (subst (IsPart (database_deeds (key drives name from) (issued_by es))) (change_deeds change) (part_deeds (key drives name from) (issued_by es) (Changed (key drives name from) change ∷ []) part))
 
+    alter_lies : (asked : Option PlanChange) → IsPart (issued_by es) (deeds (change_asked (host drives name) asked)) → Lies
+    alter_lies None part = still_lies (none_keeps part)
+    alter_lies (Some change) part = still_lies (one_keeps _ part (plan_keeps change))
+
     module _ (begun : MayHaveBegun one) where
       command_lies : (cmd : Command) → Asks one cmd → IsPart (issued_by es) (deeds (asked_by_line (host drives name) (Exec cmd))) → Lies
       command_lies (command.AddPlaces slices force count blocks) asks part =
@@ -103,9 +108,9 @@ module _ (drives : Geometry) (name : List ℕ) where
       command_lies (command.DropPlaces slices true) asks part = absurd (keeps (record { command = command.DropPlaces slices true; asks = asks; takes = refl; begun = begun }))
       command_lies (command.DropPlaces slices false) asks part =
           lie_changed drives name from lines h es course keep lie one left (DropPlaces slices) tt (change_part _ part) (λ places. less_made drives name one slices false places asks begun)
-      command_lies (command.MakeStripe volume slice) asks part = still_lies (one_keeps _ part (plan_keeps (MakeStripe volume slice)))
+      command_lies (command.Alter alteration) asks part = alter_lies (change_of alteration) part
       command_lies (command.Read volume at count) asks part = still_lies (none_keeps part)
-      command_lies (command.Write volume at block) asks part = still_lies (one_keeps (Wrote (key drives name from) volume at (block ∷ [])) part (λ change same. absurd (cc (same))))
+      command_lies (command.Write volume at what) asks part = still_lies (one_keeps (Wrote (key drives name from) volume at (blocks_of what)) part (λ change same. absurd (cc (same))))
       command_lies (command.Print names) asks part = still_lies (none_keeps part)
 
       line_lies : (spelled : Line) → IsLine one.text spelled → IsPart (issued_by es) (deeds (asked_by_line (host drives name) spelled)) → Lies

@@ -8,7 +8,7 @@ use Rattle.mdv_run_law.specs.Run.{behind_boot}
 use Rattle.mdv_shelf.specs.Story.{Moment, Story, tale_of}
 use Rattle.mdv_shelf.specs.Tale.{told}
 use Rattle.mdv_store.specs.Opened.{Opened}
-use Rattle.mdv_table.specs.Slices.{IsSound}
+use Rattle.mdv_config.specs.Slices.{IsSound}
 use Rattle.mdv_volumes.specs.History.{History, history_after_all}
 use Rattle.mdv_theorem.specs.Exchanges.{Exchange, IsTold, exchanges_of}
 use Rattle.mdv_theorem.specs.Running.{Running, exchanges_now}

@@ -18,8 +18,8 @@ use Rattle.mdv_shelf.specs.Everywhere.{Image}
 use Rattle.mdv_shelf.specs.Story.{Moment}
 use Rattle.mdv_shelf.specs.Tale.{Tale, told}
 use Rattle.mdv_shelf.proofs.Blocks.{both_ways}
-use Rattle.mdv_table.specs.Slices.{IsSound}
-use Rattle.mdv_table.specs.declared.table.Table.{Table}
+use Rattle.mdv_config.specs.Slices.{IsSound}
+use Rattle.mdv_plan.specs.declared.table.Table.{Table}
 use Rattle.mdv_shown.specs.Site.{site_area}
 use Rattle.mdv_volumes.specs.History.{history_after_all}
 use Rattle.mdv_volumes.specs.HistoryLaws.{new_history}

@@ -1,5 +1,5 @@
 -- Where a member of two lists, one behind the other, lies.
-use Rattle.std.proofs.Common.{◌≡◌, ◌<◌, ℕ, zero, suc, List, [], ◌∷◌, ◌++◌, length, slice_index_or, Contains, refl, sym, ap, arith}
+use Rattle.std.proofs.Common.{◌≡◌, List, [], ◌∷◌, ◌++◌, Contains, refl, sym, ap}
 use Rattle.std.proofs.lemmas.List.Elements.{Contains-append_left, Contains-append_right, Contains-push}
 
 -- a member, with what stands before and behind it: it is of the first list, or of the second
@@ -22,22 +22,6 @@ parts (y ∷ a) b (z ∷ c) d x is =
     let rest : a ++ b ≡ c ++ x ∷ d = cc (is) in
     one_more a b c d x y z here (parts a b c d x rest)
 
--- what stands before a member, and behind it
-pub record Cut {X : Type 0} (xs : List X) (x : X) : Type 0 where
-  pub front : List X
-  pub rest : List X
-  pub is : xs ≡ front ++ x ∷ rest
-
-pub cut : {X : Type 0} (xs : List X) (x : X) → Contains xs x → Cut xs x
-cut {X} xs x has = at xs has.0 has.1 has.2 where
-  behind : (y : X) (ys : List X) → Cut ys x → Cut (y ∷ ys) x
-  behind y ys c = record { front = y ∷ c.front; rest = c.rest; is = ap (λ (l : List X). y ∷ l) c.is }
-
-  at : (ys : List X) (k : ℕ) → k < length ys → slice_index_or ys k x ≡ x → Cut ys x
-  at [] k within is = absurd (omega (arith, within))
-  at (y ∷ ys) zero within is = record { front = []; rest = ys; is = ap (λ (z : X). z ∷ ys) is }
-  at (y ∷ ys) (suc k) within is = behind y ys (at ys k (omega arith) is)
-
--- it is one of them
+-- a member stands between what is before it and behind it
 pub cut_has : {X : Type 0} (front rest : List X) (x : X) → Contains (front ++ x ∷ rest) x
 cut_has front rest x = Contains-append_right front (x ∷ rest) x (Contains-append_left (x ∷ []) rest x (Contains-push [] x))

@@ -1,22 +1,30 @@
 -- The one place of a block of a volume: a block of a drive, which no other block of a volume of the table has.
-use Rattle.std.proofs.Common.{◌≡◌, inl, inr, ℕ, zero, suc, ◌+◌, ◌<◌, ◌==◌, List, [], ◌∷◌, slice_index_or, true, false, refl, sym, ap, subst, arith}
-use Rattle.std.proofs.lemmas.Bool.{cases_eq, false≢true}
+use Rattle.std.proofs.Common.{◌≡◌, inl, inr, ℕ, zero, suc, List, Contains, ◌+◌, ◌<◌, ◌≤◌, ◌==◌, ◌&&◌, true, false, sym, ◌∙◌, ap, subst, arith}
+use Rattle.std.proofs.lemmas.Bool.{and_parts, cases_eq, false≢true}
+use Rattle.std.proofs.lemmas.List.Folds.{Any-from_list_any}
 use Rattle.mdv_base.specs.declared.name.VolId.{VolId}
 use Rattle.mdv_dev.specs.Pieces.{LiesAt, drive_of, has_drive as lies_on}
-use Rattle.mdv_dev.proofs.Copies.{has_place, one_place}
+use Rattle.mdv_dev.proofs.Copies.{drive_is, has_copy, has_place, one_place}
 use Rattle.mdv_dev.proofs.Counting.{same_number}
 use Rattle.mdv_engine_law.specs.declared.host.Host.{Host}
-use Rattle.mdv_map.specs.Maps.{HasDriveBlock, Map, area_of_map, run_map}
+use Rattle.mdv_home.proofs.Viewing.{view_is_own}
+use Rattle.mdv_home.specs.Drives.{own_drives}
+use Rattle.mdv_home.specs.View.{own_view}
+use Rattle.mdv_layout_law.specs.Laid.{plain_area, takes_volumes}
+use Rattle.mdv_map.specs.Maps.{HasDriveBlock, Map, area_of_map}
 use Rattle.mdv_map.proofs.Covering.{one_of}
 use Rattle.mdv_name.specs.declared.geometry.Geometry.{Geometry}
+use Rattle.mdv_name.specs.declared.slice_lines.SliceLine.{SliceLine}
 use Rattle.mdv_run_law.proofs.Extents.{SeesOwn, block_beside}
+use Rattle.mdv_shelf.specs.Area.{range}
+use Rattle.mdv_shown.proofs.Elsewhere.{in_range}
 use Rattle.mdv_shown.specs.Site.{site_area}
-use Rattle.mdv_table.specs.Slices.{IsSound}
-use Rattle.mdv_table.specs.Table.{IsPlanOf}
-use Rattle.mdv_table.specs.declared.table.Table.{Table}
+use Rattle.mdv_config.specs.Slices.{IsSound}
+use Rattle.mdv_config.specs.Table.{IsOfGeometry}
+use Rattle.mdv_plan.specs.declared.table.Table.{Table}
 use Rattle.mdv_volumes.specs.Tables.{AreLaid, IsMapOf}
 use Rattle.mdv_volumes.proofs.Maps.{in_area, same_map}
-use Rattle.mdv_volumes.proofs.Tables.{tables_lie}
+use Rattle.mdv_volumes.proofs.Tables.{blocks_plain, tables_lie}
 
 -- a block of a map lies there, and nowhere else
 pub record BlockAt (v : Map) (number : ℕ) : Type 0 where
@@ -28,14 +36,9 @@ pub record BlockAt (v : Map) (number : ℕ) : Type 0 where
 -- and it is a block of a volume of the table
 pub record Spot (g : Geometry) (table : Table) (volume : VolId) (number : ℕ) : Type 0 where
   pub map : Map
-  pub plan : IsPlanOf g table.plan
+  pub plan : IsOfGeometry g table
   pub lies : IsMapOf g table volume map
   pub at : BlockAt map number
-
--- the only one of one value
-pub one_value : (x : List ℕ) (k : ℕ) → k < 1 → slice_index_or (x ∷ []) k [] ≡ x
-one_value x zero below = refl
-one_value x (suc k) below = absurd (omega (arith, below))
 
 -- one of these blocks lies on each of their drives
 pub drive_among : (v : Map) (at count drive : ℕ) → lies_on v at count drive ≡ true → (k : ℕ) × (k < count) × (drive_of (v.copies (at + k)) ≡ drive)
@@ -51,19 +54,21 @@ module _ (v : Map) (number : ℕ) (at : BlockAt v number) where
   pub at_place : HasDriveBlock (v.places number) at.drive at.block
   at_place = has_place v number at.drive at.block at.lies
 
-  -- where the map is that of blocks which lie together, it is there by its number
-  pub at_run : (drive first count : ℕ) → v ≡ run_map drive first count → (at.drive ≡ drive) × (at.block ≡ first + number) × (number < count)
-  at_run drive first count is = elim (subst (λ (w : Map). HasDriveBlock (w.places number) at.drive at.block) is at_place) [
-    | inl here ↦ (here.0, here.1, subst (λ (w : Map). number < w.blocks) is at.within)
-    | inr none ↦ absurd none
-  ]
-
-module _ (g : Geometry) (sound : IsSound g) (table : Table) (plan : IsPlanOf g table.plan) where
+module _ (g : Geometry) (sound : IsSound g) (table : Table) (plan : IsOfGeometry g table) where
   pub laid : AreLaid g table
   laid = tables_lie.laid g table sound plan
 
   pub block_at : (volume : VolId) (v : Map) (number : ℕ) → IsMapOf g table volume v → number < v.blocks → BlockAt v number
   block_at volume v number lies within = let there = laid.one volume v lies number within in record { within = within; drive = there.0; block = there.1; lies = there.2 }
+
+  -- each drive of some blocks has a copy of one of them
+  pub drive_copy : (volume : VolId) (v : Map) (at count drive : ℕ) → IsMapOf g table volume v → at + count ≤ v.blocks → lies_on v at count drive ≡ true → (b : ℕ) × (block : ℕ) × (b < at + count) × HasDriveBlock (v.copies b) drive block
+  drive_copy volume v at count drive lies within on =
+      let among = drive_among v at count drive on in
+      let below = among.1 in
+      let place = block_at volume v (at + among.0) lies (omega (arith, below, within)) in
+      let is : place.drive ≡ drive = sym (drive_is v (at + among.0) place.drive place.block place.lies) ∙ among.2 in
+      (at + among.0, place.block, omega (arith, below), subst (λ (d : ℕ). HasDriveBlock (v.copies (at + among.0)) d place.block) is (has_copy v (at + among.0) place.drive place.block place.lies))
 
   -- a volume has one map, and its block one place
   pub one_spot : (volume : VolId) (v w : Map) (number : ℕ) → IsMapOf g table volume v → IsMapOf g table volume w → (a : BlockAt v number) (b : BlockAt w number) → (a.drive ≡ b.drive) × (a.block ≡ b.block)
@@ -92,3 +97,21 @@ spot_area g table volume number spot = in_area spot.map number spot.at.drive spo
 pub spot_beside : (host : Host) → IsSound host.drives → SeesOwn host → (table : Table) (volume : VolId) (number : ℕ) (spot : Spot host.drives table volume number) → site_area host.site spot.at.drive spot.at.block ≡ false
 spot_beside host sound sees table volume number spot =
     block_beside host sees table (laid host.drives sound table spot.plan) volume spot.map spot.lies number spot.at.drive spot.at.block spot.at.within (at_place spot.map number spot.at)
+
+-- it is a block of a slice on which volumes may lie
+pub spot_plain : (g : Geometry) (its : Table) (volume : VolId) (number : ℕ) → IsSound g → (spot : Spot g its volume number) → plain_area g spot.at.drive spot.at.block ≡ true
+spot_plain g its volume number sound spot =
+    blocks_plain g its (laid g sound its spot.plan) volume spot.map spot.lies number spot.at.drive spot.at.block spot.at.within (at_place spot.map number spot.at)
+
+-- and its drive is one of the host's
+pub spot_own : (table : Geometry) (host : List ℕ) (its : Table) (volume : VolId) (number : ℕ) → IsSound (own_view table host) → (spot : Spot (own_view table host) its volume number) → Contains (own_drives table host) (record { 0 = spot.at.drive })
+spot_own table host its volume number sound spot =
+    let g = own_view table host in
+    let place = spot.at in
+    let plain = spot_plain g its volume number sound spot in
+    let found = Any-from_list_any (λ (line : SliceLine). takes_volumes g line && range line.at.drive.0 line.at.start line.at.blocks place.drive place.block) g.slices plain in
+    let line : SliceLine = found.1 in
+    let within = (and_parts (takes_volumes g line) (range line.at.drive.0 line.at.start line.at.blocks place.drive place.block) found.4).1 in
+    let on : line.at.drive.0 ≡ place.drive = (in_range line.at.drive.0 line.at.start line.at.blocks place.drive place.block within).0 in
+    let seen = ((view_is_own.seen table host line.name line.at).0 (found.0, found.2, found.3)).1 in
+    subst (λ (d : ℕ). Contains (own_drives table host) (record { 0 = d })) on seen

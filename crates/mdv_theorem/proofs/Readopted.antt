@@ -1,5 +1,5 @@
 -- What a boot opens has its seats so, and no boot tells that places were lost, where half of each list of the table that it finds, or more, lies on drives on which no call fails, and each place that the table lists is found where it lies on such a drive.
-use Rattle.std.proofs.Common.{inl, inr, Option, ◌⊎◌, ◌&&◌, not, false, refl, None, ◌≡◌, ℕ, Bool, true, List, map, length, Some, Contains, sym, ◌∙◌, ap, subst}
+use Rattle.std.proofs.Common.{inl, inr, Option, ◌⊎◌, ◌&&◌, not, false, refl, None, ◌≡◌, ℕ, Bool, true, List, map, Some, Contains, sym, ◌∙◌, ap, subst}
 use Rattle.std.proofs.lemmas.Bool.{false≢true}
 use Rattle.mdv_base.specs.DriveSet.{Drives, has_drive}
 use Rattle.mdv_base.specs.declared.drive.SliceName.{SliceName}
@@ -24,7 +24,7 @@ use Rattle.mdv_store.specs.declared.booting.BootEnd.{BootEnd}
 use Rattle.mdv_store.specs.declared.booting.BootEnd.TheVariants as end
 use Rattle.mdv_store_law.specs.Log.{Lives, Version}
 use Rattle.mdv_survey.specs.Survey.{IsSurvey, IsSurveyOf, answers_in}
-use Rattle.mdv_table.specs.declared.table.Table.{Table}
+use Rattle.mdv_plan.specs.declared.table.Table.{Table}
 use Rattle.mdv_volumes.specs.History.{History}
 use Rattle.mdv_theorem.proofs.Adoptable.{IsAdoptable, IsNewestBy, adoptable, adopted_found, seat_has, seat_lies}
 use Rattle.mdv_theorem.proofs.Carried.{Holds, holds_none, holds_open, none_kept}
@@ -32,7 +32,7 @@ use Rattle.mdv_theorem.proofs.Upheld.{IsUpheld}
 use Rattle.mdv_base.specs.declared.place.Place.{Place}
 use Rattle.mdv_engine_law.specs.declared.host.Host.{Host}
 use Rattle.mdv_places.proofs.Adding.{place_of_seat}
-use Rattle.mdv_record.specs.Text.{record_text}
+use Rattle.mdv_encoding.specs.Text.{record_bytes}
 use Rattle.mdv_run_law.specs.Run.{IsOfTable}
 use Rattle.mdv_shelf.specs.Failing.{Outcomes}
 use Rattle.mdv_store.proofs.Adoptions.{takes_stay}
@@ -49,9 +49,9 @@ use Rattle.mdv_store.specs.declared.seats.Share.{Share}
 use Rattle.mdv_survey.specs.declared.replica.Newest.{Newest}
 use Rattle.mdv_survey.specs.declared.replica.Replica.{Replica}
 use Rattle.mdv_survey.specs.declared.replica.Survey.{Survey}
-use Rattle.mdv_table.specs.Plan.{last_of, places_of}
-use Rattle.mdv_table.specs.declared.plan.Lists.{Lists}
-use Rattle.mdv_table.specs.declared.plan.Lists.TheVariants.{One, Two}
+use Rattle.mdv_config.specs.Lists.{last_of, places_of}
+use Rattle.mdv_plan.specs.declared.lists.Lists.{Lists}
+use Rattle.mdv_plan.specs.declared.lists.Lists.TheVariants.{One, Two}
 use Rattle.mdv_theorem.proofs.Losing.{own_enough}
 use Rattle.mdv_theorem.proofs.Seats.{has_borne, AreSeated, Covers, IsBorne, IsHalf, OfEach, left_covers, left_each, left_seated, never_few}
 
@@ -62,12 +62,12 @@ last_each P (Two was list) is = is.1
 module _ (host : Host) (is_host : IsOfTable host) (calm : ℕ → Bool) (calls : Outcomes) (unfailed : (drive : ℕ) → calm drive ≡ true → (calls drive).some → ⊥) where
   -- What was found of a table, with a seat for each place that it lists.
   module _ (survey : Survey) (newest : Newest) (replica : Replica) (seats : List Seat)
-      (are : seats ≡ seats_of survey.replicas replica.head.master.identity (blocks_for (length (record_text newest.table))) (places_of newest.table.plan.lists)) (seated : AreSeated host calm seats) where
+      (are : seats ≡ seats_of survey.replicas replica.head.master.identity (blocks_for (record_bytes newest.table)) (places_of newest.table.plan.lists)) (seated : AreSeated host calm seats) where
     abbrev lists : Lists
     lists = newest.table.plan.lists
 
     abbrev text : ℕ
-    text = blocks_for (length (record_text newest.table))
+    text = blocks_for (record_bytes newest.table)
 
     abbrev last : List Seat
     last = last_found survey newest replica
@@ -107,7 +107,7 @@ module _ (host : Host) (is_host : IsOfTable host) (calm : ℕ → Bool) (calls :
 
       pub lost_never : (progress : Progress) → IsShortAt calls host.site.key number newest.table seats last (gone_found survey newest replica) progress share → ⊥
       lost_never (Claimed now) short = short_never (TakesClaim number) (λ r n took. ap (λ (x : Replica). x.line) took) now short
-      lost_never (Rewritten now) short = short_never (TakesBoth number (length (record_text newest.table))) (λ r n took. ap (λ (x : Replica). x.line) took.2) now short
+      lost_never (Rewritten now) short = short_never (TakesBoth number (record_bytes newest.table)) (λ r n took. ap (λ (x : Replica). x.line) took.2) now short
       lost_never (Settled now gone) (settled, short, over) =
           never_few host calm now (One (last_of lists)) share (left_seated host calm calls unfailed calls (λ drive some. some) (TakesAll number newest.table) (takes_line number) last now short.left last_seated)
           (left_covers host calm calls unfailed calls (λ drive some. some) (TakesAll number newest.table) (takes_line number) last now (last_of lists) short.left last_covers) (last_each (IsHalf host calm) lists halves)

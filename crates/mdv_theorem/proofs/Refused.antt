@@ -14,7 +14,9 @@ use Rattle.mdv_base.specs.declared.state_word.StateWord.TheVariants.{Down}
 use Rattle.mdv_base.proofs.Order.{first_holds}
 use Rattle.mdv_engine_law.specs.Commands.{CameTo, Fault, IsAllowed, case_of, done, faulted, over, refused, wanting}
 use Rattle.mdv_engine_law.specs.Hosts.{key_of, lines_asked}
-use Rattle.mdv_engine_law.specs.Line.{Ask, IsUncreated, Kept, Memory, Nothing, asked_by_line, deeds}
+use Rattle.mdv_change.specs.declared.change.Change.{Change as PlanChange}
+use Rattle.mdv_engine_law.specs.Altering.{change_of}
+use Rattle.mdv_engine_law.specs.Line.{Ask, IsUncreated, Kept, Memory, Nothing, asked_by_line, change_asked, deeds}
 use Rattle.mdv_engine_law.specs.Moves.{IsUnmovedOn}
 use Rattle.mdv_engine_law.specs.Refusals.{Case, held_of_creation, held_of_others, held_of_replicas, is_doubled, is_missing, is_plain, is_short, is_taken, places_open, refusal_of}
 use Rattle.mdv_engine_law.specs.Replies.{issuable, refusal_line, text_of}
@@ -32,7 +34,7 @@ use Rattle.mdv_run_law.specs.Standing.{Asks as AsksWords}
 use Rattle.mdv_run_law.proofs.Deeds.{part_contains}
 use Rattle.mdv_shelf.specs.Failing.{Outcomes}
 use Rattle.mdv_store.specs.Opened.{Opened}
-use Rattle.mdv_store_law.specs.Changes.{DropPlaces, FirstPlace}
+use Rattle.mdv_store_law.specs.Changes.{DropPlaces, FirstPlace, OfPlan}
 use Rattle.mdv_store_law.proofs.Machine.{all_more}
 use Rattle.mdv_volumes.specs.Happening.{begins, issued_by}
 use Rattle.mdv_volumes.specs.History.{Changed, Created, Deed, Deleted, Event, History}
@@ -75,6 +77,10 @@ module _ (host : Host) (one : Exchange) (begun : MayHaveBegun one) (key : Key) w
   none_drops : (slices : List SliceName) → Contains (Changed (key_of host) (DropPlaces slices) ∷ Changed (key_of host) FirstPlace ∷ Deleted (key_of host) ∷ []) (Created key) → ⊥
   none_drops slices has = elim (of_three (Changed (key_of host) (DropPlaces slices)) (Changed (key_of host) FirstPlace) (Deleted (key_of host)) (Created key) has) [ inl same ↦ cc (same) | inr (inl same) ↦ cc (same) | inr (inr same) ↦ cc (same) ]
 
+  none_alters : (asked : Option PlanChange) → Contains (deeds (change_asked host asked)) (Created key) → ⊥
+  none_alters None has = never_in (Created key) has
+  none_alters (Some change) has = (let same : Changed (key_of host) (OfPlan change) ≡ Created key = the_only (Changed (key_of host) (OfPlan change)) (Created key) has in cc same)
+
   spelled_creates : (spelled : Line) → IsLine one.text spelled → Contains (deeds (asked_by_line host spelled)) (Created key) → MayCreate one
   spelled_creates Boot is has = absurd (never_in (Created key) has)
   spelled_creates (Tab lines) is has = absurd (never_in (Created key) has)
@@ -82,9 +88,9 @@ module _ (host : Host) (one : Exchange) (begun : MayHaveBegun one) (key : Key) w
   spelled_creates (Exec (command.AddListed number force)) is has = record { asks_for = command.AddListed number force; asks = is; makes = tt; begun = begun }
   spelled_creates (Exec (command.DropPlaces slices true)) is has = absurd (none_drops slices has)
   spelled_creates (Exec (command.DropPlaces slices false)) is has = (let same = the_only _ (Created key) has in absurd (cc (same)))
-  spelled_creates (Exec (command.MakeStripe volume slice)) is has = (let same = the_only _ (Created key) has in absurd (cc (same)))
+  spelled_creates (Exec (command.Alter alteration)) is has = absurd (none_alters (change_of alteration) has)
   spelled_creates (Exec (command.Read volume at count)) is has = absurd (never_in (Created key) has)
-  spelled_creates (Exec (command.Write volume at block)) is has = (let same = the_only _ (Created key) has in absurd (cc (same)))
+  spelled_creates (Exec (command.Write volume at what)) is has = (let same = the_only _ (Created key) has in absurd (cc (same)))
   spelled_creates (Exec (command.Print names)) is has = absurd (never_in (Created key) has)
 
   words_create : (ask : Ask) → AsksWords host one.text ask ⊎ (ask ≡ Nothing) → Contains (deeds ask) (Created key) → MayCreate one
@@ -156,9 +162,9 @@ module _ (calls : Outcomes) (host : Host) (kept next : Kept) (none : kept.memory
   refused_no_fault (command.AddPlaces slices force count blocks) makes r is = first_holds IsNoFault order (held_of_creation case slices force count blocks) r (creation_no_fault slices force count blocks) is
   refused_no_fault (command.AddListed number force) makes r is = first_holds IsNoFault order (BadLine ∷ []) r (All-cons IsNoFault BadLine [] (omega arith) (All-nil IsNoFault)) is
   refused_no_fault (command.DropPlaces slices force) makes r is = absurd makes
-  refused_no_fault (command.MakeStripe volume slice) makes r is = absurd makes
+  refused_no_fault (command.Alter alteration) makes r is = absurd makes
   refused_no_fault (command.Read volume at count) makes r is = absurd makes
-  refused_no_fault (command.Write volume at block) makes r is = absurd makes
+  refused_no_fault (command.Write volume at what) makes r is = absurd makes
   refused_no_fault (command.Print names) makes r is = absurd makes
 
   -- a call failed in its formats
@@ -169,9 +175,9 @@ module _ (calls : Outcomes) (host : Host) (kept next : Kept) (none : kept.memory
       (ap (λ (m : Memory). m.opened) is.memory ∙ none, ap (λ (m : Memory). m.clean) is.memory ∙ allowed_clean case slices force count blocks free none)
   unmade_bare (command.AddListed number force) makes free fault = absurd fault
   unmade_bare (command.DropPlaces slices force) makes free fault = absurd makes
-  unmade_bare (command.MakeStripe volume slice) makes free fault = absurd makes
+  unmade_bare (command.Alter alteration) makes free fault = absurd makes
   unmade_bare (command.Read volume at count) makes free fault = absurd makes
-  unmade_bare (command.Write volume at block) makes free fault = absurd makes
+  unmade_bare (command.Write volume at what) makes free fault = absurd makes
   unmade_bare (command.Print names) makes free fault = absurd makes
 
   module _ (answer : Answer) (said : IsSaid answer) (told : text_of answer ≡ refusal_line IoFault) where
@@ -195,9 +201,9 @@ module _ (calls : Outcomes) (host : Host) (kept next : Kept) (none : kept.memory
     meant_makes entries (command.AddPlaces slices force count blocks) makes = tt
     meant_makes entries (command.AddListed number force) makes = listed_makes number force (listed_by entries number)
     meant_makes entries (command.DropPlaces slices force) makes = absurd makes
-    meant_makes entries (command.MakeStripe volume slice) makes = absurd makes
+    meant_makes entries (command.Alter alteration) makes = absurd makes
     meant_makes entries (command.Read volume at count) makes = absurd makes
-    meant_makes entries (command.Write volume at block) makes = absurd makes
+    meant_makes entries (command.Write volume at what) makes = absurd makes
     meant_makes entries (command.Print names) makes = absurd makes
 
     commanded_bare : (cmd : Command) → MakesDatabase cmd → Commanded calls host kept cmd answer next → IsBare next.memory

@@ -1,5 +1,5 @@
 -- Where a run that went on was before a read that it had answered: what the read told of a block is what is there, and a crash would leave just that, where no call had failed on its drive.
-use Rattle.std.proofs.Common.{◌≡◌, inl, inr, ℕ, ◌+◌, ◌≤◌, ◌<◌, false, List, ◌∷◌, ◌++◌, length, length-append, Some, Contains, sym, ◌∙◌, ap, subst, append_assoc, arith, refl}
+use Rattle.std.proofs.Common.{true, ◌≡◌, inl, inr, ℕ, ◌+◌, ◌≤◌, ◌<◌, List, ◌∷◌, ◌++◌, length, length-append, Some, Contains, sym, ◌∙◌, ap, subst, append_assoc, arith}
 use Rattle.mdv_base.proofs.Causes.{rose_of_once, rose_within}
 use Rattle.mdv_base.specs.declared.drive.DriveNo.{DriveNo}
 use Rattle.mdv_engine_law.specs.declared.host.Host.{Host}
@@ -13,16 +13,17 @@ use Rattle.mdv_shelf.specs.Calls.{OnDrive}
 use Rattle.mdv_shelf.specs.Story.{Moment, Story, tale_of}
 use Rattle.mdv_shelf.specs.Tale.{told}
 use Rattle.mdv_status.specs.Telling.{replies_in}
-use Rattle.mdv_table.specs.Slices.{IsSound}
+use Rattle.mdv_config.specs.Slices.{IsSound}
+use Rattle.mdv_engine_law.specs.Answers.{accepted}
+use Rattle.mdv_layout_law.specs.Laid.{plain_area}
 use Rattle.mdv_theorem.specs.Exchanges.{Exchange, IsTold, exchanges, exchanges_of}
 use Rattle.mdv_theorem.specs.Running.{HasAnswered, Running, exchanges_now}
 use Rattle.mdv_theorem.proofs.Begun.{boot_shown}
 use Rattle.mdv_theorem.proofs.Placed.{Place, lines_place, told_before}
-use Rattle.mdv_theorem.proofs.Settled.{IsSettledAt}
+use Rattle.mdv_theorem.proofs.Settled.{IsSettledAt, boot_steady, steady_settled}
 use Rattle.mdv_theorem.proofs.Staying.{its_sound}
 use Rattle.mdv_theorem.proofs.Steps.{Between, known_at, unreplied}
-use Rattle.mdv_theorem.proofs.Synced.{IsThere, lines_rise, lines_settled, lines_shown, lines_story}
-use Rattle.mdv_shown.specs.Site.{site_area}
+use Rattle.mdv_theorem.proofs.Synced.{IsThere, lines_rise, lines_steady, lines_shown, lines_story}
 use Rattle.mdv_theorem.proofs.Come.{HasMetNothing}
 use Rattle.mdv_theorem.proofs.Clean.{none_met, start, start_own, start_stands}
 use Rattle.mdv_theorem.proofs.Sure.{IsSureAt, since_last, sure_boot}
@@ -103,8 +104,8 @@ module _ (drives : Geometry) (name : List ℕ) (before : List Ran) (script : Scr
       pub there : (u : Story) × (at.place.at.story ≡ Some u)
       there = lines_story host run.stretch 0 first at.place.at at.place.front at.place.lines booted.0 booted.1
 
-      pub settled_there : (drive : DriveNo) → Contains host.site.drives drive → HasAnswered run drive → (b : ℕ) (out : site_area host.site drive.0 b ≡ false) → IsSettledAt host own refl drive.0 b out (tale_of there.0)
-      settled_there drive its answered b out =
+      pub settled_there : (drive : DriveNo) → Contains host.site.drives drive → HasAnswered run drive → (b : ℕ) → plain_area host.drives drive.0 b ≡ true → IsSettledAt drive.0 b (tale_of there.0)
+      settled_there drive its answered b plain =
           let high = upto drive.0 in
           let rise = lines_rise host run.start m run.stretch drive.0 0 first at.place.at at.place.front at.place.lines in
           let low = at.by.rose.drives drive.0 in
@@ -113,8 +114,9 @@ module _ (drives : Geometry) (name : List ℕ) (before : List Ran) (script : Scr
           let sure = booted_sure here behind read reply told_it m bytes at.by at.clean in
           let none = none_by m at.clean in
           let since = since_last host run.stretch (0 + length at.place.front) at.place.at at.by.lines.at at.place.left m.tale at.place.more (λ u is. (at.by.lines.work u is).moment.since) in
-          let begun : IsThere host run.start m run.stretch own refl drive.0 b out script (start run of_table) run.t.tale none first = record { sure = sure; settled = (at.by.leads sure.story sure.is).synced drive its calm b } in
-          let is = lines_settled host run.start m run.stretch own refl drive.0 b out script (start run of_table) run.t.tale none 0 first at.place.at at.place.front at.place.lines since low
+          let begun : IsThere host run.start m run.stretch drive its script (start run of_table) run.t.tale none first = record { sure = sure; steady = boot_steady host drive its _ calm accepted _ at.by.kept tt at.by.boots } in
+          let is = lines_steady host run.start m run.stretch drive its script (start run of_table) run.t.tale none 0 first at.place.at at.place.front at.place.lines since low
           (λ rose. answered (rose_within (run.start.drives drive.0) (run.start.drives drive.0) (at.place.at.counts.drives drive.0) (run.m.faults (OnDrive drive.0)) (omega arith) high rose)) begun in
           let same : is.sure.story ≡ there.0 = (let both : Some is.sure.story ≡ Some there.0 = sym is.sure.is ∙ there.1 in cc (both)) in
-          subst (λ (u : Story). IsSettledAt host own refl drive.0 b out (tale_of u)) same is.settled
+          subst (λ (u : Story). IsSettledAt drive.0 b (tale_of u)) same
+          (steady_settled host at.place.at.kept.memory _ (tale_of is.sure.story) drive.0 b is.sure.come.known is.steady plain)

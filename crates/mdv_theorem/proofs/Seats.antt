@@ -46,11 +46,11 @@ use Rattle.mdv_store.specs.declared.seats.Need.TheVariants.{Half}
 use Rattle.mdv_store.specs.declared.seats.Seat.{Seat}
 use Rattle.mdv_store.specs.declared.seats.Share.{Share}
 use Rattle.mdv_survey.specs.declared.replica.Replica.{Replica}
-use Rattle.mdv_table.proofs.Beside.{among-true}
-use Rattle.mdv_table.specs.Plan.{last_of}
-use Rattle.mdv_table.specs.declared.plan.Lists.{Lists}
-use Rattle.mdv_table.specs.declared.plan.Lists.TheVariants.{One, Two}
-use Rattle.mdv_table.specs.declared.table.Table.{Table}
+use Rattle.mdv_config.proofs.Beside.{among-true}
+use Rattle.mdv_config.specs.Lists.{last_of}
+use Rattle.mdv_plan.specs.declared.lists.Lists.{Lists}
+use Rattle.mdv_plan.specs.declared.lists.Lists.TheVariants.{One, Two}
+use Rattle.mdv_plan.specs.declared.table.Table.{Table}
 use Rattle.mdv_volumes.proofs.Lists.{contains_first, first_or_behind, in_filter}
 use Rattle.mdv_theorem.specs.Observed.{HalfLieOn}
 use Rattle.mdv_theorem.proofs.Lines.{never_in}

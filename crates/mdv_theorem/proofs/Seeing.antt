@@ -19,7 +19,7 @@ use Rattle.mdv_shelf.specs.Tale.{Tale}
 use Rattle.mdv_shown.proofs.Sites.{law_sites}
 use Rattle.mdv_shown.specs.Sites.{is_line_of}
 use Rattle.mdv_store.specs.Opened.{Opened}
-use Rattle.mdv_table.specs.Slices.{IsSound}
+use Rattle.mdv_config.specs.Slices.{IsSound}
 use Rattle.mdv_volumes.proofs.Found.{AreLasting}
 use Rattle.mdv_volumes.proofs.Lists.{contains_behind, contains_first, first_or_behind, in_filter}
 use Rattle.mdv_volumes.specs.Databases.{log_of}

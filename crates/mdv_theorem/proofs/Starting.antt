@@ -1,26 +1,16 @@
 -- As a run begins, what the lines of earlier runs show of the database is so by a history of them.
-use Rattle.std.proofs.Common.{◌≡◌, ℕ, ◌+◌, List, [], ◌∷◌, ◌++◌, length, None, Contains, sym, subst, append_assoc}
+use Rattle.std.proofs.Common.{◌≡◌, ℕ, ◌+◌, List, [], ◌++◌, length, None, Contains, sym, subst, append_assoc}
 use Rattle.std.proofs.lemmas.List.{append-nil}
-use Rattle.mdv_base.specs.declared.drive.SliceName.{SliceName}
-use Rattle.mdv_base.specs.declared.name.VolId.{VolId}
-use Rattle.mdv_engine_law.specs.Hosts.{key_of}
-use Rattle.mdv_engine_law.specs.Replies.{ok_line, text_of}
+use Rattle.mdv_engine_law.specs.Replies.{text_of}
 use Rattle.mdv_engine_law.specs.declared.host.Host.{Host}
 use Rattle.mdv_run_law.specs.Run.{At, LinesTold, behind_boot, no_line, one_more}
 use Rattle.mdv_run_law.specs.Told.{RunToldBy}
 use Rattle.mdv_name.specs.declared.geometry.Geometry.{Geometry}
 use Rattle.mdv_port.specs.Script.{Script}
 use Rattle.mdv_run_law.specs.Lives.{IsHistoryOf, Ran, host_of}
-use Rattle.mdv_table.specs.Slices.{IsSound}
-use Rattle.mdv_volumes.specs.Databases.{log_of}
-use Rattle.mdv_volumes.proofs.Found.{AreLasting}
-use Rattle.mdv_volumes.proofs.Lists.{contains_behind}
-use Rattle.mdv_words.specs.declared.command.Command.TheVariants.{MakeStripe}
-use Rattle.mdv_theorem.specs.Exchanges.{Asks, Exchange, IsTold, exchanges_by}
-use Rattle.mdv_theorem.specs.Words.{KeepsDatabase}
-use Rattle.mdv_theorem.proofs.Changes.{HasStripe}
+use Rattle.mdv_config.specs.Slices.{IsSound}
+use Rattle.mdv_theorem.specs.Exchanges.{Exchange, exchanges_by}
 use Rattle.mdv_theorem.specs.Running.{Running}
-use Rattle.mdv_volumes.specs.HistoryLaws.{new_history}
 use Rattle.mdv_theorem.proofs.Accords.{Accords, ClosedAt, accords_line, accords_none, accords_quiet, accords_work}
 use Rattle.mdv_theorem.proofs.Clean.{start_by}
 use Rattle.mdv_theorem.proofs.Onward.{GoesOn, life_goes_on}
@@ -37,7 +27,7 @@ pub record Starts {drives : Geometry} {name : List ℕ} {before : List Ran} {scr
 -- what they show goes on as lines do
 accords_go : (drives : Geometry) (name : List ℕ) → IsSound drives → GoesOn drives name IsClosed (Accords drives name)
 accords_go drives name sound = record {
-  none = accords_none drives name new_history;
+  none = accords_none drives name;
   quiet = accords_quiet drives name 0 sound;
   line = λ fresh lines calls from mid one answer comes said told led old closed. accords_line drives name fresh sound lines calls from mid one answer comes said told led old closed;
   work = accords_work drives name 0 sound;
@@ -47,13 +37,6 @@ pub starts : (drives : Geometry) (name : List ℕ) (before : List Ran) (script :
 starts drives name before script of_table run =
     let is = life_goes_on drives name IsClosed (Accords drives name) (accords_go drives name run.life.fair) of_table run.made (λ earlier its_script other. none_open drives name of_table earlier its_script other) before run.t.tale run.life in
     record { of = is.history; accords = is.is }
-
--- so the table has the volumes that earlier runs told to be made
-pub starts_early : {drives : Geometry} {name : List ℕ} {before : List Ran} {script : Script} {run : Running drives name before script} (starts_so : Starts run) (volume : VolId) (slice : SliceName) (other : Exchange) → Asks other (MakeStripe volume slice) → IsTold other ok_line
-    → (front rest : List Exchange) → exchanges_by name before ≡ front ++ other ∷ rest → KeepsDatabase (other ∷ rest)
-    → AreLasting (host_of drives name run.fresh).drives (HasStripe (host_of drives name run.fresh).drives volume slice) (log_of (start_by run starts_so.of).databases (key_of (host_of drives name run.fresh)))
-starts_early starts_so volume slice other asks told front rest parts keeps =
-    starts_so.accords.laid volume slice (record { made = other; before = front; behind = rest; parts = parts; asks = asks; told = told; stays = λ one has. keeps one (contains_behind other one rest has) })
 
 -- At each place of a run between two lines nothing is open, if each line so far that makes a database was refused.
 module _ (drives : Geometry) (name : List ℕ) (before : List Ran) (script : Script) (of_table : Contains drives.hosts name) (run : Running drives name before script) where

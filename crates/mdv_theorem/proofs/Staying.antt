@@ -11,24 +11,21 @@ use Rattle.mdv_store.specs.Opened.{Opened}
 use Rattle.mdv_volumes.specs.Databases.{log_of}
 use Rattle.mdv_volumes.specs.Tables.{IsMapOf}
 use Rattle.mdv_volumes.proofs.Found.{AreLasting}
+use Rattle.mdv_volumes.proofs.Made.{map_stays}
 use Rattle.mdv_theorem.specs.Exchanges.{Exchange}
 use Rattle.mdv_theorem.specs.Running.{Running}
 use Rattle.mdv_theorem.proofs.Agreeing.{own_sound}
 use Rattle.mdv_theorem.proofs.Clean.{start_by}
 use Rattle.mdv_theorem.proofs.Leading.{lasting_idle}
 use Rattle.mdv_theorem.proofs.Steps.{Between, Failed, Reached, Stepped, Steps, stepped, steps_cut}
-use Rattle.mdv_theorem.proofs.Tables.{IsCarried, Keeps, carried_made, map_carried}
+use Rattle.mdv_theorem.proofs.Tables.{IsCarried, Keeps}
 
 -- the table has the volume
 abbrev pub HasIt : Geometry → VolId → Table → Type 0
 HasIt g volume table = (v : Map) × IsMapOf g table volume v
 
 pub has_carried : (g : Geometry) (volume : VolId) → IsCarried g (HasIt g volume)
-has_carried g volume = (
-  λ old new other slice after has. (has.0, (map_carried g volume has.0).0 old new other slice after has.1),
-  λ table has. (has.0, (map_carried g volume has.0).1 table has.1),
-  λ change old has. (has.0, (map_carried g volume has.0).2 change old has.1),
-)
+has_carried g volume asked old new made has = (has.0, map_stays g volume has.0 asked old new made has.1)
 
 -- the open database, whose table is one of these
 pub record IsOpenWith (host : Host) (P : Table → Type 0) (kept : Kept) : Type 0 where
@@ -70,4 +67,4 @@ module _ (drives : Geometry) (name : List ℕ) (before : List Ran) (script : Scr
     module _ (P : Table → Type 0) (carried : IsCarried host.drives P) where
       -- each table that a boot may find is one of these from the run's start on
       pub first_keeps : KeepsAtFirst of P → Keeps host P first
-      first_keeps are = lasting_idle host P (λ asked old next may made has. carried_made host.drives P carried asked old next made has) (start_by run of) at.first_sure.history at.begun are
+      first_keeps are = lasting_idle host P (λ asked old next may made has. carried asked old next made has) (start_by run of) at.first_sure.history at.begun are

@@ -10,7 +10,7 @@ use Rattle.mdv_shelf.proofs.Stories.{marked_more, same_marks}
 use Rattle.mdv_shelf.specs.Everywhere.{Image}
 use Rattle.mdv_shelf.specs.Story.{AtEach, AtMarks, Mark, Moment, Story, Tally, marked, moment_at, tale_of}
 use Rattle.mdv_shelf.specs.Tale.{Tale, told}
-use Rattle.mdv_table.specs.Slices.{IsSound}
+use Rattle.mdv_config.specs.Slices.{IsSound}
 use Rattle.mdv_theorem.specs.Exchanges.{Exchange, exchanges_by, exchanges_of}
 use Rattle.mdv_theorem.specs.Running.{Lived, LivesOn, ran_now}
 use Rattle.mdv_theorem.specs.Words.{IsMadeOn, spread}

@@ -14,7 +14,7 @@ use Rattle.mdv_theorem.proofs.Come.{CameBehind, HasCome, HasMetNothing, come_boo
 use Rattle.mdv_shelf.specs.Story.{Moment, Story, marked, tale_of}
 use Rattle.mdv_shelf.specs.Tale.{Tale}
 use Rattle.mdv_shown.specs.Sites.{site_of}
-use Rattle.mdv_volumes.specs.History.{History, history_after_all}
+use Rattle.mdv_volumes.specs.History.{History}
 use Rattle.mdv_volumes.proofs.Found.{AreLasting, lasting_at}
 use Rattle.mdv_volumes.proofs.Databases.{is_log_of}
 use Rattle.mdv_volumes.specs.Databases.{log_of}
@@ -22,12 +22,12 @@ use Rattle.mdv_store_law.specs.Log.{Lives}
 use Rattle.mdv_store.specs.Commit.{IsNewestWritten}
 use Rattle.mdv_databases.specs.Going.{IsOpenIn}
 use Rattle.mdv_store.specs.Opened.{IsOpenedAt, Opened}
-use Rattle.mdv_table.specs.Table.{IsPlanOf}
+use Rattle.mdv_config.specs.Table.{IsOfGeometry}
 use Rattle.mdv_base.specs.declared.name.Key.{Key}
 use Rattle.mdv_run_law.proofs.Extents.{SeesOwn}
 use Rattle.mdv_shown.specs.declared.site.Site.{Site}
 use Rattle.mdv_shown.specs.Site.{site_area}
-use Rattle.mdv_table.specs.declared.table.Table.{Table}
+use Rattle.mdv_plan.specs.declared.table.Table.{Table}
 use Rattle.mdv_engine_law.proofs.Within.{outside_seats}
 
 -- a history is known with what is in memory, at a tale by which the drives read as they are kept
@@ -44,9 +44,6 @@ module _ (host : Host) (script : Script) (h : History) (t : Tale) where
     pub is : at.story ≡ Some story
     pub come : HasCome host script h t at.kept.memory at.script (tale_of story)
     pub reads : IsSame at.kept.content (contents (tale_of story))
-
-  pub sure_of : (at : At) → IsSureAt at → IsSure host at.kept
-  sure_of at is = record { tale = tale_of is.story; history = history_after_all h is.come.es; known = is.come.known; reads = is.reads }
 
   -- no boot of the run met a stale vote by that moment
   module _ (m : Tale) (none : HasMetNothing host script h t m) where
@@ -119,8 +116,8 @@ module _ (host : Host) where
       let is = open_newest memory h t o known opened in
       lasting_at host.drives P (log_of h.databases (key_of host)) is.newest.version is.newest.older (is_log_of host.drives h.databases t known.stands.databases (key_of host)) is.newest.family is.written (open_lives memory h t o known opened) (subst P (sym is.newest.same) has)
 
-  pub sure_plan : (kept : Kept) (o : Opened) → IsSure host kept → kept.memory.opened ≡ Some o → IsPlanOf host.drives o.table.plan
-  sure_plan kept o sure opened = (open_is kept.memory sure.history sure.tale o sure.known opened).1.of_geometry
+  pub sure_table : (kept : Kept) (o : Opened) → IsSure host kept → kept.memory.opened ≡ Some o → IsOfGeometry host.drives o.table
+  sure_table kept o sure opened = (open_is kept.memory sure.history sure.tale o sure.known opened).1.of_geometry
 
   -- its places lie where a boot looks
   pub opened_outside : SeesOwn host → (memory : Memory) (h : History) (t : Tale) → IsKnown host memory h t → (drive block : ℕ) → site_area host.site drive block ≡ false → opened_area memory.opened drive block ≡ false

@@ -1,30 +1,29 @@
 -- What lines of a run leave of the database: what no change takes from the tables that a boot may find stays so of each, and it is open as long as no boot is blind.
-use Rattle.std.proofs.Common.{◌≡◌, ◌⊎◌, inl, inr, ℕ, Bool, true, false, List, [], ◌∷◌, ◌++◌, MatchOption, Option, Some, None, refl, sym, ◌∙◌, ap, subst}
+use Rattle.std.proofs.Common.{◌≡◌, ◌⊎◌, inl, inr, ℕ, Bool, true, false, List, [], ◌∷◌, length, MatchOption, Option, Some, None, refl, sym, ◌∙◌, ap, subst}
 use Rattle.std.specs.Bool.{MatchBool}
-use Rattle.std.specs.Option.{option_or}
-use Rattle.std.proofs.lemmas.List.{append-nil}
-use Rattle.mdv_base.specs.Order.{first_refusal, where_so}
-use Rattle.mdv_base.proofs.Order.{full_is_last}
+use Rattle.mdv_base.specs.Order.{first_refusal}
 use Rattle.mdv_base.specs.declared.name.VolId.{VolId}
 use Rattle.mdv_base.specs.declared.drive.SliceName.{SliceName}
 use Rattle.mdv_base.specs.declared.refusal.Refusal.{Refusal}
-use Rattle.mdv_base.specs.declared.refusal.Refusal.TheVariants.{IoFault, OutOfMemory, ReplicaFull}
+use Rattle.mdv_base.specs.declared.refusal.Refusal.TheVariants.{IoFault, OutOfMemory}
 use Rattle.mdv_words.specs.Listed.{Replicas, as_listed, listed_by, meant}
 use Rattle.mdv_run_law.specs.Below.{Entry}
 use Rattle.mdv_engine_law.specs.Answers.{accepted, refusing}
 use Rattle.mdv_engine_law.specs.Commands as came
 use Rattle.mdv_engine_law.specs.Commands.{CameTo, ComesTo, Effect, Fault, IsAllowed, KeepsTab, Wanting, case_of}
 use Rattle.mdv_engine_law.specs.Hosts.{key_of, lines_asked}
-use Rattle.mdv_engine_law.specs.Line.{HasBlocks, HasNoTableOn, IsCommitted, IsCreated, IsReadOf, IsRebooted, IsSame, IsUnbegun, IsUncreated, Kept, Memory, Stays, WritesBy, answered_by, booted_with, opened_by, record_room}
+use Rattle.mdv_engine_law.specs.Line.{HasBlocks, HasNoTableOn, IsCommitted, IsCreated, IsReadOf, IsRebooted, IsSame, IsUnbegun, IsUncreated, Kept, Memory, Stays, WritesBy, answered_by, booted_with, opened_by}
 use Rattle.mdv_engine_law.specs.Line as engine
 use Rattle.mdv_engine_law.specs.Moves.{HasMovedOn, IsDeletedOn, IsUndeletedOn, IsUnmovedOn}
 use Rattle.mdv_engine_law.specs.Places.{are_all}
-use Rattle.mdv_engine_law.specs.Refusals.{bytes_after, held_of_change}
+use Rattle.mdv_engine_law.specs.Altering.{change_of, table_by}
+use Rattle.mdv_engine_law.specs.Refusals.{held_of_alteration}
 use Rattle.mdv_engine_law.specs.Replies.{ok_line, refusal_line, text_of}
 use Rattle.mdv_engine_law.specs.Standing.{ArePutBy, LineWrites}
 use Rattle.mdv_engine_law.specs.declared.answer.Answer.{Answer}
 use Rattle.mdv_engine_law.specs.declared.host.Host.{Host}
 use Rattle.mdv_engine_law.proofs.Allowed.{dropped_forced}
+use Rattle.mdv_growing_law.proofs.Going.{maps_go}
 use Rattle.mdv_map.specs.Maps.{Map}
 use Rattle.mdv_name.specs.declared.geometry.Geometry.{Geometry}
 use Rattle.mdv_places.specs.Asked.{Adds, Asks as AsksPlaces, Drops}
@@ -38,36 +37,33 @@ use Rattle.mdv_store.specs.Booting.{boot_area, has_written}
 use Rattle.mdv_store.specs.Opened.{Opened}
 use Rattle.mdv_store.specs.declared.booting.BootEnd.TheVariants as ending
 use Rattle.mdv_store.specs.declared.booting.BootEnd.{BootEnd}
-use Rattle.mdv_store_law.specs.Changes.{AddListed, AddPlaces, Change, DropPlaces, FirstPlace, OfPlan, moved}
+use Rattle.mdv_store_law.specs.Changes.{Change}
 use Rattle.mdv_store_law.specs.Log.{IsMade, IsRising}
 use Rattle.mdv_survey.specs.declared.replica.Survey.{Survey}
-use Rattle.mdv_table.specs.Change as table
-use Rattle.mdv_table.specs.Change.{IsAfter, table_after}
-use Rattle.mdv_table.specs.Plan.{settled}
-use Rattle.mdv_table.specs.declared.change.Change.{Change as PlanChange}
-use Rattle.mdv_table.specs.declared.change.Change.TheVariants.{MakeStripe}
-use Rattle.mdv_table.specs.declared.table.Table.{Table}
+use Rattle.mdv_plan.specs.declared.table.Table.{Table}
 use Rattle.mdv_volumes.specs.Databases.{log_of}
 use Rattle.mdv_volumes.specs.Happening.{MayBeFound}
 use Rattle.mdv_volumes.specs.Tables.{IsMapOf}
 use Rattle.mdv_volumes.proofs.Found.{AreLasting, newest_found}
-use Rattle.mdv_volumes.proofs.Made.{map_stays}
-use Rattle.mdv_volumes.proofs.Tables.{tables_lie}
 use Rattle.mdv_status.specs.Values.{values_reply}
 use Rattle.mdv_store_law.specs.Log.{Version}
 use Rattle.mdv_words.proofs.Lines.{one_line}
 use Rattle.mdv_words.specs.Line as words
-use Rattle.mdv_words.specs.Line.{IsLine, Line}
+use Rattle.mdv_words.specs.Line.{IsLine, Line, blocks_of}
+use Rattle.mdv_words.specs.declared.command.Alteration.{Alteration}
+use Rattle.mdv_words.specs.declared.command.Alteration.TheVariants.{Make}
 use Rattle.mdv_words.specs.declared.command.Command.{Command}
 use Rattle.mdv_words.specs.declared.command.Command.TheVariants.{Print, Read, Write}
 use Rattle.mdv_words.specs.declared.command.Command.TheVariants as command
+use Rattle.mdv_words.specs.declared.written.Written.{Written}
 use Rattle.mdv_run_law.proofs.Extents.{SeesOwn}
-use Rattle.mdv_theorem.specs.Exchanges.{Asks, Exchange, IsGranted, IsOn, IsTold, ShowsThere}
+use Rattle.mdv_theorem.specs.Exchanges.{Asks, Exchange, IsGranted, IsOn, IsTold, Makes, ShowsThere}
 use Rattle.mdv_theorem.specs.Words.{KeepsDatabase, MayTakeDatabase}
-use Rattle.mdv_theorem.proofs.Adopted.{IsBlind, IsStill, blind_boot, firm_shows}
+use Rattle.mdv_theorem.proofs.Adopted.{IsBlind, blind_boot, firm_shows}
+use Rattle.mdv_theorem.proofs.Altered.{altered_outside, altered_step, asks_built}
 use Rattle.mdv_theorem.proofs.Leading.{IsIdled, IsLed, lasting_idle, lasting_led}
 use Rattle.mdv_theorem.proofs.Steps.{Between, Steps, no_step, one_step, skipped, told_once}
-use Rattle.mdv_theorem.proofs.Sure.{IsSure, open_lasting, open_newest, opened_outside, sure_plan}
+use Rattle.mdv_theorem.proofs.Sure.{IsSure, open_lasting, open_newest, opened_outside, sure_table}
 use Rattle.mdv_theorem.proofs.Telling.{is_fault, ok_is_none, one_number, values_are_none}
 use Rattle.mdv_volumes.proofs.Lists.{contains_behind, contains_first}
 
@@ -75,26 +71,9 @@ use Rattle.mdv_volumes.proofs.Lists.{contains_behind, contains_first}
 abbrev pub Grows : Geometry → Table → Table → Type 0
 Grows g old new = (volume : VolId) (v : Map) → IsMapOf g old volume v → IsMapOf g new volume v
 
--- what is so of a table is so of that which a change makes of it, of its plan or of its places, or the end of a change of its places
+-- what is so of a table is so of that which a change makes of it, of its volumes or of its places, or the end of a change of its places
 abbrev pub IsCarried : Geometry → (Table → Type 0) → Type 0
-IsCarried g P = ((old new : Table) (volume : VolId) (slice : SliceName) → IsAfter g (MakeStripe volume slice) old.plan new.plan → P old → P new) × IsStill P × ((change : Change) (old : Table) → P old → P (moved change old))
-
-pub carried_made : (g : Geometry) (P : Table → Type 0) → IsCarried g P → (asked : Option Change) (old new : Table) → IsMade g asked old new → P old → P new
-carried_made g P carried None old new (inl same) has = subst P (sym same) has
-carried_made g P carried None old new (inr over) has = subst P (sym over) (carried.1 old has)
-carried_made g P carried (Some (OfPlan (MakeStripe volume slice))) old new made has = carried.0 old new volume slice made.0 has
-carried_made g P carried (Some (AddPlaces slices count blocks)) old new made has = subst P (sym made) (carried.2 (AddPlaces slices count blocks) old has)
-carried_made g P carried (Some (AddListed number)) old new made has = subst P (sym made.is) (carried.2 (AddPlaces made.slices made.count made.blocks) old has)
-carried_made g P carried (Some (DropPlaces slices)) old new made has = subst P (sym made) (carried.2 (DropPlaces slices) old has)
-carried_made g P carried (Some FirstPlace) old new made has = subst P (sym made) (carried.2 FirstPlace old has)
-
--- volumes stay where they lie
-pub map_carried : (g : Geometry) (volume : VolId) (v : Map) → IsCarried g (λ t. IsMapOf g t volume v)
-map_carried g volume v = (
-  λ old new other slice after has. tables_lie.stays g old new other slice volume v after has,
-  λ table has. map_stays g volume v None table (settled table) (inr refl) has,
-  λ change old has. has,
-)
+IsCarried g P = (asked : Option Change) (old new : Table) → IsMade g asked old new → P old → P new
 
 -- each table that a boot may find by the history that is known there is one of these
 abbrev pub Keeps : (host : Host) → (Table → Type 0) → Between host → Type 0
@@ -118,10 +97,10 @@ keeps_shown host P at are = firm_shows host at.sure.history at.sure.tale at.sure
 module _ (host : Host) (P : Table → Type 0) (carried : IsCarried host.drives P) where
   -- a line that can't have taken the database away leaves it so
   pub keeps_line : (one : Exchange) (from mid : Between host) → IsLed host one from.sure.history mid.sure.history → (MayTakeDatabase one → ⊥) → Keeps host P from → Keeps host P mid
-  keeps_line one from mid led never are = lasting_led host P one (λ asked old new may made has. carried_made host.drives P carried asked old new made has) never from.sure.history mid.sure.history led are
+  keeps_line one from mid led never are = lasting_led host P one (λ asked old new may made has. carried asked old new made has) never from.sure.history mid.sure.history led are
 
   pub keeps_idle : (from mid : Between host) → IsIdled host from.sure.history mid.sure.history → Keeps host P from → Keeps host P mid
-  keeps_idle from mid idled are = lasting_idle host P (λ asked old new may made has. carried_made host.drives P carried asked old new made has) from.sure.history mid.sure.history idled are
+  keeps_idle from mid idled are = lasting_idle host P (λ asked old new may made has. carried asked old new made has) from.sure.history mid.sure.history idled are
 
   pub keeps_steps : (Failed : ℕ → Type 0) (from last : Between host) (es : List Exchange) → KeepsDatabase es → Keeps host P from → Steps host Failed from es last → Keeps host P last
   keeps_steps Failed from last es keeps are (no_step at) = are
@@ -129,27 +108,15 @@ module _ (host : Host) (P : Table → Type 0) (carried : IsCarried host.drives P
   keeps_steps Failed from last es keeps are (one_step calls at mid end one answer rest unfailed comes said told writes led steps) =
       keeps_steps Failed mid last rest (λ other has. keeps other (contains_behind one other rest has)) (keeps_line one from mid led (keeps one (contains_first one rest)) are) steps
 
--- nothing is told against a change that isn't refused
-unheld : (held : List Refusal) (full : Bool) (bytes room : ℕ) → first_refusal (held ++ where_so full (ReplicaFull bytes room)) ≡ None → first_refusal held ≡ None
-unheld held false bytes room is = subst (λ (l : List Refusal). first_refusal l ≡ None) (append-nil held) is
-unheld held true bytes room is = absurd (never (first_refusal held) (sym (full_is_last held bytes room) ∙ is)) where
-  never : (first : Option Refusal) → option_or first (Some (ReplicaFull bytes room)) ≡ None → ⊥
-  never None is = absurd (cc (is))
-  never (Some r) is = absurd (cc (is))
-
-pub unrefused : (host : Host) (o : Opened) (change : PlanChange) → first_refusal (held_of_change host (Some o) change) ≡ None → table.refusal_of host.drives o.table.plan change ≡ None
-unfolding table.refusal_of
-unrefused host o change is = unheld (table.held host.drives o.table.plan change) _ (bytes_after host o change) (record_room o) is
-
 -- What a line leaves of the blocks beside the replicas: each is kept, or it was written to that one.
 pub record WroteThere (host : Host) (memory : Memory) (text : List ℕ) (t u : Tale) : Type 0 where
   pub volume : VolId
   pub at : ℕ
-  pub block : List ℕ
-  pub spelled : IsLine text (words.Exec (Write volume at block))
+  pub what : Written
+  pub spelled : IsLine text (words.Exec (Write volume at what))
   pub map : Map
-  pub there : HasBlocks host memory volume at 1 map
-  pub put : ArePutBy map at (block ∷ []) t u
+  pub there : HasBlocks host memory volume at (length (blocks_of what)) map
+  pub put : ArePutBy map at (blocks_of what) t u
 
 module _ (host : Host) (sees : SeesOwn host) (kept : Kept) (sure : IsSure host kept) (text : List ℕ) (t u : Tale) (drive b : ℕ) (out : site_area host.site drive b ≡ false) where
   abbrev Left : Type 0
@@ -159,10 +126,10 @@ module _ (host : Host) (sees : SeesOwn host) (kept : Kept) (sure : IsSure host k
   command_kept (command.AddPlaces slices force count blocks) spelled writes = inl (writes.0 drive b out)
   command_kept (command.AddListed number force) spelled writes = inl (writes.0 drive b out)
   command_kept (command.DropPlaces slices force) spelled writes = inl (writes.0 drive b out)
-  command_kept (command.MakeStripe volume slice) spelled writes = inl (writes drive b (opened_outside host sees kept.memory sure.history sure.tale sure.known drive b out))
+  command_kept (command.Alter alteration) spelled writes = inl (altered_outside host kept.memory (change_of alteration) t u writes drive b (opened_outside host sees kept.memory sure.history sure.tale sure.known drive b out))
   command_kept (Read volume at count) spelled writes = inl (writes drive b refl)
-  command_kept (Write volume at block) spelled (inl none) = inl (none drive b refl)
-  command_kept (Write volume at block) spelled (inr (v, there, put)) = inr (record { volume = volume; at = at; block = block; spelled = spelled; map = v; there = there; put = put })
+  command_kept (Write volume at what) spelled (inl none) = inl (none drive b refl)
+  command_kept (Write volume at what) spelled (inr (v, there, put)) = inr (record { volume = volume; at = at; what = what; spelled = spelled; map = v; there = there; put = put })
   command_kept (Print names) spelled writes = inl (writes drive b refl)
 
   line_kept : (spelled : Line) → IsLine text spelled → LineWrites host spelled kept.memory t u → Left
@@ -236,9 +203,9 @@ module _ (host : Host) (calls : Outcomes) (text : List ℕ) (answer : Answer) (k
     by (Some r) = tt
     by None = spelled
   spelled_as entries (command.DropPlaces slices force) spelled = spelled
-  spelled_as entries (command.MakeStripe volume slice) spelled = spelled
+  spelled_as entries (command.Alter alteration) spelled = spelled
   spelled_as entries (Read volume at count) spelled = spelled
-  spelled_as entries (Write volume at block) spelled = spelled
+  spelled_as entries (Write volume at what) spelled = spelled
   spelled_as entries (Print names) spelled = spelled
 
   -- all places went, which force alone allows
@@ -256,9 +223,9 @@ module _ (host : Host) (calls : Outcomes) (text : List ℕ) (answer : Answer) (k
     by : (all : Bool) → are_all its slices ≡ all → MatchBool all (IsDeletedOn calls host its kept next) (HasMovedOn calls host its (Drops slices) kept next) → Line_of
     by true all deleted = gone its slices force also all spelled free (inl ok) (ap (λ (m : Memory). m.opened) deleted.memory)
     by false some is = moves its (Drops slices) is
-  open_done (command.MakeStripe volume slice) spelled free (ok, its, also, made) = rests made.opened (ap (λ (m : Memory). m.opened) made.memory)
+  open_done (command.Alter alteration) spelled free (ok, its, also, made) = rests made.opened (ap (λ (m : Memory). m.opened) made.memory)
   open_done (Read volume at count) spelled free effect = stays effect.7
-  open_done (Write volume at block) spelled free (calm, v, there, ok, memory, put) = still memory
+  open_done (Write volume at what) spelled free (calm, v, there, ok, memory, put) = still memory
   open_done (Print names) spelled free effect = stays effect.4
 
   open_faulted : (cmd : Command) → Spelled cmd → IsAllowed (case_of host kept) cmd → answer ≡ refusing IoFault → Fault calls host kept cmd next → Line_of
@@ -271,18 +238,18 @@ module _ (host : Host) (calls : Outcomes) (text : List ℕ) (answer : Answer) (k
     by : IsUndeletedOn calls host its kept next → Line_of
     by (inl is) = rests is.opened (ap (λ (m : Memory). m.opened) is.memory)
     by (inr is) = gone its slices force also all spelled free (inr told) (ap (λ (m : Memory). m.opened) is.memory)
-  open_faulted (command.MakeStripe volume slice) spelled free told fault = absurd fault
+  open_faulted (command.Alter alteration) spelled free told fault = absurd fault
   open_faulted (Read volume at count) spelled free told fault = stays fault.1
-  open_faulted (Write volume at block) spelled free told (failed, unsettled, put) = rests o (ap (λ (m : Memory). m.opened) unsettled.beside ∙ opened)
+  open_faulted (Write volume at what) spelled free told (failed, unsettled, put) = rests o (ap (λ (m : Memory). m.opened) unsettled.beside ∙ opened)
   open_faulted (Print names) spelled free told fault = absurd fault
 
   open_wanting : (cmd : Command) → Wanting host kept cmd next → Line_of
   open_wanting (command.AddPlaces slices force count blocks) (free, wants) = stays (subst (λ (x : Option Opened). MatchOption x (IsUnbegun kept next) (λ p. Stays kept next)) opened wants)
   open_wanting (command.AddListed number force) wants = absurd wants
   open_wanting (command.DropPlaces slices force) wants = stays wants.4
-  open_wanting (command.MakeStripe volume slice) wants = stays wants.1
+  open_wanting (command.Alter alteration) wants = stays wants.2
   open_wanting (Read volume at count) wants = stays wants.1
-  open_wanting (Write volume at block) wants = absurd wants
+  open_wanting (Write volume at what) wants = stays wants.2
   open_wanting (Print names) wants = stays wants.1
 
   open_came : (cmd : Command) → Spelled cmd → CameTo calls host kept cmd answer next → IsSaid answer → Line_of
@@ -341,14 +308,18 @@ pub record HasThere (host : Host) (volume : VolId) (kept : Kept) : Type 0 where
   pub map : Map
   pub lies : IsMapOf host.drives o.table volume map
 
+-- an alteration makes one volume
+one_named : (alteration : Alteration) (a b : VolId) → Makes a alteration → Makes b alteration → Some a ≡ Some b
+one_named (Make its) a b one other = sym one ∙ other
+
 -- what was told of a command that was granted is no refusal
 pub granted_is_none : (one : Exchange) (cmd : Command) (r : Refusal) → IsGranted one cmd → IsTold one (refusal_line r) → ⊥
 granted_is_none one (command.AddPlaces slices force count blocks) r granted told = ok_is_none r (told_once one ok_line (refusal_line r) granted told)
 granted_is_none one (command.AddListed number force) r granted told = ok_is_none r (told_once one ok_line (refusal_line r) granted told)
 granted_is_none one (command.DropPlaces slices force) r granted told = ok_is_none r (told_once one ok_line (refusal_line r) granted told)
-granted_is_none one (command.MakeStripe volume slice) r granted told = ok_is_none r (told_once one ok_line (refusal_line r) granted told)
+granted_is_none one (command.Alter alteration) r granted told = ok_is_none r (told_once one ok_line (refusal_line r) granted told)
 granted_is_none one (Read volume at count) r (from, blocks, values) told = values_are_none from blocks r (told_once one (values_reply from blocks) (refusal_line r) values told)
-granted_is_none one (Write volume at block) r granted told = ok_is_none r (told_once one ok_line (refusal_line r) granted told)
+granted_is_none one (Write volume at what) r granted told = ok_is_none r (told_once one ok_line (refusal_line r) granted told)
 granted_is_none one (Print names) r (reply, said, other) told = other r (told_once one reply (refusal_line r) said told)
 
 module _ (host : Host) (calls : Outcomes) (kept next : Kept) (one : Exchange) (answer : Answer) (comes : IsAnswered calls host kept one.text answer next) (said : IsSaid answer) (told : IsTold one (text_of answer)) where
@@ -370,32 +341,35 @@ module _ (host : Host) (calls : Outcomes) (kept next : Kept) (one : Exchange) (a
     by (inr (inl (spelled, is, does))) = came_done cmd (meant kept.memory.entries cmd) granted (subst (λ (l : Line). ComesTo calls host kept l answer next) (one_line one.text spelled (words.Exec cmd) is asks) does)
     by (inr (inr (quiet, refused))) = absurd (unrefusing cmd OutOfMemory granted refused.0)
 
-  module _ (volume : VolId) (after : IsSure host next) where
+  module _ (volume : VolId) (before : IsSure host kept) (after : IsSure host next) where
     -- blocks of it were there before
     same_there : (other : VolId) (at count : ℕ) (v : Map) → other ≡ volume → next.memory ≡ kept.memory → HasBlocks host kept.memory other at count v → HasThere host volume next
     same_there other at count v same memory there =
         record { o = there.o; opened = ap (λ (m : Memory). m.opened) memory ∙ there.opened; map = v; lies = subst (λ (w : VolId). IsMapOf host.drives there.o.table w v) same there.lies }
 
-    made_there : (other : VolId) (slice : SliceName) (its : Opened) → other ≡ volume → IsAllowed (case_of host kept) (command.MakeStripe other slice) → kept.memory.opened ≡ Some its
-        → IsCommitted calls host its (table_after host.drives (MakeStripe other slice) its.table) kept next → HasThere host volume next
-    made_there other slice its same free opened made =
-        let change = MakeStripe other slice in
-        let table_is : made.opened.table ≡ table_after host.drives change its.table = ap (λ (x : Opened). x.table) made.committed.is in
-        let unheld : first_refusal (held_of_change host (Some its) change) ≡ None = subst (λ (x : Option Opened). first_refusal (held_of_change host x change) ≡ None) opened free in
-        let grew : IsAfter host.drives change its.table.plan made.opened.table.plan = subst (λ (t : Table). IsAfter host.drives change its.table.plan t.plan) (sym table_is) (unrefused host its change unheld, refl) in
+    -- or it was made
+    altered_there : (alteration : Alteration) → Asks one (command.Alter alteration) → Makes volume alteration → (its : Opened) → IsAllowed (case_of host kept) (command.Alter alteration) → kept.memory.opened ≡ Some its
+        → IsCommitted calls host its (table_by host.drives alteration its.table) kept next → HasThere host volume next
+    altered_there alteration asks makes its free opened made =
+        let asked = asks_built one alteration asks in
+        let table_is : made.opened.table ≡ table_by host.drives alteration its.table = ap (λ (x : Opened). x.table) made.committed.is in
+        let unheld = subst (λ (x : Option Opened). first_refusal (held_of_alteration host x (change_of alteration)) ≡ None) opened free in
         let now : next.memory.opened ≡ Some made.opened = ap (λ (m : Memory). m.opened) made.memory in
-        let lies = tables_lie.lies host.drives its.table made.opened.table other slice grew (sure_plan host next made.opened after now) in
-        record { o = made.opened; opened = now; map = lies.0; lies = subst (λ (w : VolId). IsMapOf host.drives made.opened.table w lies.0) same lies.1 }
+        let step = altered_step host its one alteration made.opened.table asks unheld (sure_table host kept its before opened) (sure_table host next made.opened after now) table_is in
+        let anew = maps_go.made host.drives asked.volume asked.rows None its.table made.opened.table step in
+        let both : Some asked.volume ≡ Some volume = one_named alteration asked.volume volume asked.names makes in
+        let same : asked.volume ≡ volume = cc both in
+        record { o = made.opened; opened = now; map = anew.map; lies = subst (λ (w : VolId). IsMapOf host.drives made.opened.table w anew.map) same anew.lies }
 
-    on_there : (cmd : Command) → IsOn volume cmd → IsAllowed (case_of host kept) (meant kept.memory.entries cmd) × Effect calls host kept (meant kept.memory.entries cmd) answer next → HasThere host volume next
-    on_there (command.AddPlaces slices force count blocks) on done = absurd on
-    on_there (command.AddListed number force) on done = absurd on
-    on_there (command.DropPlaces slices force) on done = absurd on
-    on_there (command.MakeStripe other slice) on (free, (ok, its, opened, made)) = made_there other slice its on free opened made
-    on_there (Read other at count) on (free, (calm, v, there, blocks, many, seen, values, stays)) = same_there other at count v on stays.memory there
-    on_there (Write other at block) on (free, (calm, v, there, ok, memory, put)) = same_there other at 1 v on memory there
-    on_there (Print names) on done = absurd on
+    on_there : (cmd : Command) → Asks one cmd → IsOn volume cmd → IsAllowed (case_of host kept) (meant kept.memory.entries cmd) × Effect calls host kept (meant kept.memory.entries cmd) answer next → HasThere host volume next
+    on_there (command.AddPlaces slices force count blocks) asks on done = absurd on
+    on_there (command.AddListed number force) asks on done = absurd on
+    on_there (command.DropPlaces slices force) asks on done = absurd on
+    on_there (command.Alter alteration) asks on (free, (ok, its, opened, made)) = altered_there alteration asks on its free opened made
+    on_there (Read other at count) asks on (free, (calm, v, there, blocks, many, seen, values, stays)) = same_there other at count v on stays.memory there
+    on_there (Write other at what) asks on (free, (calm, v, there, ok, memory, put)) = same_there other at (length (blocks_of what)) v on memory there
+    on_there (Print names) asks on done = absurd on
 
     -- behind a line that shows it to be there the volume is in the open table
     pub shown_there : ShowsThere volume one → HasThere host volume next
-    shown_there shows = on_there shows.command shows.on (granted_done shows.command shows.asks shows.granted)
+    shown_there shows = on_there shows.command shows.asks shows.on (granted_done shows.command shows.asks shows.granted)

@@ -19,8 +19,8 @@ use Rattle.mdv_shelf.specs.Tale.{Tale, told}
 use Rattle.mdv_shown.specs.Site.{site_area}
 use Rattle.mdv_status.specs.Telling.{left_in, replies_in}
 use Rattle.mdv_store_law.proofs.Machine.{after_more, course_more}
-use Rattle.mdv_table.specs.Slices.{IsSound}
-use Rattle.mdv_table.specs.declared.table.Table.{Table}
+use Rattle.mdv_config.specs.Slices.{IsSound}
+use Rattle.mdv_plan.specs.declared.table.Table.{Table}
 use Rattle.mdv_volumes.specs.History.{History, history_after, history_after_all}
 use Rattle.mdv_volumes.specs.HistoryLaws.{new_history}
 use Rattle.mdv_theorem.specs.Exchanges.{Exchange, exchanges_of}

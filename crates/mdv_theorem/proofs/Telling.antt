@@ -7,7 +7,7 @@ use Rattle.std.specs.Str.{bytes_eq}
 use Rattle.mdv_base.specs.declared.name.Named.{Named}
 use Rattle.mdv_listing.specs.Listing.{listing_of}
 use Rattle.mdv_listing.proofs.Lines.{listings_are_lines}
-use Rattle.mdv_table.specs.declared.plan.Plan.{Plan}
+use Rattle.mdv_plan.specs.declared.plan.Plan.{Plan}
 use Rattle.std.specs.Prelude.{◌==◌}
 use Rattle.std.specs.Fmt.{digits}
 use Rattle.mdv_base.specs.Refusal.{number_of}

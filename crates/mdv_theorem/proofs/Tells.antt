@@ -57,9 +57,9 @@ module _ (one : Exchange) where
     of_command (command.AddPlaces slices force count blocks) asks = told_ok (command.AddPlaces slices force count blocks) asks tt
     of_command (command.AddListed number force) asks = told_ok (command.AddListed number force) asks tt
     of_command (command.DropPlaces slices force) asks = told_ok (command.DropPlaces slices force) asks tt
-    of_command (command.MakeStripe volume slice) asks = inr (other_command (command.MakeStripe volume slice) asks (λ moves. moves))
+    of_command (command.Alter alteration) asks = inr (other_command (command.Alter alteration) asks (λ moves. moves))
     of_command (command.Read volume at count) asks = inr (other_command (command.Read volume at count) asks (λ moves. moves))
-    of_command (command.Write volume at block) asks = inr (other_command (command.Write volume at block) asks (λ moves. moves))
+    of_command (command.Write volume at what) asks = inr (other_command (command.Write volume at what) asks (λ moves. moves))
     of_command (command.Print names) asks = inr (other_command (command.Print names) asks (λ moves. moves))
 
     of_line : (spelled : Line) → IsLine one.text spelled → Either
@@ -104,9 +104,9 @@ module _ (host : Host) (calls : Outcomes) (kept next : Kept) (one : Exchange) (a
   done_open (command.AddPlaces slices force count blocks) needs done = more_open slices force count blocks done
   done_open (command.AddListed number force) needs done = listed_open number force (listed_by kept.memory.entries number) done
   done_open (command.DropPlaces slices force) needs done = less_open slices (subst (λ (b : Bool). IsDone (command.DropPlaces slices b)) needs done)
-  done_open (command.MakeStripe volume slice) needs (free, (ok, its, opened, made)) = (made.opened, ap (λ (m : Memory). m.opened) made.memory)
+  done_open (command.Alter alteration) needs (free, (ok, its, opened, made)) = (made.opened, ap (λ (m : Memory). m.opened) made.memory)
   done_open (command.Read volume at count) needs (free, (calm, v, there, blocks, many, seen, values, stays)) = (there.o, ap (λ (m : Memory). m.opened) stays.memory ∙ there.opened)
-  done_open (command.Write volume at block) needs (free, (calm, v, there, ok, memory, put)) = (there.o, ap (λ (m : Memory). m.opened) memory ∙ there.opened)
+  done_open (command.Write volume at what) needs (free, (calm, v, there, ok, memory, put)) = (there.o, ap (λ (m : Memory). m.opened) memory ∙ there.opened)
   done_open (command.Print names) needs (free, (calm, its, also, text, same)) = (its, ap (λ (m : Memory). m.opened) same.memory ∙ also)
 
   -- A command that was granted on a database leaves one open.
@@ -124,7 +124,7 @@ module _ (host : Host) (calls : Outcomes) (kept next : Kept) (one : Exchange) (a
     takes = refl;
     begun = λ refusal refuses. absurd (ok_is_none refusal (let same : Some ok_line ≡ Some _ = sym ok ∙ refuses in cc (same)));
   }))
-  told_open keeps (command.MakeStripe volume slice, asks, moves, ok) = absurd moves
+  told_open keeps (command.Alter alteration, asks, moves, ok) = absurd moves
   told_open keeps (command.Read volume at count, asks, moves, ok) = absurd moves
-  told_open keeps (command.Write volume at block, asks, moves, ok) = absurd moves
+  told_open keeps (command.Write volume at what, asks, moves, ok) = absurd moves
   told_open keeps (command.Print names, asks, moves, ok) = absurd moves

@@ -1,10 +1,11 @@
 -- What earlier runs, from any start of theirs on, and the lines of a run before a read leave in the block that it reads; unless one of them may have taken the database away.
-use Rattle.std.proofs.Common.{◌≡◌, ◌⊎◌, inl, inr, ℕ, ◌+◌, List, [], ◌∷◌, ◌++◌, length, Some, refl, sym, ◌∙◌, ap, subst, append_assoc, Contains}
+use Rattle.std.proofs.Common.{◌≡◌, ◌⊎◌, inl, inr, ℕ, ◌+◌, List, [], ◌∷◌, ◌++◌, length, Some, sym, ◌∙◌, ap, subst, append_assoc, Contains}
 use Rattle.std.proofs.lemmas.List.{append-nil, append_cancel_right}
 use Rattle.mdv_base.specs.declared.name.Key.TheVariants.{Local}
 use Rattle.mdv_base.specs.declared.name.VolId.{VolId}
 use Rattle.mdv_engine_law.specs.declared.host.Host.{Host}
 use Rattle.mdv_name.specs.declared.geometry.Geometry.{Geometry}
+use Rattle.mdv_plan.specs.Table.{empty_table}
 use Rattle.mdv_port.specs.Script.{Script}
 use Rattle.mdv_run_law.specs.Lives.{IsHistoryOf, IsLife, Ran, host_of}
 use Rattle.mdv_run_law.specs.Run.{At, behind_boot}
@@ -16,12 +17,13 @@ use Rattle.mdv_shelf.specs.Moments.{IsSince}
 use Rattle.mdv_shelf.specs.Story.{Story, tale_of}
 use Rattle.mdv_shelf.specs.Tale.{Tale}
 use Rattle.mdv_status.specs.Values.{values_reply}
-use Rattle.mdv_table.specs.Slices.{IsSound}
-use Rattle.mdv_table.specs.declared.table.Table.{Table}
+use Rattle.mdv_config.specs.Slices.{IsSound}
+use Rattle.mdv_plan.specs.declared.table.Table.{Table}
 use Rattle.mdv_volumes.specs.History.{Deleted, History, history_after_all}
 use Rattle.mdv_volumes.specs.HistoryLaws.{new_history}
 use Rattle.mdv_theorem.specs.Exchanges.{Exchange, TellsBlock, exchanges_by, exchanges_of}
 use Rattle.mdv_theorem.specs.Running.{HaveMetNone, Running, Runs, exchanges_now}
+use Rattle.mdv_theorem.specs.Words.{MayLie}
 use Rattle.mdv_theorem.proofs.Clean.{its_start, met_none, start}
 use Rattle.mdv_theorem.proofs.Come.{HasMetNothing}
 use Rattle.mdv_theorem.proofs.Contents.{IsToldOf, told_block}
@@ -31,14 +33,15 @@ use Rattle.mdv_theorem.proofs.Later.{IsLasting, Lasts, lasting_on, lines_since, 
 use Rattle.mdv_theorem.proofs.Leaving.{Leaves, leaves_more, own, site_leaves}
 use Rattle.mdv_theorem.proofs.Left.{AreInto, Gone, LastsAt, gone_lasts, lines_go, lines_here, lines_leave, lines_say}
 use Rattle.mdv_theorem.proofs.Lined.{idle_quiet}
-use Rattle.mdv_theorem.proofs.Leading.{IsIdled}
-use Rattle.mdv_theorem.proofs.Lying.{LiesOn, early_first, lies_at}
+use Rattle.mdv_theorem.proofs.Having.{HasCome, come_quiet}
+use Rattle.mdv_theorem.proofs.Onward.{IsSoAt, IsSoBehind, life_goes_on, lines_on}
 use Rattle.mdv_theorem.proofs.Over.{AllInto, runs_leave}
 use Rattle.mdv_theorem.proofs.Place.{Spot}
-use Rattle.mdv_theorem.proofs.Placed.{Any, Place, lines_place}
+use Rattle.mdv_theorem.proofs.Placed.{Place, lines_place}
 use Rattle.mdv_theorem.proofs.Staying.{its_sound}
 use Rattle.mdv_theorem.proofs.Steps.{Between, known_at}
 use Rattle.mdv_theorem.proofs.Sure.{IsSureAt, since_last, sure_boot}
+use Rattle.mdv_theorem.proofs.Tabled.{SaysNothing, come_goes, open_lies}
 use Rattle.mdv_theorem.proofs.Tables.{Grows}
 
 module _ (drives : Geometry) (name : List ℕ) (before : List Ran) (script : Script) (sound : IsSound drives) (of_table : Contains drives.hosts name) (run : Running drives name before script) (given : Given) (read : Exchange) (here later : List Exchange)
@@ -119,18 +122,31 @@ module _ (drives : Geometry) (name : List ℕ) (before : List Ran) (script : Scr
   abbrev pub spot : Spot (own drives name).drives final volume number
   spot = its.spot
 
-  -- where it lies, by a place behind the run's boot
-  abbrev at_boot : (sure : IsSureAt host script (start run of_table) run.t.tale booted) × AreIdle host sure.come.es
-  at_boot = up run.made (its_start run of_table)
+  -- a history by which each table that a boot may find is one that the lines of earlier runs may have made
+  behind_them : IsSoBehind drives name SaysNothing (HasCome drives name) (come_goes drives name) of_table run.made (λ earlier its_script other by front at upto k rest more. tt) before run.t.tale
+  behind_them =
+      life_goes_on drives name SaysNothing (HasCome drives name) (come_goes drives name) of_table run.made (λ earlier its_script other by front at upto k rest more. tt) before run.t.tale run.life
 
-  abbrev first_at : Between host
-  first_at = record { kept = by.kept; sure = known_at host script (start run of_table) run.t.tale booted begun }
+  abbrev its_history : IsHistoryOf drives name run.made before run.t.tale
+  its_history = behind_them.history
 
-  first_idled : IsIdled host (start run of_table) first_at.sure.history
-  first_idled = record { es = at_boot.0.come.es; course = at_boot.0.come.course; is = refl; idle = at_boot.1 }
+  abbrev its_none : HasMetNothing host script (h run.made its_history) run.t.tale run.m.tale
+  its_none = none run.made its_history
 
-  pub lie : LiesOn drives name before script sound of_table run volume (exchanges_by name before ++ here) spot.map
-  lie = lies_at drives name before script sound of_table run volume (its_start run of_table) (early_first drives name before script sound of_table run volume) here first_at (record { kept = place.at.kept; sure = place.sure }) first_idled Any place.upto its.o its.opened spot.plan spot.map spot.lies
+  -- so it is at the read
+  come_so : IsSoAt drives name SaysNothing (HasCome drives name) (come_goes drives name) run.fresh script (h run.made its_history) run.t.tale run.m.tale its_none run.stretch (exchanges_by name before ++ lines) place.at
+  come_so =
+      let first = up run.made its_history in
+      lines_on drives name SaysNothing (HasCome drives name) (come_goes drives name) run.fresh script (h run.made its_history) run.t.tale run.m.tale its_none run.stretch 0 booted place.at place.front place.lines before_now (exchanges_by name before)
+      (λ front at upto k rest more. tt)
+      (record { sure = first.0; is = come_quiet drives name (empty_table []) (exchanges_by name before) (h run.made its_history) first.0.come.es first.0.come.course (idle_quiet host first.0.come.es first.1) behind_them.is })
+
+  -- and so the volume may lie
+  pub lie : MayLie drives name volume spot.map (exchanges_by name before ++ here)
+  lie =
+      let now : Between host = record { kept = place.at.kept; sure = known_at host script (h run.made its_history) run.t.tale place.at come_so.sure } in
+      subst (λ (l : List Exchange). MayLie drives name volume spot.map (exchanges_by name before ++ l)) here_is
+      (open_lies drives name run.fresh (exchanges_by name before ++ lines) now its.o its.opened come_so.is volume spot.map spot.lies)
 
   abbrev pub AreLeft : List Exchange → Tale → Tale → Type 0
   AreLeft es t u = Leaves volume number spot.at.drive spot.at.block es t u

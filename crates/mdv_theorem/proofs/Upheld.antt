@@ -85,10 +85,10 @@ module _ (host : Host) (is_host : IsOfTable host) (calm : ℕ → Bool) (calls :
     gives_upheld (AddPlaces slices force count blocks) (stop.Lost active listed) free form halves gives = lost_more slices force count blocks active listed kept.memory.opened free form refl halves gives
     gives_upheld (AddListed number force) (stop.Lost active listed) free form halves gives = gives
     gives_upheld (DropPlaces slices force) (stop.Lost active listed) free form halves gives = lost_less slices force active listed free gives.0 gives.1 (halves gives.0 gives.1) gives.2
-    gives_upheld (command.MakeStripe volume slice) (stop.Lost active listed) free form halves gives =
+    gives_upheld (command.Alter alteration) (stop.Lost active listed) free form halves gives =
         lost_change_never host calm calls unfailed gives.0 gives.2.lost.new _ (record { active = active; listed = listed }) (holds.held gives.0 gives.1) (halves gives.0 gives.1) gives.2.lost.lost gives.2.lost.few
     gives_upheld (Read volume at count) (stop.Lost active listed) free form halves gives = gives
-    gives_upheld (Write volume at block) (stop.Lost active listed) free form halves gives = gives
+    gives_upheld (Write volume at what) (stop.Lost active listed) free form halves gives = gives
     gives_upheld (Print names) (stop.Lost active listed) free form halves gives = gives
     gives_upheld cmd (stop.NoQuorum readable needed) free form halves gives = tt
     gives_upheld cmd (stop.TwoDatabases one other) free form halves gives = tt
@@ -102,9 +102,9 @@ module _ (host : Host) (is_host : IsOfTable host) (calm : ℕ → Bool) (calls :
     effect_upheld (AddPlaces slices force count blocks) is = subst IsUpheld (sym is.0) tt
     effect_upheld (AddListed number force) is = absurd is
     effect_upheld (DropPlaces slices force) is = subst IsUpheld (sym is.0) tt
-    effect_upheld (command.MakeStripe volume slice) is = subst IsUpheld (sym is.0) tt
+    effect_upheld (command.Alter alteration) is = subst IsUpheld (sym is.0) tt
     effect_upheld (Read volume at count) is = subst IsUpheld (sym is.6) tt
-    effect_upheld (Write volume at block) is = subst IsUpheld (sym is.3) tt
+    effect_upheld (Write volume at what) is = subst IsUpheld (sym is.3) tt
     effect_upheld (Print names) is = subst IsUpheld (sym is.3) tt
 
     came_upheld : (cmd : Command) → IsInForm cmd → ((o : Opened) → kept.memory.opened ≡ Some o → Halves cmd o) → CameTo calls host kept cmd answer next → IsUpheld answer

@@ -105,9 +105,9 @@ never_both : (cmd : Command) → MakesDatabase cmd → TakesDatabase cmd → ⊥
 never_both (command.AddPlaces slices force count blocks) makes takes = takes
 never_both (command.AddListed number force) makes takes = takes
 never_both (command.DropPlaces slices force) makes takes = makes
-never_both (command.MakeStripe volume slice) makes takes = makes
+never_both (command.Alter alteration) makes takes = makes
 never_both (command.Read volume at count) makes takes = makes
-never_both (command.Write volume at block) makes takes = makes
+never_both (command.Write volume at what) makes takes = makes
 never_both (command.Print names) makes takes = makes
 
 -- what is so of each database, and of one that could be created, is so of each where the key's current one is over

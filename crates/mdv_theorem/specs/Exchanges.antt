@@ -1,7 +1,6 @@
 -- What was asked and told: the lines of scripts, each with its reply.
 use Rattle.std.specs.Prelude.{◌≡◌, ◌+◌, ◌<◌, ℕ, List, [], ◌∷◌, ◌++◌, length, slice_index_or, Option, None, Some, if◌then◌else◌}
 use Rattle.std.specs.Str.{bytes_eq}
-use Rattle.mdv_base.specs.declared.drive.SliceName.{SliceName}
 use Rattle.mdv_base.specs.declared.name.Named.TheVariants as named
 use Rattle.mdv_base.specs.declared.name.VolId.{VolId}
 use Rattle.mdv_base.specs.declared.refusal.Refusal.{Refusal}
@@ -11,9 +10,14 @@ use Rattle.mdv_port.specs.Script.{Script, at_end, line, spent, too_long}
 use Rattle.mdv_run_law.specs.Lives.{Ran}
 use Rattle.mdv_status.specs.Telling.{replies_in}
 use Rattle.mdv_status.specs.Values.{significant, values_reply}
-use Rattle.mdv_words.specs.Line.{Exec, IsLine}
+use Rattle.mdv_tab.specs.declared.entry.Entry.{Entry}
+use Rattle.mdv_tab.specs.declared.entry.Entry.TheVariants as entry
+use Rattle.mdv_words.specs.Line.{Exec, IsLine, blocks_of}
+use Rattle.mdv_words.specs.declared.command.Alteration.{Alteration}
+use Rattle.mdv_words.specs.declared.command.Alteration.TheVariants.{Make}
 use Rattle.mdv_words.specs.declared.command.Command.{Command}
-use Rattle.mdv_words.specs.declared.command.Command.TheVariants.{AddListed, AddPlaces, DropPlaces, MakeStripe, Print, Read, Write}
+use Rattle.mdv_words.specs.declared.command.Command.TheVariants.{AddListed, AddPlaces, Alter, DropPlaces, Print, Read, Write}
+use Rattle.mdv_words.specs.declared.written.Written.{Written}
 
 -- a line, and the whole reply to it, where one was told
 pub record Exchange : Type 0 where
@@ -46,14 +50,22 @@ Asks one command = IsLine one.text (Exec command)
 abbrev pub IsTold : Exchange → List ℕ → Type 0
 IsTold one reply = one.reply ≡ Some reply
 
+-- the volume that an entry names
+abbrev pub volume_in : Entry → Option VolId
+volume_in (entry.Stripe name rows spares) = Some name.volume
+volume_in other = None
+
+abbrev pub Makes : VolId → Alteration → Type 0
+Makes volume (Make entry) = volume_in entry ≡ Some volume
+
 -- the command makes the volume, reads it or writes it
 abbrev pub IsOn : VolId → Command → Type 0
 IsOn volume (AddPlaces slices force count blocks) = ⊥
 IsOn volume (AddListed number force) = ⊥
 IsOn volume (DropPlaces slices force) = ⊥
-IsOn volume (MakeStripe other slice) = other ≡ volume
+IsOn volume (Alter alteration) = Makes volume alteration
 IsOn volume (Read other at count) = other ≡ volume
-IsOn volume (Write other at block) = other ≡ volume
+IsOn volume (Write other at what) = other ≡ volume
 IsOn volume (Print names) = ⊥
 
 -- the command makes the volume, reads it or writes it, or prints it and nothing else
@@ -61,9 +73,9 @@ abbrev pub IsAbout : VolId → Command → Type 0
 IsAbout volume (AddPlaces slices force count blocks) = ⊥
 IsAbout volume (AddListed number force) = ⊥
 IsAbout volume (DropPlaces slices force) = ⊥
-IsAbout volume (MakeStripe other slice) = other ≡ volume
+IsAbout volume (Alter alteration) = Makes volume alteration
 IsAbout volume (Read other at count) = other ≡ volume
-IsAbout volume (Write other at block) = other ≡ volume
+IsAbout volume (Write other at what) = other ≡ volume
 IsAbout volume (Print names) = names ≡ named.Volume volume ∷ []
 
 -- it was told to be done: by `ok`, of a read by values and `ok` behind them, and of a print by what is no refusal
@@ -83,19 +95,24 @@ pub record ShowsThere (volume : VolId) (one : Exchange) : Type 0 where
 abbrev pub MayHaveBegun : Exchange → Type 0
 MayHaveBegun one = (refusal : Refusal) → IsTold one (refusal_line refusal) → refusal ≡ IoFault
 
--- the volume may have been made on that slice by the line
-pub record MayBeMade (volume : VolId) (slice : SliceName) (one : Exchange) : Type 0 where
-  pub asks : Asks one (MakeStripe volume slice)
-  pub begun : MayHaveBegun one
+-- the line writes these bytes to that block of the volume
+pub record Writes (volume : VolId) (number : ℕ) (block : List ℕ) (one : Exchange) : Type 0 where
+  pub at : ℕ
+  pub what : Written
+  pub asks : Asks one (Write volume at what)
+  pub place : ℕ
+  pub within : place < length (blocks_of what)
+  pub numbered : number ≡ at + place
+  pub value : block ≡ slice_index_or (blocks_of what) place []
 
 -- these bytes may have been written to that block of the volume by the line
-pub record MayBeWritten (volume : VolId) (at : ℕ) (block : List ℕ) (one : Exchange) : Type 0 where
-  pub asks : Asks one (Write volume at block)
+pub record MayBeWritten (volume : VolId) (number : ℕ) (block : List ℕ) (one : Exchange) : Type 0 where
+  pub writes : Writes volume number block one
   pub begun : MayHaveBegun one
 
 -- they were written, and that was acknowledged
-pub record IsAcknowledged (volume : VolId) (at : ℕ) (block : List ℕ) (one : Exchange) : Type 0 where
-  pub asks : Asks one (Write volume at block)
+pub record IsAcknowledged (volume : VolId) (number : ℕ) (block : List ℕ) (one : Exchange) : Type 0 where
+  pub writes : Writes volume number block one
   pub told : IsTold one ok_line
 
 -- the line is a read of blocks, that one among them, and these bytes of it were told

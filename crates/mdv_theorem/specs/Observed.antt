@@ -1,22 +1,27 @@
 -- The theorem in a user's words: of scripts, replies and drives that answer, with no word of replicas, numbers or histories.
-use Rattle.std.specs.Prelude.{◌≡◌, ◌≢◌, ◌⊎◌, ◌↔◌, ◌+◌, ◌-◌, ◌*◌, ◌^◌, ◌≤◌, ◌<◌, ℕ, Bool, None, List, [], ◌∷◌, ◌++◌, length, map, flat_map, Option, Contains, AllPairs, false, true, count_by, Some}
+use Rattle.std.specs.Prelude.{◌≡◌, ◌≢◌, ◌⊎◌, ◌↔◌, ◌+◌, ◌-◌, ◌*◌, ◌^◌, ◌≤◌, ◌<◌, ℕ, Bool, None, List, [], ◌∷◌, ◌++◌, length, map, Option, Contains, true, count_by, Some}
 use Rattle.mdv_base.specs.Causes.{Rose}
 use Rattle.mdv_base.specs.declared.drive.DriveNo.{DriveNo}
 use Rattle.mdv_base.specs.declared.drive.SliceName.{SliceName}
 use Rattle.mdv_base.specs.declared.mark.Identity.{Identity}
 use Rattle.mdv_base.specs.declared.name.Key.TheVariants.{Local}
+use Rattle.mdv_base.specs.declared.name.Named.{Named}
 use Rattle.mdv_base.specs.declared.name.Named.TheVariants as named
 use Rattle.mdv_base.specs.declared.name.VolId.{VolId}
 use Rattle.mdv_base.specs.declared.refusal.Refusal.{Refusal}
 use Rattle.mdv_base.specs.declared.refusal.Refusal.TheVariants.{NeedForce, NoDatabase, NoSuchVolume, OutOfMemory, WrongState}
 use Rattle.mdv_base.specs.declared.state_word.StateWord.{StateWord}
-use Rattle.mdv_engine_law.specs.Replies.{IsRefusal, refusal_line}
+use Rattle.mdv_components.specs.Bases.{volume_of}
+use Rattle.mdv_engine_law.specs.Replies.{IsRefusal, ok_line, refusal_line}
 use Rattle.mdv_engine_law.specs.declared.host.Host.{Host}
 use Rattle.mdv_home.specs.View.{own_view}
+use Rattle.mdv_listing.specs.Listing.{listing_of}
+use Rattle.mdv_map.specs.Maps.{HasDriveBlock, Map}
 use Rattle.mdv_name.specs.SliceIndex.{HasSlice}
 use Rattle.mdv_name.specs.declared.geometry.Geometry.{Geometry}
 use Rattle.mdv_name.specs.declared.slice_lines.SliceAt.{SliceAt}
 use Rattle.mdv_name.specs.declared.slice_lines.SliceLine.{SliceLine}
+use Rattle.mdv_plan.specs.declared.table.Table.{Table}
 use Rattle.mdv_port.specs.Script.{Script}
 use Rattle.mdv_run_law.specs.Lives.{HasMetNone, IsNewWord, Ran, host_of}
 use Rattle.mdv_run_law.specs.Run.{Counts, IsOfTable, IsWholeRun, Stretch, replies_failed, site_failed, source_failed}
@@ -29,11 +34,13 @@ use Rattle.mdv_shelf.specs.Tale.{Tale}
 use Rattle.mdv_shown.specs.Sites.{site_of}
 use Rattle.mdv_status.specs.Telling.{replies_in}
 use Rattle.mdv_status.specs.Values.{printed_reply, values_reply}
+use Rattle.mdv_words.specs.Line.{blocks_of}
 use Rattle.mdv_words.specs.declared.command.Command.{Command}
-use Rattle.mdv_words.specs.declared.command.Command.TheVariants.{Print, Read}
+use Rattle.mdv_words.specs.declared.command.Command.TheVariants.{Print, Read, Write}
+use Rattle.mdv_words.specs.declared.written.Written.{Written}
 use Rattle.mdv_theorem.specs.Exchanges.{Asks, Exchange, IsAbout, IsAcknowledged, IsTold, TellsBlock, exchanges_by, exchanges_of}
 use Rattle.mdv_theorem.specs.Running.{AllAnswered, HasAnswered, HaveMetNone, Lived, LivesOn, Running, Runs, WentOn, exchanges_now, ran_on}
-use Rattle.mdv_theorem.specs.Words.{HasBegun, HasDatabase, HeldAtFirst, IsMadeOn, IsOrWasWritten, IsThere, KeepsDatabase, Listed, MakesDatabase, MayLie, MayLieOn, listed_line}
+use Rattle.mdv_theorem.specs.Words.{HasBegun, HasDatabase, HeldAtFirst, IsMadeOn, IsOrWasWritten, IsThere, KeepsDatabase, MakesDatabase, MayCome, MayHave, MayLie, MayLieOn}
 
 -- How a run may end whose script could be read and whose replies could be told: with NoQuorum where fewer places were readable than are needed; with Panic only where fewer than half are active and a
 -- call failed on a drive on which replicas may lie.
@@ -143,16 +150,15 @@ VolumesStay =
     → Answered run one earlier → HaveAnswered run earlier → IsThere volume earlier → Asks one command → IsAbout volume command
     → (refusal : Refusal) → IsTold one (refusal_line refusal) → (refusal ≡ NoDatabase → ⊥) × (refusal ≡ NoSuchVolume → ⊥)
 
--- The volume keeps its copies of its first so many blocks in this run: each slice of the host that isn't marked `db`, and on which it may lie by these lines, has so many, on a
--- drive that answers. Of a slice that the host hasn't it asks nothing.
+-- The volume keeps its copies of its first so many blocks in this run: wherever it may lie by these lines it has so many, each on a drive that answers.
 pub record KeepsCopies {drives : Geometry} {name : List ℕ} {before : List Ran} {script : Script} (run : Running drives name before script) (volume : VolId) (lines : List Exchange) (end : ℕ) : Type 0 where
-  pub within : (slice : SliceName) (at : SliceAt) → MayLie volume slice lines → HasSlice (own_view drives name).slices slice at → at.db ≡ false → end ≤ at.blocks
-  pub answered : (slice : SliceName) (at : SliceAt) → MayLie volume slice lines → HasSlice (own_view drives name).slices slice at → at.db ≡ false → HasAnswered run at.drive
+  pub within : (v : Map) → MayLie drives name volume v lines → end ≤ v.blocks
+  pub answered : (v : Map) → MayLie drives name volume v lines → (b drive block : ℕ) → b < end → HasDriveBlock (v.copies b) drive block → HasAnswered run (record { 0 = drive })
 
--- The volume bears the losses of drives in this run, so that none takes the value of one of its first so many blocks back: each slice of the host that isn't marked
--- `db`, on which it may lie by these lines, and that has so many, is on a drive that answered.
+-- The volume bears the losses of drives in this run, so that none takes the value of one of its first so many blocks back: wherever it may lie by these lines, and
+-- has so many, each of them is on a drive that answered.
 pub record Bears {drives : Geometry} {name : List ℕ} {before : List Ran} {script : Script} (run : Running drives name before script) (volume : VolId) (lines : List Exchange) (end : ℕ) : Type 0 where
-  pub answered : (slice : SliceName) (at : SliceAt) → MayLie volume slice lines → HasSlice (own_view drives name).slices slice at → at.db ≡ false → end ≤ at.blocks → HasAnswered run at.drive
+  pub answered : (v : Map) → MayLie drives name volume v lines → end ≤ v.blocks → (b drive block : ℕ) → b < end → HasDriveBlock (v.copies b) drive block → HasAnswered run (record { 0 = drive })
 
 -- values of so many blocks, from that one on
 pub record AreValuesOf (at count : ℕ) (reply : List ℕ) : Type 0 where
@@ -168,21 +174,25 @@ ReadsAreTold =
     → Answered run one earlier → HaveAnswered run earlier → HasBegun volume earlier → Asks one (Read volume at count) → count ≤ 1024 → KeepsCopies run volume earlier (at + count)
     → (reply : List ℕ) → IsTold one reply → (reply ≡ refusal_line OutOfMemory) ⊎ AreValuesOf at count reply
 
--- the numbers of what a print tells
-abbrev pub numbers_of : List Listed → List VolId
-numbers_of listed = map (λ (one : Listed). one.volume) listed
+-- A write of blocks of which the volume keeps its copies, of one or of many alike, is told `ok`, or refused for want of memory.
+abbrev pub WritesAreTold : Type 0
+WritesAreTold =
+    (drives : Geometry) (name : List ℕ) (before : List Ran) (script : Script) → Contains drives.hosts name → (run : Running drives name before script)
+    → (one : Exchange) (earlier : List Exchange) (volume : VolId) (at : ℕ) (what : Written)
+    → Answered run one earlier → HaveAnswered run earlier → HasBegun volume earlier → Asks one (Write volume at what) → length (blocks_of what) ≤ 1024 → KeepsCopies run volume earlier (at + length (blocks_of what))
+    → (reply : List ℕ) → IsTold one reply → (reply ≡ refusal_line OutOfMemory) ⊎ (reply ≡ ok_line)
 
--- The reply tells volumes, a line for each, and `ok` behind them: each with a slice on which it may lie by these lines.
-pub record Lists (lines : List Exchange) (reply : List ℕ) : Type 0 where
-  pub listed : List Listed
-  pub told : reply ≡ printed_reply (flat_map listed_line listed)
-  pub lie : (one : Listed) → Contains listed one → MayLie one.volume one.slice lines
+-- the one and the other
+pub record TransfersAreTold : Type 0 where
+  pub reads : ReadsAreTold
+  pub writes : WritesAreTold
 
--- it tells them in ascending order, and each that these lines show to be there is among them
-pub record ListsAll (lines : List Exchange) (reply : List ℕ) : Type 0 where
-  pub are : Lists lines reply
-  pub ascending : AllPairs (λ m n. m.0 < n.0) (numbers_of are.listed)
-  pub each : (volume : VolId) → IsThere volume lines → Contains (numbers_of are.listed) volume
+-- The reply tells volumes as an md.tab does, a line for each, and `ok` behind them: those of these names, or all, of a table that the database may have by these lines, and has each that they show to be there.
+pub record Lists (drives : Geometry) (name : List ℕ) (lines : List Exchange) (names : List Named) (reply : List ℕ) : Type 0 where
+  pub table : Table
+  pub may : MayHave drives name lines table
+  pub there : (volume : VolId) → IsThere volume lines → volume_of table.plan volume ≡ None → ⊥
+  pub told : reply ≡ printed_reply (listing_of table.plan names)
 
 -- A print of volumes each of which lines show to be there tells just these, or is refused for want of memory, as long as enough drives answer for the database.
 abbrev pub PrintsOfNames : Type 0
@@ -190,14 +200,33 @@ PrintsOfNames =
     (drives : Geometry) (name : List ℕ) (before : List Ran) (script : Script) → Contains drives.hosts name → (run : Running drives name before script)
     → (one : Exchange) (earlier : List Exchange) (first : VolId) (volumes : List VolId)
     → Answered run one earlier → HaveAnswered run earlier → ((volume : VolId) → Contains (first ∷ volumes) volume → IsThere volume earlier) → Asks one (Print (map named.Volume (first ∷ volumes)))
-    → (reply : List ℕ) → IsTold one reply → (reply ≡ refusal_line OutOfMemory) ⊎ ((is : Lists earlier reply) × (numbers_of is.listed ≡ first ∷ volumes))
+    → (reply : List ℕ) → IsTold one reply → (reply ≡ refusal_line OutOfMemory) ⊎ Lists drives name earlier (map named.Volume (first ∷ volumes)) reply
 
 -- A print of no names, where lines show that there is a database, tells all its volumes, or is refused for want of memory, as long as enough drives answer for it.
 abbrev pub PrintsOfAll : Type 0
 PrintsOfAll =
     (drives : Geometry) (name : List ℕ) (before : List Ran) (script : Script) → Contains drives.hosts name → (run : Running drives name before script)
     → (one : Exchange) (earlier : List Exchange) → Answered run one earlier → HaveAnswered run earlier → HasDatabase earlier → Asks one (Print [])
-    → (reply : List ℕ) → IsTold one reply → (reply ≡ refusal_line OutOfMemory) ⊎ ListsAll earlier reply
+    → (reply : List ℕ) → IsTold one reply → (reply ≡ refusal_line OutOfMemory) ⊎ Lists drives name earlier [] reply
+
+-- What two prints tell: the first volumes of a table that the database may have by these lines before it, the other of one that the lines in between may have made of that. Where none of these may have
+-- changed volumes, or taken the database away, the two are one.
+pub record ListInTurn (drives : Geometry) (name : List ℕ) (earlier between : List Exchange) (names others : List Named) (reply other : List ℕ) : Type 0 where
+  pub table : Table
+  pub next : Table
+  pub may : MayHave drives name earlier table
+  pub since : MayCome (own_view drives name) between table next
+  pub told : reply ≡ printed_reply (listing_of table.plan names)
+  pub again : other ≡ printed_reply (listing_of next.plan others)
+
+-- Two prints of one run that aren't refused tell volumes of one table, but for what the lines in between may have made of it.
+abbrev pub PrintsAgree : Type 0
+PrintsAgree =
+    (drives : Geometry) (name : List ℕ) (before : List Ran) (script : Script) → Contains drives.hosts name → (run : Running drives name before script)
+    → (print again : Exchange) (first between later : List Exchange) (names others : List Named) → exchanges_now run ≡ first ++ print ∷ between ++ again ∷ later
+    → Asks print (Print names) → Asks again (Print others) → (reply other : List ℕ) → IsTold print reply → IsTold again other
+    → ((refusal : Refusal) → reply ≡ refusal_line refusal → ⊥) → ((refusal : Refusal) → other ≡ refusal_line refusal → ⊥)
+    → ListInTurn drives name (exchanges_by name before ++ first) between names others reply other
 
 -- what a read tells of a block that was written, and the write acknowledged, is that write's, or one's that was issued later
 abbrev pub WritesLast : Type 0
@@ -213,7 +242,7 @@ ReadsAgree =
     → (read again : Exchange) (first between later : List Exchange) (volume : VolId) (number : ℕ) (old block : List ℕ) → exchanges_now run ≡ first ++ read ∷ between ++ again ∷ later
     → TellsBlock volume number old read → TellsBlock volume number block again → IsOrWasWritten volume number old between block
 
--- What a read tells of a block is what the new drives held there, on a slice on which the volume may lie, or was written since.
+-- What a read tells of a block is what the new drives held there, where the volume may lie, or was written since.
 abbrev pub BlocksBegin : Type 0
 BlocksBegin =
     (drives : Geometry) (name : List ℕ) (before : List Ran) (script : Script) → Contains drives.hosts name → (run : Running drives name before script)

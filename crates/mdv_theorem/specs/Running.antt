@@ -19,7 +19,7 @@ use Rattle.mdv_shelf.specs.Everywhere.{Image}
 use Rattle.mdv_shelf.specs.Story.{AtEach, Moment, OfTales, Story, tale_of}
 use Rattle.mdv_shelf.specs.Tale.{Tale}
 use Rattle.mdv_store_law.specs.Laws.{restarted}
-use Rattle.mdv_table.specs.Slices.{IsSound}
+use Rattle.mdv_config.specs.Slices.{IsSound}
 use Rattle.mdv_theorem.specs.Exchanges.{Exchange, exchanges_of}
 
 -- m is a moment of the run that began at t: the run's story began there, and what its moments show of the places between two lines holds of it

@@ -1,30 +1,37 @@
 -- What lines show of a database and of a volume: that they are there, that the volume's blocks may be read, where it lies, and what its blocks may have. Further commands and kinds of
 -- volumes widen these words.
-use Rattle.std.specs.Prelude.{◌≡◌, ◌⊎◌, ◌+◌, ◌<◌, ℕ, List, [], ◌∷◌, ◌++◌, codes, filter, flat_map, is_some, not, replicate, Contains, false, true, Bool}
+use Rattle.std.specs.Prelude.{◌≡◌, ◌⊎◌, ◌<◌, ℕ, List, [], ◌∷◌, ◌++◌, filter, flat_map, is_some, not, replicate, Contains, false, true, Bool}
 use Rattle.std.specs.List.{list_any}
 use Rattle.mdv_base.specs.declared.drive.SliceName.{SliceName}
 use Rattle.mdv_base.specs.declared.name.VolId.{VolId}
 use Rattle.mdv_base.specs.declared.refusal.Refusal.{Refusal}
+use Rattle.mdv_change.specs.declared.change.Change.{Change}
+use Rattle.mdv_config.specs.Lists.{with_lists}
+use Rattle.mdv_engine_law.specs.Altering.{Alters}
 use Rattle.mdv_engine_law.specs.Replies.{ok_line, refusal_line}
 use Rattle.mdv_home.specs.View.{own_view}
-use Rattle.mdv_name.specs.Drive.{slice_text}
-use Rattle.mdv_name.specs.SliceIndex.{HasSlice, same_slice, slice_at}
-use Rattle.mdv_name.specs.Volume.{number_text}
+use Rattle.mdv_keeping.specs.Keeping.{IsStepOf}
+use Rattle.mdv_map.specs.Maps.{HasDriveBlock, Map}
+use Rattle.mdv_name.specs.SliceIndex.{same_slice, slice_at}
 use Rattle.mdv_name.specs.declared.geometry.Geometry.{Geometry}
-use Rattle.mdv_name.specs.declared.slice_lines.SliceAt.{SliceAt}
+use Rattle.mdv_plan.specs.Table.{empty_table}
+use Rattle.mdv_plan.specs.declared.lists.Lists.{Lists}
+use Rattle.mdv_plan.specs.declared.table.Table.{Table}
 use Rattle.mdv_shelf.specs.Everywhere.{Image}
+use Rattle.mdv_volumes.specs.Tables.{IsMapOf}
+use Rattle.mdv_words.specs.declared.command.Alteration.{Alteration}
 use Rattle.mdv_words.specs.declared.command.Command.{Command}
-use Rattle.mdv_words.specs.declared.command.Command.TheVariants.{AddListed, AddPlaces, DropPlaces, MakeStripe, Print, Read, Write}
-use Rattle.mdv_theorem.specs.Exchanges.{Asks, Exchange, IsGranted, IsSameBlock, IsTold, MayBeMade, MayBeWritten, MayHaveBegun, ShowsThere}
+use Rattle.mdv_words.specs.declared.command.Command.TheVariants.{AddListed, AddPlaces, Alter, DropPlaces, Print, Read, Write}
+use Rattle.mdv_theorem.specs.Exchanges.{Asks, Exchange, IsGranted, IsSameBlock, IsTold, MayBeWritten, MayHaveBegun, ShowsThere}
 
 -- the command may take the volume away, with its database: places are dropped with force
 abbrev pub TakesAway : VolId → Command → Type 0
 TakesAway volume (AddPlaces slices force count blocks) = ⊥
 TakesAway volume (AddListed number force) = ⊥
 TakesAway volume (DropPlaces slices force) = force ≡ true
-TakesAway volume (MakeStripe other slice) = ⊥
+TakesAway volume (Alter alteration) = ⊥
 TakesAway volume (Read other at count) = ⊥
-TakesAway volume (Write other at block) = ⊥
+TakesAway volume (Write other at what) = ⊥
 TakesAway volume (Print names) = ⊥
 
 -- the line may have taken the volume away
@@ -52,9 +59,9 @@ abbrev pub TakesDatabase : Command → Type 0
 TakesDatabase (AddPlaces slices force count blocks) = ⊥
 TakesDatabase (AddListed number force) = ⊥
 TakesDatabase (DropPlaces slices force) = force ≡ true
-TakesDatabase (MakeStripe volume slice) = ⊥
+TakesDatabase (Alter alteration) = ⊥
 TakesDatabase (Read volume at count) = ⊥
-TakesDatabase (Write volume at block) = ⊥
+TakesDatabase (Write volume at what) = ⊥
 TakesDatabase (Print names) = ⊥
 
 -- the line may have taken the database away
@@ -73,9 +80,9 @@ abbrev pub NeedsDatabase : Command → Type 0
 NeedsDatabase (AddPlaces slices force count blocks) = Unit {0}
 NeedsDatabase (AddListed number force) = Unit {0}
 NeedsDatabase (DropPlaces slices force) = force ≡ false
-NeedsDatabase (MakeStripe volume slice) = Unit {0}
+NeedsDatabase (Alter alteration) = Unit {0}
 NeedsDatabase (Read volume at count) = Unit {0}
-NeedsDatabase (Write volume at block) = Unit {0}
+NeedsDatabase (Write volume at what) = Unit {0}
 NeedsDatabase (Print names) = Unit {0}
 
 -- the command makes a database, or adds replicas to one, where it is told `ok`
@@ -158,34 +165,37 @@ MayBecome drives name (one ∷ behind) old last = (next : List SliceName) × May
 abbrev pub MayLieOn : Geometry → List ℕ → {lines : List Exchange} → IsMadeOn lines → List SliceName → Type 0
 MayLieOn drives name made slices = MayBecome drives name made.behind (spread made.count made.slices) slices
 
--- The volume may lie on the slice: one of these lines may have made it there, and those that were told `ok` to making it, behind the last one that may have taken it away, named that slice.
--- A line in work on another slice is nothing to a volume whose making was told `ok`.
-pub record MayLie (volume : VolId) (slice : SliceName) (lines : List Exchange) : Type 0 where
-  pub made : Exchange
-  pub asked : Contains lines made
-  pub may : MayBeMade volume slice made
-  pub only : (before since : List Exchange) → lines ≡ before ++ since → ((one : Exchange) → Contains since one → MayTakeAway volume one → ⊥)
-      → (other : Exchange) (elsewhere : SliceName) → Contains since other → Asks other (MakeStripe volume elsewhere) → IsTold other ok_line → elsewhere ≡ slice
+-- What a line may make of a table of the host's database, of whose places nothing is said: none but where it may have begun what it asks, and that is one of the changes that nothing refuses, where replicas lie at
+-- some places; none any more where it may have taken the database away. And the change that it asked was made, where it was told so.
+pub data MayChange (g : Geometry) (one : Exchange) (old next : Table) : Type 0 where
+  stays : ((alteration : Alteration) → Asks one (Alter alteration) → IsTold one ok_line → ⊥) → next ≡ old → MayChange g one old next
+  comes : (alteration : Alteration) (change : Change) (lists : Lists) → Asks one (Alter alteration) → MayHaveBegun one → Alters alteration change → IsStepOf g change (with_lists old lists) (with_lists next lists) → MayChange g one old next
+  ends : MayTakeDatabase one → next ≡ empty_table [] → MayChange g one old next
 
--- what a print tells of a volume: that it lies on a slice, as each does so far
-pub record Listed : Type 0 where
-  pub volume : VolId
-  pub slice : SliceName
+-- what lines may make of one, one behind the other
+abbrev pub MayCome : Geometry → List Exchange → Table → Table → Type 0
+MayCome g [] old last = last ≡ old
+MayCome g (one ∷ lines) old last = (next : Table) × MayChange g one old next × MayCome g lines next last
 
--- the line that tells it, as `d7 1 1 c0t0d0s3`
-abbrev pub listed_line : Listed → List ℕ
-listed_line of = number_text of.volume.0 ++ (codes " 1 1 " ++ (slice_text of.slice ++ 10 ∷ []))
+-- the host's database may have this table behind these lines, but for its places
+abbrev pub MayHave : Geometry → List ℕ → List Exchange → Table → Type 0
+MayHave drives name lines table = MayCome (own_view drives name) lines (empty_table []) table
 
--- what the new drives, which held this, held in that block of the volume: in that block of a slice of the host that isn't marked `db`, on which the
--- volume may lie by these lines
+-- and the volume lie so
+pub record MayLie (drives : Geometry) (name : List ℕ) (volume : VolId) (v : Map) (lines : List Exchange) : Type 0 where
+  pub table : Table
+  pub may : MayHave drives name lines table
+  pub lies : IsMapOf (own_view drives name) table volume v
+
+-- what the new drives, which held this, held in that block of the volume: in the block of a drive on which it may lie by these lines
 pub record HeldAtFirst (drives : Geometry) (name : List ℕ) (made : Image) (lines : List Exchange) (volume : VolId) (number : ℕ) (bytes : List ℕ) : Type 0 where
-  pub slice : SliceName
-  pub may : MayLie volume slice lines
-  pub at : SliceAt
-  pub has : HasSlice (own_view drives name).slices slice at
-  pub plain : at.db ≡ false
-  pub within : number < at.blocks
-  pub held : bytes ≡ made at.drive.0 (at.start + number)
+  pub map : Map
+  pub may : MayLie drives name volume map lines
+  pub within : number < map.blocks
+  pub drive : ℕ
+  pub block : ℕ
+  pub lies : HasDriveBlock (map.copies number) drive block
+  pub held : bytes ≡ made drive block
 
 -- The block has these bytes, or others that one of these lines may have written, or one of them may have taken the volume away.
 abbrev pub IsOrWasWritten : VolId → ℕ → List ℕ → List Exchange → List ℕ → Type 0

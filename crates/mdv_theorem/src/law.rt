@@ -1,14 +1,14 @@
-ghost use Rattle.mdv_theorem.specs.Observed.{BlocksBegin, DatabasesStay, PrintsOfAll, PrintsOfNames, ReadsAgree, ReadsAreTold, RunsAgree, RunsAnswer, RunsEnd, RunsFindEnough, RunsFindOne, RunsKeepEnough, VolumesStay, WritesLast};
+ghost use Rattle.mdv_theorem.specs.Observed.{BlocksBegin, DatabasesStay, PrintsAgree, PrintsOfAll, PrintsOfNames, ReadsAgree, RunsAgree, RunsAnswer, RunsEnd, RunsFindEnough, RunsFindOne, RunsKeepEnough, TransfersAreTold, VolumesStay, WritesLast};
 ghost use Rattle.mdv_theorem.specs.Running.{LivesBegin, RunsGoOn, RunsLiveOn};
 
 /// Whatever ran on the drives before, whatever failed and crashed then: a run whose script can be read and whose replies can be told ends with Panic only where a call failed on a
-/// drive on which its database's replicas may lie; a volume that was made, read or written stays, and a read of it is told as long as it keeps its copies, both as long as enough
-/// drives answer for the database: all on which its replicas may lie, or those of more than half of them, wherever lines may have left them since the first one made it by its slices; and what it tells
-/// of a block is the last write that was acknowledged, or one that was issued later, and what an earlier read of the run told, or was written in between.
+/// drive on which its database's replicas may lie; a volume that was made, read or written stays, and as long as it keeps its copies a read of it is told, and a write acknowledged, if memory suffices,
+/// all as long as enough drives answer for the database: all on which its replicas may lie, or those of more than half of them, wherever lines may have left them since the first one made it by its
+/// slices; and what a read tells of a block is the last write that was acknowledged, or one that was issued later, and what an earlier read of the run told, or was written in between.
 pub fn runs_keep_their_word()
     ensures ends { RunsEnd }
     ensures there { VolumesStay }
-    ensures told { ReadsAreTold }
+    ensures told { TransfersAreTold }
     ensures last { WritesLast }
     ensures agree { ReadsAgree }
 {}
@@ -33,10 +33,12 @@ pub fn databases_stay()
 {}
 
 /// A print of volumes that lines showed to be there, or of all of a database that they showed, is told, or refused for want of memory, as long as enough drives answer for the
-/// database: a line for each volume, with a slice on which it may lie.
+/// database: as an md.tab does, by a table that the database may have by the lines before. And two prints of one run tell volumes of one table, but for what the lines in between may
+/// have made of it.
 pub fn prints_are_told()
     ensures named { PrintsOfNames }
     ensures all { PrintsOfAll }
+    ensures same { PrintsAgree }
 {}
 
 /// A run that came to the end of its script has answered each line, and its status says whether one was refused.

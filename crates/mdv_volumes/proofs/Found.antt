@@ -5,12 +5,12 @@ use Rattle.std.proofs.lemmas.List.Elements.{All-cons, All-contains, All-head, Al
 use Rattle.mdv_base.specs.Mark.{IsBelow}
 use Rattle.mdv_base.specs.declared.mark.Mark.{Mark}
 use Rattle.mdv_store_law.specs.Log as log
-use Rattle.mdv_store_law.specs.Log.{IsAskable, IsLog, IsMade, IsNotOlder, IsRising, Issue, Log, Version, answered, is_firm, log_after}
+use Rattle.mdv_store_law.specs.Log.{IsAskable, IsEmpty, IsLog, IsMade, IsNotOlder, IsRising, Issue, Log, Version, answered, is_firm, log_after}
 use Rattle.mdv_store_law.specs.Machine.{AreAll}
 use Rattle.mdv_store_law.proofs.Families.{contains_behind, contains_cases, contains_first, written_firm}
 use Rattle.mdv_store_law.proofs.Fates.{BeginsNoEnd, lives_there, stays_alive, stays_alive_all}
 use Rattle.mdv_store_law.proofs.Logs.{firm_stays, firm_stays_all, is_log_after, is_log_after_all}
-use Rattle.mdv_table.specs.Plan.{settled}
+use Rattle.mdv_config.specs.Lists.{settled}
 use Rattle.mdv_volumes.specs.Below.{Change, Geometry, Table}
 use Rattle.mdv_volumes.specs.Happening.{MayBeFound}
 use Rattle.mdv_volumes.specs.HistoryLaws.{AsksTable, IsAsked}
@@ -78,7 +78,7 @@ module _ (P : Table → Type 0) where
   begun_found lg mark asked before table here all v found = ⊎_elim (λ new. subst P (ap (λ (w : Version). w.table) new) here) (λ old. all v old)
       (older_found (record { mark = mark; table = table; changes = log.with_asked asked before; is_written = false }) lg.family v found)
 
-module _ (g : Geometry) (P : Table → Type 0) (none : (table : Table) → table.plan.volumes ≡ [] → P table) (over : (table : Table) → P table → P (settled table)) where
+module _ (g : Geometry) (P : Table → Type 0) (none : (table : Table) → IsEmpty table → P table) (over : (table : Table) → P table → P (settled table)) where
   next_table : (lg : Log) (asked : Option Change) (before : List Change) (mark : Mark) (table : Table) → log.IsFirst lg.issued lg.family asked before table ⊎ log.IsNext g lg.family asked before table
       → AllFound P lg.family → ((other : Table) → AsksTable (log.Writing mark asked before table) other → P other) → P table
   next_table lg asked before mark table (inl first) all new = none table first.empty

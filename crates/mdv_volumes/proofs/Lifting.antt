@@ -1,19 +1,20 @@
 -- What goes on in one key's log goes on in the history.
-use Rattle.std.proofs.Common.{◌≡◌, ◌==◌, inl, inr, List, [], ◌∷◌, ◌++◌, Option, Some, find, map, refl, sym, ◌∙◌, ap, subst}
+use Rattle.std.proofs.Common.{◌≡◌, inl, inr, List, [], ◌∷◌, ◌++◌, Option, Some, map, refl, sym, ◌∙◌, ap, subst}
 use Rattle.std.proofs.lemmas.List.{map-append}
 use Rattle.std.proofs.lemmas.Option.{none-some}
 use Rattle.mdv_shelf.proofs.Blocks.{both_ways}
 use Rattle.mdv_store_law.specs.Log as log
+use Rattle.mdv_store_law.specs.Log.{IsEmpty}
 use Rattle.mdv_store_law.specs.Machine.{all_of}
 use Rattle.mdv_databases.proofs.Creating.{creation_elsewhere, creation_here, creation_its}
 use Rattle.mdv_databases.proofs.Lists.{events_elsewhere, events_here, events_log, key_differs, key_is}
-use Rattle.mdv_volumes.specs.Below.{AreDisjoint, Change, Follows, Geometry, Identity, IsCurrentOf, Key, KeptOutside, Log, Map, Stand, Table, Tale, Version, VolId, Volume, site_area, site_of, with_events}
+use Rattle.mdv_volumes.specs.Below.{AreDisjoint, Change, Follows, Geometry, Identity, IsCurrentOf, Key, KeptOutside, Log, Map, Stand, Table, Tale, Version, VolId, site_area, site_of, with_events}
 use Rattle.mdv_volumes.specs.Databases.{Database, current_of, log_in, log_of, same_key, with_creation, with_event}
 use Rattle.mdv_volumes.specs.Happening.{IsCourse, IsNamed, MayBeFound, begun_at, deed_of, issued_by, told_by}
 use Rattle.mdv_volumes.specs.Histories.{Stands}
 use Rattle.mdv_volumes.specs.History.{Deed, Deleted, History, gone_by, history_after_all}
 use Rattle.mdv_volumes.specs.HistoryLaws.{AreLater, CreationsGo, DatabasesGo, IsAsked, IsLifted, IsReady, identity_in, lifted}
-use Rattle.mdv_volumes.specs.Tables.{AreLaid, IsMapOf, map_at}
+use Rattle.mdv_volumes.specs.Tables.{AreLaid, IsMapOf, map_of}
 use Rattle.mdv_volumes.proofs.Databases.{is_log_of}
 use Rattle.mdv_volumes.proofs.Found.{found_all, none_found}
 use Rattle.mdv_volumes.proofs.Made.{ready_settled}
@@ -158,11 +159,11 @@ module _ (g : Geometry) (h : History) (key : Key) (identity : Identity) (es : Li
     follows = λ volume w map. followed key volume w (record { version = v; found = found; map = map });
   }
 
-  -- a table without volumes has no map
-  no_map : (table : Table) → table.plan.volumes ≡ [] → {A : Type 0} → (volume : VolId) (v : Map) → IsMapOf g table volume v → A
-  no_map table none volume v map = absurd (none-some v (sym (ap (λ (l : List Volume). map_at g (find (λ (w : Volume). w.number.0 == volume.0) l)) none) ∙ map))
+  -- the table of a new database has no map
+  no_map : (table : Table) → IsEmpty table → {A : Type 0} → (volume : VolId) (v : Map) → IsMapOf g table volume v → A
+  no_map table none volume v map = absurd (none-some v (sym (ap (λ (t : Table). map_of g t volume) none.1) ∙ map))
 
-  empty_ready : (table : Table) → table.plan.volumes ≡ [] → IsReady g h key m table
+  empty_ready : (table : Table) → IsEmpty table → IsReady g h key m table
   empty_ready table none = record {
     laid = record {
       disjoint = λ volume v map. no_map table none volume v map;

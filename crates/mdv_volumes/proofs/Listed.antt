@@ -3,15 +3,16 @@ use Rattle.std.proofs.Common.{◌≡◌, ◌⊎◌, inl, inr, true, List, [], �
 use Rattle.std.proofs.lemmas.List.Elements.{Contains-append_cases, Contains-append_left, Contains-append_right}
 use Rattle.std.specs.List.{list_any}
 use Rattle.mdv_shelf.proofs.Blocks.{both_ways}
+use Rattle.mdv_keeping.proofs.Places.{lists_stay as lists_same}
 use Rattle.mdv_store_law.specs.Changes.{AddListed, AddPlaces, DropPlaces, FirstPlace, KeepsPlaces, OfPlan, TellsList, list_after, moved}
 use Rattle.mdv_store_law.specs.Log as log
 use Rattle.mdv_store_law.specs.Log.{IsAskable, IsMade, IsSameOrSettled, Issue, PlacesStay, Version}
 use Rattle.mdv_store_law.specs.Machine.{AreAll}
 use Rattle.mdv_store_law.specs.Part.{IsPart}
-use Rattle.mdv_store_law.proofs.Anew.{made_lists, plan_lists}
+use Rattle.mdv_store_law.proofs.Anew.{made_lists}
 use Rattle.mdv_store_law.proofs.Fates.{BeginsNoEnd, lives_there, never_ends}
 use Rattle.mdv_store_law.proofs.Logs.{firm_stays}
-use Rattle.mdv_table.specs.Plan.{last_of}
+use Rattle.mdv_config.specs.Lists.{last_of}
 use Rattle.mdv_databases.proofs.Lists.{key_is}
 use Rattle.mdv_volumes.specs.Below.{Change, Geometry, Key, Lists, Log, One, Place, Table, Two, is_firm}
 use Rattle.mdv_volumes.specs.Databases.{log_of, same_key}
@@ -95,7 +96,7 @@ module _ (g : Geometry) (may : List (List Place)) where
       (with_more change may (last_of old.plan.lists) last, Contains-append_right may (map (list_after change) may) (list_after change (last_of old.plan.lists)) (mapped_has (list_after change) may (last_of old.plan.lists) last))
 
   made_listed : (change : Change) (old next : Table) → TellsList change → IsMade g (Some change) old next → Listed old → AllLists (with_made change may) next.plan.lists
-  made_listed (OfPlan change) old next tells is all = more_lists may (with_made (OfPlan change) may) (with_more (OfPlan change) may) next.plan.lists (subst (AllLists may) (sym (plan_lists g change old next is)) all)
+  made_listed (OfPlan change) old next tells is all = more_lists may (with_made (OfPlan change) may) (with_more (OfPlan change) may) next.plan.lists (subst (AllLists may) (sym (lists_same g change old next is.1)) all)
   made_listed (AddPlaces slices count blocks) old next tells is all = moved_listed (AddPlaces slices count blocks) old next is all
   made_listed (AddListed number) old next tells is all = absurd tells
   made_listed (DropPlaces slices) old next tells is all = moved_listed (DropPlaces slices) old next is all
@@ -104,7 +105,7 @@ module _ (g : Geometry) (may : List (List Place)) where
   -- a change that moves none
   kept_listed : (asked : Option Change) (old next : Table) → IsAskable PlacesStay asked → IsMade g asked old next → Listed old → Listed next
   kept_listed None old next keeps is all = same_listed old next is all
-  kept_listed (Some (OfPlan change)) old next keeps is all = subst (AllLists may) (sym (plan_lists g change old next is)) all
+  kept_listed (Some (OfPlan change)) old next keeps is all = subst (AllLists may) (sym (lists_same g change old next is.1)) all
   kept_listed (Some (AddPlaces slices count blocks)) old next keeps is all = absurd keeps
   kept_listed (Some (AddListed number)) old next keeps is all = absurd keeps
   kept_listed (Some (DropPlaces slices)) old next keeps is all = absurd keeps

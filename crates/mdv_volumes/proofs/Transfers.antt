@@ -1,6 +1,7 @@
 -- Blocks of a volume are written and read.
-use Rattle.std.proofs.Common.{◌≡◌, ◌+◌, ◌<◌, ℕ, true, false, List, [], ◌∷◌, ◌++◌, filter, length, slice_index_or, Contains, refl, sym, ◌∙◌, ap, subst, arith}
+use Rattle.std.proofs.Common.{◌≡◌, ◌+◌, ◌<◌, ◌≤◌, ℕ, true, false, List, [], ◌∷◌, ◌++◌, filter, length, map, slice_index_or, All, Contains, refl, sym, ◌∙◌, ap, subst, arith}
 use Rattle.std.proofs.lemmas.Bool.Decides.{nat_tests}
+use Rattle.std.proofs.lemmas.List.Elements.{All-head, All-tail}
 use Rattle.mdv_map.proofs.Covering.{areas_cover}
 use Rattle.mdv_map.proofs.Following.{answers_follow, copies_follow, flushes_follow, issues_follow}
 use Rattle.mdv_databases.proofs.Lasting.{stand_elsewhere}
@@ -8,10 +9,10 @@ use Rattle.mdv_volumes.specs.Below.{AllOnDisk, AllRead, Among, AreLastIssued, Bl
 use Rattle.mdv_volumes.specs.Databases.{is_volume}
 use Rattle.mdv_volumes.specs.Events.{Answers, Flushes, Issues, VolumeEvent}
 use Rattle.mdv_volumes.specs.Events as lives
-use Rattle.mdv_volumes.specs.Happening.{HasRange, HaveOnly, IsNamed}
+use Rattle.mdv_volumes.specs.Happening.{HasRange, HaveOnly, IsNamed, IsThere}
 use Rattle.mdv_volumes.specs.Histories.{Happens, Stands}
-use Rattle.mdv_volumes.specs.History.{Wrote, OfVolume, Unsettles, History, events_of, history_after, is_within}
-use Rattle.mdv_volumes.specs.HistoryLaws.{IsWritten, ReadsGo, WritesGo}
+use Rattle.mdv_volumes.specs.History.{Deed, Wrote, OfVolume, Unsettles, History, events_of, history_after, is_within}
+use Rattle.mdv_volumes.specs.HistoryLaws.{HasCopyOn, IsWritten, ReadsGo, WritesGo}
 use Rattle.mdv_volumes.specs.Tables.{AreLaid}
 use Rattle.mdv_volumes.proofs.Databases.{volume_itself}
 use Rattle.mdv_volumes.proofs.Lives.{volumes_live}
@@ -22,6 +23,23 @@ use Rattle.mdv_volumes.proofs.Volumes.{after_own, other_map, same_map, stands_af
 more_than_one : (ys : List (List ℕ)) (y x z : List ℕ) → y ∷ ys ≡ x ∷ [] → Among ys z → ⊥
 more_than_one [] y x z same none = none
 more_than_one (w ∷ ws) y x z same among = cc same
+
+-- drives on each of which one of these blocks has a copy, and isn't one value, become unsteady
+unsettled : (g : Geometry) (key : Key) (volume : VolId) (v : Map) (at count : ℕ) → at + count ≤ v.blocks → (m : Tale) (drives : List DriveNo) (h : History) → IsThere g h.databases key volume v
+    → ((k drive block : ℕ) → k < count → HasDriveBlock (v.copies (at + k)) drive block → (x : List ℕ) → h.volumes key volume (at + k) ≡ only x → ⊥)
+    → All (HasCopyOn v at count) drives → Stands g h m → Happens g h (map (Unsettles key) drives) [] [] m
+unsettled g key volume v at count within m [] h there torn each stands = record { course = tt; begins = refl; tells = refl; stands = stands }
+unsettled g key volume v at count within m (drive ∷ drives) h there torn each stands =
+    let on = All-head (HasCopyOn v at count) drive drives each in
+    let below = on.within in
+    let then : Stands g (history_after h (Unsettles key drive)) m = record { databases = stands.databases; laid = stands.laid; apart = stands.apart; volumes = stands.volumes } in
+    let rest = unsettled g key volume v at count within m drives (history_after h (Unsettles key drive)) there torn (All-tail (HasCopyOn v at count) drive drives each) then in
+    record {
+      course = (record { volume = volume; map = v; there = there; number = at + on.number; below = omega (arith, within, below); block = on.block; lies = on.lies; torn = torn on.number drive.0 on.block below on.lies }, rest.course);
+      begins = rest.begins;
+      tells = rest.tells;
+      stands = rest.stands;
+    }
 
 module _ (g : Geometry) (h : History) (key : Key) (volume : VolId) (at : ℕ) (blocks : List (List ℕ)) (t : Tale) (range : HasRange g h.databases key volume at (length blocks)) (stands : Stands g h t) where
   laid : AreLaid g range.there.newest.table
@@ -63,17 +81,11 @@ module _ (g : Geometry) (h : History) (key : Key) (volume : VolId) (at : ℕ) (b
       let own = ap (λ (l : VolumeLog). (l (at + k)).reads) (after_own g h key volume (Issues at blocks) t t stands) in
       more_than_one (h.volumes key volume (at + k)).reads (slice_index_or blocks k []) x (last t drive block) (sym new ∙ sym own ∙ ap (λ (l : BlockLog). l.reads) is) old
 
-  pub torn_goes : (m : Tale) (drive : DriveNo) (k block : ℕ) → Rewriting range.map at blocks t m → k < length blocks → HasDriveBlock (range.map.copies (at + k)) drive.0 block
-      → Happens g h (OfVolume key volume (Issues at blocks) ∷ Unsettles key drive ∷ []) (Wrote key volume at blocks ∷ []) [] m
-  torn_goes m drive k block rewriting lt has =
+  pub torn_goes : (m : Tale) (drives : List DriveNo) → Rewriting range.map at blocks t m → All (HasCopyOn range.map at (length blocks)) drives → Happens g h (OfVolume key volume (Issues at blocks) ∷ map (Unsettles key) drives) (Wrote key volume at blocks ∷ []) [] m
+  torn_goes m drives rewriting each =
       let issued = issued_goes m rewriting in
-      let within = range.within in
-      record {
-        course = (issued.course.0, (record { volume = volume; map = range.map; there = range.there; number = at + k; below = omega (arith, within, lt); block = block; lies = has; torn = torn_at k drive.0 block lt has }, tt));
-        begins = refl;
-        tells = refl;
-        stands = record { databases = issued.stands.databases; laid = issued.stands.laid; apart = issued.stands.apart; volumes = issued.stands.volumes };
-      }
+      let rest = unsettled g key volume range.map at (length blocks) range.within m drives (history_after h (OfVolume key volume (Issues at blocks))) range.there torn_at each issued.stands in
+      record { course = (issued.course.0, rest.course); begins = ap (λ (l : List Deed). Wrote key volume at blocks ∷ l) rest.begins; tells = rest.tells; stands = rest.stands }
 
 -- an event of a volume where nothing is done on the drives
 module _ (g : Geometry) (h : History) (key : Key) (volume : VolId) (e : VolumeEvent) (t : Tale) (stands : Stands g h t) where
@@ -139,7 +151,7 @@ module _ (g : Geometry) (h : History) (key : Key) (volume : VolId) (at : ℕ) (b
 pub writes_go : WritesGo
 writes_go = record {
   issued = λ g h key volume at blocks t m range stands rewriting. issued_goes g h key volume at blocks t range stands m rewriting;
-  torn = λ g h key volume at blocks t m range drive k block stands rewriting lt has. torn_goes g h key volume at blocks t range stands m drive k block rewriting lt has;
+  torn = λ g h key volume at blocks t m range drives stands rewriting each. torn_goes g h key volume at blocks t range stands m drives rewriting each;
   done = λ g h key volume at blocks t u range stands rewriting read on. written_goes g h key volume at blocks t u range stands rewriting read on;
 }
 

@@ -8,7 +8,6 @@ pub use Rattle.mdv_base.specs.declared.name.VolId.{VolId}
 pub use Rattle.mdv_base.specs.declared.place.Place.{Place}
 pub use Rattle.mdv_dev.specs.Pieces.{IsOneCopy, LiesAt}
 pub use Rattle.mdv_layout_law.specs.Laid.{plain_area}
-pub use Rattle.mdv_layout_law.specs.Layout.{at_map}
 pub use Rattle.mdv_map.specs.Logs.{AreLastIssued, BlockLog, Follows, VolumeLog, after_answer, after_begin, after_crash, after_flush, after_issue, is_among, left_in, only, opening}
 pub use Rattle.mdv_map.specs.Maps.{AreDisjoint, HasDriveBlock, IsDisjoint, Map, area_of_map, readings, run_map}
 pub use Rattle.mdv_map.specs.Requests.{AllOnDisk, AllRead, Rewriting}
@@ -28,18 +27,15 @@ pub use Rattle.mdv_shown.specs.Site.{site_area}
 pub use Rattle.mdv_shown.specs.Sites.{site_of}
 pub use Rattle.mdv_standing.specs.Holding.{HasNoReplica, IsFresh}
 pub use Rattle.mdv_store.specs.Records.{Spells}
-pub use Rattle.mdv_table.specs.Change.{IsAfter}
-pub use Rattle.mdv_table.specs.Slices.{IsSound}
-pub use Rattle.mdv_table.specs.Table.{IsOfGeometry}
-pub use Rattle.mdv_table.specs.Volumes.{HasVolume}
-pub use Rattle.mdv_table.specs.declared.change.Change.TheVariants.{MakeStripe}
-pub use Rattle.mdv_table.specs.declared.plan.Lists.{Lists}
-pub use Rattle.mdv_table.specs.declared.plan.Lists.TheVariants.{One, Two}
-pub use Rattle.mdv_table.specs.declared.plan.Plan.{Plan}
-pub use Rattle.mdv_table.specs.declared.table.Table.{Table}
-pub use Rattle.mdv_table.specs.declared.volume.Base.{Base}
-pub use Rattle.mdv_table.specs.declared.volume.Base.TheVariants.{Slice}
-pub use Rattle.mdv_table.specs.declared.volume.Component.{Component}
-pub use Rattle.mdv_table.specs.declared.volume.Volume.{Volume}
-pub use Rattle.mdv_table.specs.declared.volume.VolumeKind.{VolumeKind}
-pub use Rattle.mdv_table.specs.declared.volume.VolumeKind.TheVariants.{Stripe}
+pub use Rattle.mdv_config.specs.Slices.{IsSound}
+pub use Rattle.mdv_config.specs.Table.{IsOfGeometry}
+pub use Rattle.mdv_change.specs.declared.change.Change.{Change as PlanChange}
+pub use Rattle.mdv_components.specs.Bases.{volume_of}
+pub use Rattle.mdv_plan.specs.Parents.{has_parent}
+pub use Rattle.mdv_plan.specs.declared.lists.Lists.{Lists}
+pub use Rattle.mdv_plan.specs.declared.lists.Lists.TheVariants.{One, Two}
+pub use Rattle.mdv_plan.specs.declared.plan.Plan.{Plan}
+pub use Rattle.mdv_plan.specs.declared.table.Table.{Table}
+pub use Rattle.mdv_plan.specs.declared.volume.Volume.{Volume}
+pub use Rattle.mdv_plan.specs.declared.volume.VolumeKind.{VolumeKind}
+pub use Rattle.mdv_plan.specs.declared.volume.VolumeKind.TheVariants.{Stripe}

@@ -138,15 +138,21 @@ pub record ListsStay : Type 0 where
       → ListsAlone key places h
   pub are : (key : Key) (places : List Place) (h : History) → ListsAlone key places h → HasLists key (places ∷ []) h
 
+-- one of so many blocks, from that one on, has a copy on the drive
+pub record HasCopyOn (v : Map) (at count : ℕ) (drive : DriveNo) : Type 0 where
+  pub number : ℕ
+  pub within : number < count
+  pub block : ℕ
+  pub lies : HasDriveBlock (v.copies (at + number)) drive.0 block
+
 -- blocks of a volume are written
 pub record WritesGo : Type 0 where
   -- at each moment they were issued
   pub issued : (g : Geometry) (h : History) (key : Key) (volume : VolId) (at : ℕ) (blocks : List (List ℕ)) (t m : Tale) (range : HasRange g h.databases key volume at (length blocks)) → Stands g h t
       → Rewriting range.map at blocks t m → Happens g h (OfVolume key volume (Issues at blocks) ∷ []) (Wrote key volume at blocks ∷ []) [] m
-  -- where the write fails, a drive on which one of them has a copy may become unsteady
-  pub torn : (g : Geometry) (h : History) (key : Key) (volume : VolId) (at : ℕ) (blocks : List (List ℕ)) (t m : Tale) (range : HasRange g h.databases key volume at (length blocks)) (drive : DriveNo) (k block : ℕ) → Stands g h t
-      → Rewriting range.map at blocks t m → k < length blocks → HasDriveBlock (range.map.copies (at + k)) drive.0 block
-      → Happens g h (OfVolume key volume (Issues at blocks) ∷ Unsettles key drive ∷ []) (Wrote key volume at blocks ∷ []) [] m
+  -- where the write fails, drives on each of which one of them has a copy may become unsteady
+  pub torn : (g : Geometry) (h : History) (key : Key) (volume : VolId) (at : ℕ) (blocks : List (List ℕ)) (t m : Tale) (range : HasRange g h.databases key volume at (length blocks)) (drives : List DriveNo) → Stands g h t
+      → Rewriting range.map at blocks t m → All (HasCopyOn range.map at (length blocks)) drives → Happens g h (OfVolume key volume (Issues at blocks) ∷ map (Unsettles key) drives) (Wrote key volume at blocks ∷ []) [] m
   -- in the end, on the disk, they were answered too, and can be told
   pub done : (g : Geometry) (h : History) (key : Key) (volume : VolId) (at : ℕ) (blocks : List (List ℕ)) (t u : Tale) (range : HasRange g h.databases key volume at (length blocks)) → Stands g h t
       → Rewriting range.map at blocks t u → AllRead range.map at blocks u → AllOnDisk range.map at (length blocks) u → IsWritten g h key volume at blocks u

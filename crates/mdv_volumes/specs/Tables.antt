@@ -1,30 +1,7 @@
 -- Where the volumes of a table lie: the map of each of them.
-use Rattle.std.specs.Prelude.{◌≡◌, ◌⊎◌, ◌==◌, ◌^◌, ◌<◌, ℕ, true, find, Contains, Option, None, Some}
-use Rattle.mdv_volumes.specs.Below.{AreDisjoint, Base, Component, Geometry, IsAfter, IsBeside, IsDisjoint, IsOfGeometry, IsOneCopy, IsSound, MakeStripe, Map, Plan, Slice, SliceName, Stripe, Table, VolId, Volume, VolumeKind, area_of_map, at_map, plain_area, slice_at}
-
--- the blocks of a slice that a component has
-abbrev pub base_map : Geometry → Component → Base → Map
-base_map g c (Slice slice) = at_map (slice_at g.slices slice) c.start c.blocks
-
--- by what a volume is made of; no volume is made of others yet
-abbrev pub kind_map : Geometry → VolumeKind → Option Map
-kind_map g (Stripe s) = Some (base_map g s.component s.component.on)
-
--- the volume of the number
-abbrev pub volume_of : Plan → VolId → Option Volume
-volume_of p volume = find (λ (of : Volume). of.number.0 == volume.0) p.volumes
-
-abbrev pub map_at : Geometry → Option Volume → Option Map
-map_at g None = None
-map_at g (Some of) = kind_map g of.kind
-
--- the map of a volume; none of one that isn't there
-abbrev pub map_of : Geometry → Table → VolId → Option Map
-map_of g table volume = map_at g (volume_of table.plan volume)
-
--- the table has the volume, and that is its map
-abbrev pub IsMapOf : Geometry → Table → VolId → Map → Type 0
-IsMapOf g table volume v = map_of g table volume ≡ Some v
+use Rattle.std.specs.Prelude.{◌≡◌, ◌^◌, ◌<◌, ℕ, true, Contains}
+use Rattle.mdv_volumes.specs.Below.{AreDisjoint, Geometry, IsBeside, IsDisjoint, IsOfGeometry, IsOneCopy, IsSound, Map, Table, VolId, Volume, area_of_map, plain_area}
+pub use Rattle.mdv_layout_law.specs.Layout.{IsMapOf, map_of}
 
 -- no slice on which a boot looks for replicas, of whatever key, has a block of the map
 abbrev pub IsClear : Geometry → Map → Type 0
@@ -45,10 +22,5 @@ pub record AreLaid (g : Geometry) (table : Table) : Type 0 where
 pub record TablesLie : Type 0 where
   -- their volumes lie apart
   pub laid : (g : Geometry) (table : Table) → IsSound g → IsOfGeometry g table → AreLaid g table
-  -- each of them has a map
+  -- each of them has a map: none is used by another one yet
   pub some : (g : Geometry) (table : Table) (of : Volume) → IsOfGeometry g table → Contains table.plan.volumes of → (v : Map) × IsMapOf g table of.number v
-  -- a change makes one that the table before didn't have, which has a map, and leaves the others where they lay
-  pub new : (g : Geometry) (old next : Table) (volume : VolId) (slice : SliceName) (v : Map) → IsSound g → IsAfter g (MakeStripe volume slice) old.plan next.plan → IsMapOf g old volume v → ⊥
-  pub lies : (g : Geometry) (old next : Table) (volume : VolId) (slice : SliceName) → IsAfter g (MakeStripe volume slice) old.plan next.plan → IsOfGeometry g next → (v : Map) × IsMapOf g next volume v
-  pub made : (g : Geometry) (old next : Table) (volume : VolId) (slice : SliceName) (other : VolId) (v : Map) → IsAfter g (MakeStripe volume slice) old.plan next.plan → IsMapOf g next other v → IsMapOf g old other v ⊎ (other ≡ volume)
-  pub stays : (g : Geometry) (old next : Table) (volume : VolId) (slice : SliceName) (other : VolId) (v : Map) → IsAfter g (MakeStripe volume slice) old.plan next.plan → IsMapOf g old other v → IsMapOf g next other v

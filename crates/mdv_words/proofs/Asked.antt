@@ -1,4 +1,4 @@
--- What a line of the grammar asks keeps the numbers of replicas, of volumes and of blocks.
+-- What a line of the grammar asks keeps the numbers of replicas and of blocks.
 use Rattle.std.specs.Option.{option_or}
 use Rattle.std.proofs.Common.{ℕ, ◌≤◌, Bool, true, false, cond, Option, None, Some, sym, subst, List, [], ◌∷◌, codes, length, arith}
 use Rattle.std.specs.Prelude.{IfSome, nat_le}
@@ -9,7 +9,6 @@ use Rattle.mdv_parts.specs.declared.options.ReplicaOptions.{ReplicaOptions}
 use Rattle.mdv_parts.specs.declared.part.Part.{Part}
 use Rattle.mdv_parts.specs.declared.part.Part.TheVariants.{Pool, Replicas, Slice, Volume}
 use Rattle.mdv_parts.specs.Runs.{behind, component_of, front, pool_of, slice_of}
-use Rattle.mdv_tab.specs.declared.entry.Entry.{Entry}
 use Rattle.mdv_tab.specs.Form.{entry_of}
 use Rattle.mdv_tab.specs.Options.{late_interlace, on_some}
 use Rattle.mdv_command.specs.declared.command.Command.{Command}
@@ -27,17 +26,16 @@ use Rattle.mdv_grammar.specs.declared.verb.Head.TheVariants.{OfVerb, OfSets, OfR
 use Rattle.mdv_grammar.specs.declared.verb.Verb.{Verb}
 use Rattle.mdv_grammar.specs.declared.verb.Verb.TheVariants.{Metadb, Metainit, Metaclear, Metattach, Metadetach, Metaoffline, Metaonline, Metareplace, Metahs, Metastat}
 use Rattle.mdv_grammar.specs.Line.{AsksBehind, IsCommand}
-use Rattle.mdv_grammar.specs.Operands.{command_of, plain_of, scope_of}
-use Rattle.mdv_command.specs.Given.{set_given}
+use Rattle.mdv_grammar.specs.Operands.{command_of, plain_of}
 use Rattle.mdv_grammar.specs.Sets.{AsksSets}
 use Rattle.mdv_words.specs.Line.{IsCount, IsLength}
-use Rattle.mdv_words.proofs.Entries.{BeginsSmall, Kept, KeepsEntry, begins_small, entry_keeps, if_either, if_then}
+use Rattle.mdv_words.proofs.Entries.{if_either, if_then}
 
 abbrev pub Keeps : Command → Type 0
 Keeps (Command.AddReplicas slices options force) = (1 ≤ length slices) × IfSome options.count IsCount × IfSome options.blocks IsLength
 Keeps (Command.DeleteReplicas slices force) = 1 ≤ length slices
-Keeps (Command.Make entry force) = KeepsEntry entry
 Keeps (Command.Read volume at count) = 1 ≤ count
+Keeps (Command.Fill volume at count byte) = 1 ≤ count
 Keeps _ = Unit {0}
 
 abbrev Holds : Option Command → Type 0
@@ -105,22 +103,18 @@ metadb_keeps gs set ps is =
     either (has 100 gs) _ _ (passed (only (codes "df") gs) (deleted_of gs ps) (deleted_keeps (has 102 gs) (front slice_of ps) (behind slice_of ps))) (
     passed (only (codes "is") gs) (listed_of gs set ps) (listed_keeps gs set ps)))
 
-make_keeps : (force : Bool) (entry : Option Entry) → Kept entry → Holds (on_some entry (λ e. Some (Command.Make e force)))
-make_keeps force None kept = tt
-make_keeps force (Some e) kept = kept
-
-made_keeps : (force : Bool) (set : Option (List ℕ)) (ps : List Part) → BeginsSmall ps → Holds (made_of force set ps)
-made_keeps force set (Volume v ∷ []) small = tt
-made_keeps force set (Pool p ∷ []) small = tt
-made_keeps force set (Replicas n ∷ ps) small = tt
-made_keeps force set ps small = make_keeps force (entry_of set ps) (entry_keeps set ps small)
+made_keeps : (force : Bool) (set : Option (List ℕ)) (ps : List Part) → Holds (made_of force set ps)
+made_keeps force set (Volume v ∷ []) = tt
+made_keeps force set (Pool p ∷ []) = tt
+made_keeps force set (Replicas n ∷ ps) = tt
+made_keeps force set ps = behind_it (entry_of set ps) (λ e. Some (Command.Make e force)) (λ e. tt)
 
 all_made_keeps : (ps : List Part) → Holds (all_made_of ps)
 all_made_keeps [] = tt
 all_made_keeps (p ∷ ps) = tt
 
-metainit_keeps : (gs : List Given) (set : Option (List ℕ)) (ps : List Part) → BeginsSmall ps → Holds (metainit_of gs set ps)
-metainit_keeps gs set ps small = either (has 97 gs) _ _ (passed (only (codes "a") gs) (all_made_of ps) (all_made_keeps ps)) (made_keeps (has 102 gs) set ps small)
+metainit_keeps : (gs : List Given) (set : Option (List ℕ)) (ps : List Part) → Holds (metainit_of gs set ps)
+metainit_keeps gs set ps = either (has 97 gs) _ _ (passed (only (codes "a") gs) (all_made_of ps) (all_made_keeps ps)) (made_keeps (has 102 gs) set ps)
 
 all_cleared_keeps : (set : Option (List ℕ)) (ps : List Part) → Holds (all_cleared_of set ps)
 all_cleared_keeps set [] = tt
@@ -183,22 +177,22 @@ metahs_keeps gs set all ps =
     either (has 101 gs) _ _ (passed (only (codes "es") gs) _ (enabled_spares_keep set all ps)) (
     passed (has 105 gs) _ (passed (only (codes "is") gs) _ (listed_pools_keep set all ps))))))
 
-plain_keeps : (verb : Verb) (gs : List Given) (set : Option (List ℕ)) (ps : List Part) → AreBounded gs → BeginsSmall ps → Holds (plain_of verb gs set ps)
-plain_keeps Metadb gs set ps is small = metadb_keeps gs set ps is
-plain_keeps Metainit gs set ps is small = metainit_keeps gs set ps small
-plain_keeps Metaclear gs set ps is small = metaclear_keeps gs set ps
-plain_keeps Metattach gs set ps is small = metattach_keeps gs set ps
-plain_keeps Metadetach gs set ps is small = behind_it (submirror_of set ps) _ (λ p. tt)
-plain_keeps Metaoffline gs set ps is small = behind_it (submirror_of set ps) _ (λ p. tt)
-plain_keeps Metaonline gs set ps is small = behind_it (submirror_of set ps) _ (λ p. tt)
-plain_keeps Metareplace gs set ps is small = metareplace_keeps gs set ps
-plain_keeps Metahs gs set ps is small = metahs_keeps gs set false ps
-plain_keeps Metastat gs set ps is small = behind_it (all_of (front named_of ps) (behind named_of ps)) _ (λ ns. tt)
+plain_keeps : (verb : Verb) (gs : List Given) (set : Option (List ℕ)) (ps : List Part) → AreBounded gs → Holds (plain_of verb gs set ps)
+plain_keeps Metadb gs set ps is = metadb_keeps gs set ps is
+plain_keeps Metainit gs set ps is = metainit_keeps gs set ps
+plain_keeps Metaclear gs set ps is = metaclear_keeps gs set ps
+plain_keeps Metattach gs set ps is = metattach_keeps gs set ps
+plain_keeps Metadetach gs set ps is = behind_it (submirror_of set ps) _ (λ p. tt)
+plain_keeps Metaoffline gs set ps is = behind_it (submirror_of set ps) _ (λ p. tt)
+plain_keeps Metaonline gs set ps is = behind_it (submirror_of set ps) _ (λ p. tt)
+plain_keeps Metareplace gs set ps is = metareplace_keeps gs set ps
+plain_keeps Metahs gs set ps is = metahs_keeps gs set false ps
+plain_keeps Metastat gs set ps is = behind_it (all_of (front named_of ps) (behind named_of ps)) _ (λ ns. tt)
 
-verb_keeps : (verb : Verb) (gs : List Given) (set : Option (List ℕ)) (all : Bool) (ps : List Part) → AreBounded gs → BeginsSmall ps → Holds (command_of verb gs set all ps)
-verb_keeps verb gs set false ps is small = plain_keeps verb gs set ps is small
-verb_keeps Metahs gs set true ps is small = metahs_keeps gs set true ps
-verb_keeps _ gs set true ps is small = tt
+verb_keeps : (verb : Verb) (gs : List Given) (set : Option (List ℕ)) (all : Bool) (ps : List Part) → AreBounded gs → Holds (command_of verb gs set all ps)
+verb_keeps verb gs set false ps is = plain_keeps verb gs set ps is
+verb_keeps Metahs gs set true ps is = metahs_keeps gs set true ps
+verb_keeps _ gs set true ps is = tt
 
 sets_keep : (form : SetForm) (gs : List Given) (ws : List (List ℕ)) (c : Command) → AsksSets form gs ws c → Keeps c
 sets_keep Show gs ws c asks = subst Keeps (sym asks.1) tt
@@ -208,12 +202,11 @@ sets_keep (Change form) gs ws c asks = subst Keeps (sym asks.4) tt
 asked_keeps : (head : Head) (ws : List (List ℕ)) (c : Command) → AsksBehind head ws c → Keeps c
 asked_keeps (OfVerb verb) ws c asks =
     let parts = asks.asks in
-    let small = begins_small (scope_of (set_given asks.given) parts.set) parts.names parts.parts parts.spelled in
-    subst (λ (o : Option Command). Holds o) parts.form (verb_keeps verb asks.given parts.set parts.all parts.parts (bounded (joined asks.options.0.spelled) asks.given asks.options.0.given) small)
+    subst (λ (o : Option Command). Holds o) parts.form (verb_keeps verb asks.given parts.set parts.all parts.parts (bounded (joined asks.options.0.spelled) asks.given asks.options.0.given))
 asked_keeps OfSets ws c asks = sets_keep asks.form asks.given asks.operands c asks.asks
 asked_keeps OfRead ws c asks = subst Keeps (sym asks.is) asks.counted.some
 asked_keeps OfWrite ws c asks = subst Keeps (sym asks.is) tt
-asked_keeps OfFill ws c asks = subst Keeps (sym asks.is) tt
+asked_keeps OfFill ws c asks = subst Keeps (sym asks.is) asks.counted.some
 asked_keeps OfIdle ws c asks = subst Keeps (sym asks.is) tt
 
 pub command_keeps : (ws : List (List ℕ)) (c : Command) → IsCommand ws c → Keeps c

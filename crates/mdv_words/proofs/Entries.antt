@@ -1,5 +1,5 @@
--- The volume of a stripe that an entry makes has a number below 8192, and an entry of replicas names a slice or more, and numbers that replicas may have.
-use Rattle.std.proofs.Common.{ℕ, ◌<◌, ◌≤◌, Bool, true, false, cond, Option, None, Some, List, [], ◌∷◌, length, arith}
+-- An entry of replicas names a slice or more, and numbers that replicas may have.
+use Rattle.std.proofs.Common.{ℕ, ◌≤◌, Bool, true, false, cond, Option, None, Some, List, [], ◌∷◌, length, arith}
 use Rattle.std.specs.Prelude.{IfSome, nat_le}
 use Rattle.mdv_base.specs.declared.drive.SliceName.{SliceName}
 use Rattle.mdv_base.specs.declared.name.PoolId.{PoolId}
@@ -7,15 +7,12 @@ use Rattle.mdv_base.specs.declared.name.VolId.{VolId}
 use Rattle.mdv_name.specs.declared.volume.PoolName.{PoolName}
 use Rattle.mdv_name.specs.declared.volume.VolName.{VolName}
 use Rattle.mdv_parts.specs.declared.component.Component.{Component}
-use Rattle.mdv_parts.specs.declared.names.Scope.{Scope}
 use Rattle.mdv_parts.specs.declared.options.ReplicaOptions.{ReplicaOptions}
 use Rattle.mdv_parts.specs.declared.part.Part.{Part}
 use Rattle.mdv_parts.specs.declared.part.Part.TheVariants.{Number, Pool, Replicas, Volume}
 use Rattle.mdv_parts.specs.Options.{at_letter, has_letter, split_replica_options}
-use Rattle.mdv_parts.specs.Part.{AreParts}
 use Rattle.mdv_parts.specs.Runs.{behind, component_of, front, pool_of, slice_of, volume_of}
 use Rattle.mdv_tab.specs.declared.entry.Entry.{Entry}
-use Rattle.mdv_tab.specs.declared.entry.Entry.TheVariants.{Stripe}
 use Rattle.mdv_tab.specs.declared.entry.MirrorOptions.{MirrorOptions}
 use Rattle.mdv_tab.specs.declared.entry.RaidOptions.{RaidOptions}
 use Rattle.mdv_tab.specs.declared.entry.Row.{Row}
@@ -34,24 +31,11 @@ if_then P None next holds = tt
 if_then P (Some b) next holds = holds b
 
 abbrev pub KeepsEntry : Entry → Type 0
-KeepsEntry (Stripe name rows spares) = name.volume.0 < 8192
 KeepsEntry (Entry.Replicas number options slices) = (1 ≤ length slices) × AreBounded options
 KeepsEntry _ = Unit {0}
 
 abbrev pub Kept : Option Entry → Type 0
 Kept entry = IfSome entry KeepsEntry
-
--- a volume that stands first
-abbrev pub BeginsSmall : List Part → Type 0
-BeginsSmall (Volume v ∷ ps) = v.0 < 8192
-BeginsSmall _ = Unit {0}
-
-pub begins_small : (scope : Scope) (ws : List (List ℕ)) (ps : List Part) → AreParts scope ws ps → BeginsSmall ps
-begins_small scope [] [] are = tt
-begins_small scope [] (p ∷ ps) are = absurd are
-begins_small scope (w ∷ ws) [] are = absurd are
-begins_small scope (w ∷ ws) (Volume v ∷ ps) are = are.0.form.volume
-begins_small scope (w ∷ ws) (p ∷ ps) are = tt
 
 mirror_keeps : (name : VolName) (vs : List VolId) (read : MirrorOptions × List Part) → Kept (mirror_with name vs read)
 mirror_keeps name [] (options, ps) = tt
@@ -87,16 +71,16 @@ replicas_keep number ps = by (split_replica_options ps) (options_bounded ps) whe
   by None are = tt
   by (Some r) are = replicas_end number r.0 (front slice_of r.1) (behind slice_of r.1) are
 
-rows_keep : (name : VolName) (read : Option (List Row × List Part)) → name.volume.0 < 8192 → Kept (with_rows name read)
-rows_keep name None small = tt
-rows_keep name (Some (rows, ps)) small = by (at_letter 104 pool_of ps) where
+rows_keep : (name : VolName) (read : Option (List Row × List Part)) → Kept (with_rows name read)
+rows_keep name None = tt
+rows_keep name (Some (rows, ps)) = by (at_letter 104 pool_of ps) where
   by : (read : Option (Option PoolId × List Part)) → Kept (ends_stripe name rows read)
   by None = tt
-  by (Some (spares, [])) = small
+  by (Some (spares, [])) = tt
   by (Some (spares, p ∷ ps)) = tt
 
-stripe_keeps : (name : VolName) (count : ℕ) (ps : List Part) → name.volume.0 < 8192 → Kept (stripe_of name count ps)
-stripe_keeps name count ps small = if_either KeepsEntry (nat_le 1 count) (with_rows name (split_rows count ps)) None (rows_keep name (split_rows count ps) small) tt
+stripe_keeps : (name : VolName) (count : ℕ) (ps : List Part) → Kept (stripe_of name count ps)
+stripe_keeps name count ps = if_either KeepsEntry (nat_le 1 count) (with_rows name (split_rows count ps)) None (rows_keep name (split_rows count ps)) tt
 
 lettered_keeps : (name : VolName) (p : Part) (ps : List Part) → Kept (lettered_of name p ps)
 lettered_keeps name p ps =
@@ -106,15 +90,15 @@ lettered_keeps name p ps =
     let raided = if_either KeepsEntry (has_letter 114 p) (raid_of name ps) soft (raid_keeps name (front component_of ps) (raid_options (behind component_of ps))) softly in
     if_either KeepsEntry (has_letter 109 p) (mirror_of name ps) raid (mirror_keeps name (front volume_of ps) (mirror_options (behind volume_of ps))) raided
 
-volume_keeps : (name : VolName) (ps : List Part) → name.volume.0 < 8192 → Kept (volume_entry name ps)
-volume_keeps name [] small = tt
-volume_keeps name (Number n ∷ ps) small = stripe_keeps name n ps small
-volume_keeps name (p ∷ ps) small = lettered_keeps name p ps
+volume_keeps : (name : VolName) (ps : List Part) → Kept (volume_entry name ps)
+volume_keeps name [] = tt
+volume_keeps name (Number n ∷ ps) = stripe_keeps name n ps
+volume_keeps name (p ∷ ps) = lettered_keeps name p ps
 
-pub entry_keeps : (set : Option (List ℕ)) (ps : List Part) → BeginsSmall ps → Kept (entry_of set ps)
-entry_keeps set [] small = tt
-entry_keeps set (Volume v ∷ ps) small = volume_keeps (record { set = set; volume = v }) ps small
-entry_keeps set (Pool p ∷ ps) small = pool_keeps (record { set = set; pool = p }) (front slice_of ps) (behind slice_of ps)
-entry_keeps None (Replicas n ∷ ps) small = replicas_keep n ps
-entry_keeps (Some s) (Replicas n ∷ ps) small = tt
-entry_keeps set (p ∷ ps) small = tt
+pub entry_keeps : (set : Option (List ℕ)) (ps : List Part) → Kept (entry_of set ps)
+entry_keeps set [] = tt
+entry_keeps set (Volume v ∷ ps) = volume_keeps (record { set = set; volume = v }) ps
+entry_keeps set (Pool p ∷ ps) = pool_keeps (record { set = set; pool = p }) (front slice_of ps) (behind slice_of ps)
+entry_keeps None (Replicas n ∷ ps) = replicas_keep n ps
+entry_keeps (Some s) (Replicas n ∷ ps) = tt
+entry_keeps set (p ∷ ps) = tt

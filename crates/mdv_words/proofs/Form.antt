@@ -1,18 +1,17 @@
--- A line makes 1 to 50 replicas of 16 to 8192 blocks on one slice or more, a volume has a number below 8192, and a line reads one block at least.
-use Rattle.std.proofs.Common.{ℕ, ◌<◌, Bool, true, Option, None, Some, subst, List, [], ◌∷◌, arith}
+-- A line makes 1 to 50 replicas of 16 to 8192 blocks on one slice or more, a volume of rows of slices, and reads or writes one block at least.
+use Rattle.std.proofs.Common.{◌≡◌, ℕ, ◌≤◌, ◌&&◌, Bool, true, false, if◌then◌else◌, Option, None, Some, refl, sym, subst, List, length, replicate, arith}
 use Rattle.std.specs.Prelude.{IfSome}
-use Rattle.mdv_base.specs.declared.drive.SliceName.{SliceName}
+use Rattle.std.proofs.lemmas.List.{length-replicate}
 use Rattle.mdv_base.specs.declared.name.Named.{Named}
-use Rattle.mdv_base.specs.declared.name.PoolId.{PoolId}
-use Rattle.mdv_base.specs.declared.name.VolId.{VolId}
-use Rattle.mdv_name.specs.declared.volume.VolName.{VolName}
 use Rattle.mdv_grammar.specs.Below.{words}
-use Rattle.mdv_tab.specs.declared.entry.Entry.TheVariants.{Stripe}
-use Rattle.mdv_tab.specs.declared.entry.Row.{Row}
+use Rattle.mdv_tab.specs.declared.entry.Entry.{Entry}
 use Rattle.mdv_command.specs.declared.command.Command.{Command as Wanted}
 use Rattle.mdv_command.specs.declared.command.Command.TheVariants as wanted
+use Rattle.mdv_remake.specs.Asked.{is_within}
+use Rattle.mdv_words.specs.declared.command.Alteration.TheVariants.{Make}
 use Rattle.mdv_words.specs.declared.command.Command.{Command}
-use Rattle.mdv_words.specs.Line.{IsCommand, IsCount, IsInForm, IsLength, blocks_or_default, built_of, count_or_default, on_local, print_of, slice_of_row, stripe_of, volume_on}
+use Rattle.mdv_words.specs.declared.written.Written.TheVariants.{Filled, One}
+use Rattle.mdv_words.specs.Line.{IsCommand, IsCount, IsInForm, IsLength, blocks_of, blocks_or_default, built_of, count_or_default, is_built, make_of, on_local, print_of}
 use Rattle.mdv_words.proofs.Asked.{Keeps, command_keeps}
 
 abbrev Formed : Option Command → Type 0
@@ -30,13 +29,15 @@ print_formed : (set : Option (List ℕ)) (names : List Named) (printed : Bool) �
 print_formed None names true = tt
 print_formed set names printed = tt
 
-volume_formed : (set : Option (List ℕ)) (volume : VolId) (slice : Option SliceName) → volume.0 < 8192 → Formed (volume_on set volume slice)
-volume_formed None volume (Some slice) small = small
-volume_formed set volume slice small = tt
+make_formed : (entry : Entry) → Formed (make_of entry)
+make_formed entry = by (is_built entry) (is_within entry) refl refl where
+  by : (built within : Bool) → is_built entry ≡ built → is_within entry ≡ within → Formed (if built && within then Some (Command.Alter (Make entry)) else None)
+  by true true is fits = (is, fits)
+  by true false is fits = tt
+  by false within is fits = tt
 
-stripe_formed : (name : VolName) (rows : List Row) (spares : Option PoolId) → name.volume.0 < 8192 → Formed (stripe_of name rows spares)
-stripe_formed name (row ∷ []) None small = volume_formed name.set name.volume (slice_of_row row.components row.interlace) small
-stripe_formed name rows spares small = tt
+filled_formed : (count byte : ℕ) → 1 ≤ count → 1 ≤ length (blocks_of (Filled count byte))
+filled_formed count byte some = subst (λ (n : ℕ). 1 ≤ n) (sym (length-replicate count (replicate 512 byte))) some
 
 local_formed : (set : Option (List ℕ)) (command : Command) → IsInForm command → Formed (on_local set command)
 local_formed None command is = is
@@ -46,9 +47,10 @@ built_formed : (asked : Wanted) → Keeps asked → Formed (built_of asked)
 built_formed (wanted.AddReplicas slices options force) keeps = (keeps.0, count_formed options.count keeps.1, length_formed options.blocks keeps.2)
 built_formed (wanted.AddListed number force) keeps = tt
 built_formed (wanted.DeleteReplicas slices force) keeps = keeps
-built_formed (wanted.Make (Stripe name rows spares) force) keeps = stripe_formed name rows spares keeps
+built_formed (wanted.Make entry force) keeps = make_formed entry
 built_formed (wanted.Read volume at count) keeps = local_formed volume.set (Command.Read volume.volume at count) keeps
-built_formed (wanted.Write volume at block) keeps = local_formed volume.set (Command.Write volume.volume at block) tt
+built_formed (wanted.Write volume at block) keeps = local_formed volume.set (Command.Write volume.volume at (One block)) (omega arith)
+built_formed (wanted.Fill volume at count byte) keeps = local_formed volume.set (Command.Write volume.volume at (Filled count byte)) (filled_formed count byte keeps)
 built_formed (wanted.Status set names printed) keeps = print_formed set names printed
 built_formed _ keeps = tt
 

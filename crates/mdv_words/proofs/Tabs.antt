@@ -3,16 +3,15 @@ use Rattle.std.proofs.Common.{◌≡◌, inl, inr, ℕ, Bool, true, false, if◌
 use Rattle.std.specs.Prelude.{IfSome}
 use Rattle.std.specs.List.{find}
 use Rattle.std.proofs.lemmas.List.Elements.{All-append, All-cons, All-head, All-nil, All-tail}
-use Rattle.mdv_parts.specs.declared.names.Scope.{Scope}
 use Rattle.mdv_tab.specs.declared.entry.Entry.{Entry}
 use Rattle.mdv_tab.specs.Text.{Gives, IsEntry, IsTab, ReadsGroups, groups, group_words}
 use Rattle.mdv_name.specs.Lines.{lines}
 use Rattle.mdv_words.specs.Listed.{AreFormed, AreInForm, Replicas, is_listed, said_by}
-use Rattle.mdv_words.proofs.Entries.{KeepsEntry, begins_small, entry_keeps}
+use Rattle.mdv_words.proofs.Entries.{KeepsEntry, entry_keeps}
 use Rattle.mdv_words.proofs.Form.{count_formed, length_formed}
 
 entry_kept : (ws : List (List ℕ)) (e : Entry) → IsEntry ws e → KeepsEntry e
-entry_kept ws e is = subst (λ (o : Option Entry). IfSome o KeepsEntry) is.form (entry_keeps is.set is.parts (begins_small (Scope.Only is.set) ws is.parts is.spelled))
+entry_kept ws e is = subst (λ (o : Option Entry). IfSome o KeepsEntry) is.form (entry_keeps is.set is.parts)
 
 given_kept : (g : List (List ℕ)) (es : List Entry) → Gives g es → All KeepsEntry es
 given_kept g es (ascii, inl none) = subst (All KeepsEntry) (sym none.1) (All-nil KeepsEntry)

@@ -1,12 +1,12 @@
 -- What an item of a script is, which is one line or a `tab` block: `boot`, a block's lines, or a line that is built.
-use Rattle.std.specs.Prelude.{◌≡◌, ◌<◌, ◌≤◌, ℕ, Bool, true, Option, None, Some, List, [], ◌∷◌, ◌++◌, codes, length}
+use Rattle.std.specs.Prelude.{◌≡◌, ◌≤◌, ◌&&◌, ℕ, Bool, true, false, Option, None, Some, List, [], ◌∷◌, ◌++◌, codes, length, replicate, if◌then◌else◌}
+use Rattle.std.specs.List.{list_all}
+use Rattle.std.specs.Option.{is_none}
 use Rattle.mdv_base.specs.declared.drive.SliceName.{SliceName}
 use Rattle.mdv_base.specs.declared.name.Named.{Named}
-use Rattle.mdv_base.specs.declared.name.PoolId.{PoolId}
-use Rattle.mdv_base.specs.declared.name.VolId.{VolId}
-use Rattle.mdv_name.specs.declared.volume.VolName.{VolName}
 use Rattle.mdv_parts.specs.declared.component.Component.{Component}
-use Rattle.mdv_parts.specs.declared.component.Component.TheVariants.{Slice}
+use Rattle.mdv_parts.specs.declared.component.Component.TheVariants.{Slice, Volume}
+use Rattle.mdv_tab.specs.declared.entry.Entry.{Entry}
 use Rattle.mdv_tab.specs.declared.entry.Entry.TheVariants.{Stripe}
 use Rattle.mdv_tab.specs.declared.entry.Row.{Row}
 use Rattle.mdv_command.specs.declared.command.Command.{Command as Wanted}
@@ -15,8 +15,12 @@ use Rattle.mdv_grammar.specs.Line.{IsLine as IsAsked}
 use Rattle.mdv_grammar.specs.declared.line.Line.TheVariants as grammar
 use Rattle.mdv_grammar.specs.declared.line.WordsFault.{WordsFault}
 use Rattle.mdv_grammar.specs.declared.line.WordsFault.TheVariants.{BadLine, Memory}
+use Rattle.mdv_remake.specs.Asked.{is_within}
+use Rattle.mdv_words.specs.declared.command.Alteration.TheVariants.{Make}
 use Rattle.mdv_words.specs.declared.command.Command.{Command}
-use Rattle.mdv_words.specs.declared.command.Command.TheVariants.{AddListed, AddPlaces, DropPlaces, MakeStripe, Print, Read, Write}
+use Rattle.mdv_words.specs.declared.command.Command.TheVariants.{AddListed, AddPlaces, Alter, DropPlaces, Print, Read, Write}
+use Rattle.mdv_words.specs.declared.written.Written.{Written}
+use Rattle.mdv_words.specs.declared.written.Written.TheVariants.{Filled, One}
 use Rattle.mdv_words.specs.declared.line.Line.{Line as ReadLine}
 use Rattle.mdv_words.specs.declared.line.Line.TheVariants as read
 
@@ -54,20 +58,20 @@ blocks_or_default (Some blocks) = blocks
 abbrev pub creation_of : List SliceName → Option ℕ → Option ℕ → Bool → Command
 creation_of slices count blocks force = AddPlaces slices force (count_or_default count) (blocks_or_default blocks)
 
--- a row of one slice, with no interlace
-abbrev pub slice_of_row : List Component → Option ℕ → Option SliceName
-slice_of_row (Slice slice ∷ []) None = Some slice
-slice_of_row components interlace = None
+abbrev pub is_slice : Component → Bool
+is_slice (Slice slice) = true
+is_slice (Volume volume) = false
 
--- a volume of the local database on the slice
-abbrev pub volume_on : Option (List ℕ) → VolId → Option SliceName → Option Command
-volume_on None volume (Some slice) = Some (MakeStripe volume slice)
-volume_on set volume slice = None
+abbrev pub is_of_slices : Row → Bool
+is_of_slices row = list_all is_slice row.components
 
--- one row, with no pool of spares
-abbrev pub stripe_of : VolName → List Row → Option PoolId → Option Command
-stripe_of name (row ∷ []) None = volume_on name.set name.volume (slice_of_row row.components row.interlace)
-stripe_of name rows spares = None
+-- what the program makes yet: a volume of the local database, of rows of slices, with no pool of spares
+abbrev pub is_built : Entry → Bool
+is_built (Stripe name rows spares) = is_none name.set && (is_none spares && list_all is_of_slices rows)
+is_built other = false
+
+abbrev pub make_of : Entry → Option Command
+make_of entry = if is_built entry && is_within entry then Some (Alter (Make entry)) else None
 
 -- blocks of a volume of the local database
 abbrev pub on_local : Option (List ℕ) → Command → Option Command
@@ -80,14 +84,15 @@ print_of None names true = Some (Print names)
 print_of set names printed = None
 
 -- The commands that are built, among all that a line may ask: `metadb -a [-f] [-c COUNT] [-l BLOCKS] SLICE ..`, `metadb -a [-f] mddbNN`, `metadb -d [-f] SLICE ..`,
--- `metainit [-f] dN 1 1 SLICE`, whose `-f` changes nothing, `read`, `write`, and `metastat -p [NAME ..]`.
+-- `metainit [-f] dN NUMSTRIPES ..` of slices, without `-h`, whose `-f` changes nothing, `read`, `write`, `fill`, and `metastat -p [NAME ..]`.
 abbrev pub built_of : Wanted → Option Command
 built_of (wanted.AddReplicas slices options force) = Some (creation_of slices options.count options.blocks force)
 built_of (wanted.AddListed number force) = Some (AddListed number force)
 built_of (wanted.DeleteReplicas slices force) = Some (DropPlaces slices force)
-built_of (wanted.Make (Stripe name rows spares) force) = stripe_of name rows spares
+built_of (wanted.Make entry force) = make_of entry
 built_of (wanted.Read volume at count) = on_local volume.set (Read volume.volume at count)
-built_of (wanted.Write volume at block) = on_local volume.set (Write volume.volume at block)
+built_of (wanted.Write volume at block) = on_local volume.set (Write volume.volume at (One block))
+built_of (wanted.Fill volume at count byte) = on_local volume.set (Write volume.volume at (Filled count byte))
 built_of (wanted.Status set names printed) = print_of set names printed
 built_of _ = None
 
@@ -115,12 +120,17 @@ IsCount count = (1 ≤ count) × (count ≤ 50)
 abbrev pub IsLength : ℕ → Type 0
 IsLength blocks = (16 ≤ blocks) × (blocks ≤ 8192)
 
+-- the blocks that are to be written
+abbrev pub blocks_of : Written → List (List ℕ)
+blocks_of (One block) = block ∷ []
+blocks_of (Filled count byte) = replicate count (replicate 512 byte)
+
 -- what each command of a line keeps
 abbrev pub IsInForm : Command → Type 0
 IsInForm (AddPlaces slices force count blocks) = (1 ≤ length slices) × IsCount count × IsLength blocks
 IsInForm (AddListed number force) = Unit {0}
 IsInForm (DropPlaces slices force) = 1 ≤ length slices
-IsInForm (MakeStripe volume slice) = volume.0 < 8192
+IsInForm (Alter (Make entry)) = (is_built entry ≡ true) × (is_within entry ≡ true)
 IsInForm (Read volume at count) = 1 ≤ count
-IsInForm (Write volume at block) = Unit {0}
+IsInForm (Write volume at what) = 1 ≤ length (blocks_of what)
 IsInForm (Print names) = Unit {0}

@@ -1,10 +1,13 @@
 ghost use Rattle.std.specs.Prelude.{◌≡◌};
-ghost use Rattle.mdv_words.specs.Line.{blocks_or_default, count_or_default, creation_of, print_of, slice_of_row, stripe_of, on_local, built_of};
+ghost use Rattle.std.specs.List.{list_all};
+ghost use Rattle.mdv_words.specs.Line.{blocks_or_default, count_or_default, creation_of, is_built as spec_is_built, is_of_slices as spec_is_of_slices, is_slice as spec_is_slice, make_of, print_of, on_local, built_of};
 
-use mdv_base::{Block, Name, Named, PoolId, SliceName, VolId};
+use crate::written::Written;
+use mdv_base::{Name, Named, SliceName, VolId};
 use mdv_command::Command as Asked;
 use mdv_name::VolName;
 use mdv_parts::{Component, Items, ReplicaOptions};
+use mdv_remake::is_within;
 use mdv_tab::{Entry, Row};
 
 // How many replicas each slice gets where no `-c` is given.
@@ -37,10 +40,9 @@ pub enum Command {
         slices: Items<SliceName>,
         force: bool,
     },
-    /// `metainit dN 1 1 SLICE`, or with `-f`
-    MakeStripe {
-        volume: VolId,
-        slice: SliceName,
+    /// A change of the volumes of the open database.
+    Alter {
+        alteration: Alteration,
     },
     /// `read dN AT COUNT`: COUNT blocks from block AT of the volume on, 1 or more
     Read {
@@ -48,16 +50,24 @@ pub enum Command {
         at: u64,
         count: u64,
     },
-    /// `write dN AT HEX`: one block; HEX is 1 to 512 pairs of digits, the rest of the block is zeros
+    /// `write dN AT HEX`, `fill dN AT COUNT BYTE`: blocks from block AT of the volume on
     Write {
         volume: VolId,
         at: u64,
-        block: Block,
+        what: Written,
     },
     /// `metastat -p`, or with names: these volumes and pools of the local database alone
     Print {
         names: Items<Named>,
     },
+}
+
+/// How the volumes of a database are to change.
+#[derive(Drop)]
+pub enum Alteration {
+    /// `metainit dN NUMSTRIPES ..`, or with `-f`: the volume of the entry, whose rows are of slices, without a pool of
+    /// spares
+    Make(Entry),
 }
 
 pub(crate) fn count_of(options: &ReplicaOptions) -> u8
@@ -89,33 +99,49 @@ fn creation(slices: Items<SliceName>, options: &ReplicaOptions, force: bool) -> 
     }
 }
 
-// The slice of a row of one.
-fn slice_of(row: &Row) -> Option<SliceName>
-    ensures { result ≡ slice_of_row row.now.components row.now.interlace }
+fn is_slice(component: &Component) -> bool
+    ensures { result ≡ spec_is_slice component.now }
 {
-    if row.interlace.is_some() {
-        return None;
-    }
-    match row.components.as_slice() {
-        [Component::Slice(slice)] => Some(*slice),
-        _ => None,
+    match component {
+        Component::Slice(_) => true,
+        Component::Volume(_) => false,
     }
 }
 
-fn stripe(name: &VolName, rows: &[Row], spares: &Option<PoolId>) -> Option<Command>
-    ensures { result ≡ stripe_of name.now rows.now spares.now }
+fn is_of_slices(row: &Row) -> bool
+    ensures { result ≡ spec_is_of_slices row.now }
 {
-    let [row] = rows else {
-        return None;
-    };
-    if spares.is_some() || name.set.is_some() {
-        return None;
+    row.components.as_slice().iter().all(is_slice)
+}
+
+fn are_of_slices(rows: &[Row]) -> bool
+    ensures { result ≡ list_all spec_is_of_slices rows.now }
+{
+    rows.iter().all(is_of_slices)
+}
+
+// Whether it is a volume that is made yet.
+fn is_built(entry: &Entry) -> bool
+    ensures { result ≡ spec_is_built entry.now }
+{
+    match entry {
+        Entry::Stripe { name, rows, spares } => {
+            name.set.is_none() && spares.is_none() && are_of_slices(rows.as_slice())
+        }
+        _ => false,
     }
-    let slice = slice_of(row)?;
-    Some(Command::MakeStripe {
-        volume: name.volume,
-        slice,
-    })
+}
+
+fn make(entry: Entry) -> Option<Command>
+    ensures { result ≡ make_of entry }
+{
+    if is_built(&entry) && is_within(&entry) {
+        Some(Command::Alter {
+            alteration: Alteration::Make(entry),
+        })
+    } else {
+        None
+    }
 }
 
 // The command where its volume is of the local database.
@@ -151,10 +177,7 @@ pub(crate) fn built(asked: Asked) -> Option<Command>
         } => Some(creation(slices, &options, force)),
         Asked::AddListed { number, force } => Some(Command::AddListed { number, force }),
         Asked::DeleteReplicas { slices, force } => Some(Command::DropPlaces { slices, force }),
-        Asked::Make {
-            entry: Entry::Stripe { name, rows, spares },
-            ..
-        } => stripe(&name, rows.as_slice(), &spares),
+        Asked::Make { entry, .. } => make(entry),
         Asked::Read { volume, at, count } => local(
             &volume,
             Command::Read {
@@ -168,7 +191,20 @@ pub(crate) fn built(asked: Asked) -> Option<Command>
             Command::Write {
                 volume: volume.volume,
                 at,
-                block,
+                what: Written::One(block),
+            },
+        ),
+        Asked::Fill {
+            volume,
+            at,
+            count,
+            byte,
+        } => local(
+            &volume,
+            Command::Write {
+                volume: volume.volume,
+                at,
+                what: Written::Filled { count, byte },
             },
         ),
         Asked::Status {

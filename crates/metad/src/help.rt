@@ -46,7 +46,12 @@ standard input, with a command on each line:
     metadb -d c0t1d0s7       takes the replicas on each slice away; with -f all of them, and with
                              these the database
     metainit d0 1 1 c0t0d0s0 makes the volume d0 of all blocks of a slice
+    metainit d1 1 2 c0t0d0s1 c0t1d0s1 -i 64b
+                             makes a stripe of two slices, 64 blocks of each in turn, or 32 without
+                             the -i; 2 1 SLICE 1 SLICE makes two stripes, one behind the other
     write d0 5 ab            writes block 5 of d0: bytes in hexadecimal, and zeros behind
+    fill d0 5 100 ab         writes 100 blocks of d0, from block 5 on, each byte of them the same; at
+                             most 1024 at a time
     read d0 5 1              tells 1 block of d0, from block 5 on; at most 1024 at a time
     metastat -p              tells all volumes as lines of an md.tab, or those named behind it
     boot                     boots the host anew, as at the start

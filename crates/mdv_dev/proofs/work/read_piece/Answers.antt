@@ -7,11 +7,11 @@ use Rattle.mdv_shelf.proofs.InTime.{kept_on_call}
 use Rattle.mdv_map.specs.Maps.{Map}
 use Rattle.mdv_map.specs.Requests.{AreRead}
 use Rattle.mdv_dev.specs.Works.{LeavesBuffer, HasRoom, HasDoneOf, HasSyncedOf, written_of, is_turn}
-use Rattle.mdv_dev.specs.Pieces.{is_start}
+use Rattle.mdv_dev.specs.Pieces.{has_drive, is_start}
 use Rattle.mdv_dev.specs.declared.work.WorkKind.{WorkKind}
 use Rattle.mdv_dev.specs.declared.work.WorkKind.TheVariants.{Read}
 use Rattle.mdv_dev.proofs.Counting.{has_at}
-use Rattle.mdv_dev.proofs.Drives.{drives_of_on}
+use Rattle.mdv_dev.proofs.Drives.{where_on}
 use Rattle.mdv_dev.proofs.Failing.{calm_on, failed_on}
 use Rattle.mdv_dev.proofs.Lying.{drive_here, in_drive, starts_in, starts_next}
 use Rattle.mdv_dev.proofs.Slicing.{filled_before, filled_behind, filled_front, filled_long, filled_part, part_long}
@@ -86,7 +86,7 @@ returns-in-Err-clause-kept g c =
     let w = c.args.work.now in
     let some = c.piece-piece.ensures.some in
     let here = drive_here v w.at w.done w.count c.piece-piece.result c.piece-piece.ensures w.done (omega arith) (omega arith) in
-    drives_of_on g.S.Shelf _ _ v w.at w.count c.piece-piece.result.drive.0 (has_at v w.at w.count w.done c.piece-piece.result.drive.0 c.requires.open.some_left here)
+    where_on g.S.Shelf _ _ (has_drive v w.at w.count) c.piece-piece.result.drive.0 (has_at v w.at w.count w.done c.piece-piece.result.drive.0 c.requires.open.some_left here)
     (kept_on_call g.S.Shelf (OnDrive c.piece-piece.result.drive.0) _ _ c.read.ensures.noted c.read.ensures.keeps c.read.ensures.cause.others)
 
 pub returns-in-Ok-clause-moments : goal.returns-in-Ok-clause-moments
@@ -136,5 +136,5 @@ returns-in-Ok-clause-kept g c =
     let w = c.args.work.now in
     let some = c.piece-piece.ensures.some in
     let here = drive_here v w.at w.done w.count c.piece-piece.result c.piece-piece.ensures w.done (omega arith) (omega arith) in
-    drives_of_on g.S.Shelf _ _ v w.at w.count c.piece-piece.result.drive.0 (has_at v w.at w.count w.done c.piece-piece.result.drive.0 c.requires.open.some_left here)
+    where_on g.S.Shelf _ _ (has_drive v w.at w.count) c.piece-piece.result.drive.0 (has_at v w.at w.count w.done c.piece-piece.result.drive.0 c.requires.open.some_left here)
     (kept_on_call g.S.Shelf (OnDrive c.piece-piece.result.drive.0) _ _ c.read.ensures.noted c.read.ensures.keeps c.read.ensures.cause.others)

@@ -1,23 +1,20 @@
-use Rattle.std.proofs.Common.{◌+◌, ◌-◌, ◌<◌, ◌≤◌, ◌≡◌, inl, inr, ℕ, true, false, [], nat_lt, Option, refl, sym, ◌∙◌, arith}
+use Rattle.std.proofs.Common.{◌+◌, ◌-◌, ◌≤◌, ◌≡◌, ℕ, true, [], Option, refl, sym, ◌∙◌, arith}
 use Rattle.mdv_shelf.specs.Tale.{Tale}
 use Rattle.mdv_shelf.specs.Calls.{OnDrive}
 use Rattle.mdv_shelf.specs.Moments.{Ends, Moments}
 use Rattle.mdv_shelf.specs.Shelves.{DriveFailures}
 use Rattle.mdv_shelf.proofs.InTime.{kept_on_call}
-use Rattle.mdv_shelf.proofs.Blocks.{both_ways}
-use Rattle.mdv_map.proofs.Copies.{le_of_test, lt_of_test}
 use Rattle.mdv_map.specs.Maps.{Map}
 use Rattle.mdv_map.specs.Requests.{OnDrives, Rewriting}
 use Rattle.mdv_dev.specs.Below.{IsSynced}
 use Rattle.mdv_dev.specs.Works.{LeavesBuffer, HasDoneOf, HasSyncedOf, news, written_of, is_turn}
-use Rattle.mdv_dev.specs.Pieces.{IsPiece, has_drive, is_new}
-use Rattle.mdv_dev.specs.declared.piece.Piece.{Piece}
+use Rattle.mdv_dev.specs.Pieces.{has_drive, is_new}
 use Rattle.mdv_dev.specs.declared.work.WorkKind.{WorkKind}
 use Rattle.mdv_dev.specs.declared.work.WorkKind.TheVariants.{Flush, Read}
 use Rattle.mdv_dev.proofs.Counting.{has_at}
-use Rattle.mdv_dev.proofs.Drives.{drives_of_on}
+use Rattle.mdv_dev.proofs.Drives.{where_on}
 use Rattle.mdv_dev.proofs.Failing.{calm_on, failed_on}
-use Rattle.mdv_dev.proofs.Lying.{drive_here, in_drive, seen_in}
+use Rattle.mdv_dev.proofs.Lying.{drive_here, in_drive, seen_until}
 use Rattle.mdv_dev.proofs.Turning.{carry_ends, ends_still, missed, sync_ends, sync_moments, turn_counted, turn_missed, turned}
 use Rattle.mdv_dev.proofs.work.sync_drive.Goals as goal
 
@@ -32,13 +29,6 @@ same_buffer w is = rw is refl
 
 turn_is : (w : WorkKind) (v : Map) (at k : ℕ) → w ≡ Flush → is_turn v w at k ≡ is_new v at k
 turn_is w v at k is = rw is refl
-
--- up to the next drive no block is on a new one
-seen_until : (v : Map) (at done count : ℕ) (piece : Piece) → IsPiece v (at + done) (count - done) piece → (end : ℕ) → ((k : ℕ) → done + piece.count ≤ k → k < end → is_new v at k ≡ false) → (j : ℕ) → done < j → j < end → is_new v at j ≡ false
-seen_until v at done count piece is end behind j above below = elim (both_ways (nat_lt j (done + piece.count))) [
-  | inl does ↦ seen_in v at done count piece is j above (lt_of_test j (done + piece.count) does)
-  | inr not ↦ behind j (le_of_test j (done + piece.count) not) below
-]
 
 not_read : (w : WorkKind) (P : Type 0) → w ≡ Flush → w ≡ Read → P
 not_read w P is read = absurd (cc (is, read))
@@ -95,7 +85,7 @@ returns-in-Err-clause-kept g c =
     let w = c.args.work.now in
     let some = c.piece-piece.ensures.some in
     let here = drive_here v w.at w.done w.count c.piece-piece.result c.piece-piece.ensures w.done (omega arith) (omega arith) in
-    drives_of_on g.S.Shelf _ _ v w.at w.count c.piece-piece.result.drive.0 (has_at v w.at w.count w.done c.piece-piece.result.drive.0 c.requires.open.some_left here)
+    where_on g.S.Shelf _ _ (has_drive v w.at w.count) c.piece-piece.result.drive.0 (has_at v w.at w.count w.done c.piece-piece.result.drive.0 c.requires.open.some_left here)
     (kept_on_call g.S.Shelf (OnDrive c.piece-piece.result.drive.0) _ _ c.sync.ensures.noted c.sync.ensures.keeps c.sync.ensures.cause.others)
 
 pub returns-in-Ok-clause-moments : goal.returns-in-Ok-clause-moments
@@ -138,5 +128,5 @@ returns-in-Ok-clause-kept g c =
     let w = c.args.work.now in
     let some = c.piece-piece.ensures.some in
     let here = drive_here v w.at w.done w.count c.piece-piece.result c.piece-piece.ensures w.done (omega arith) (omega arith) in
-    drives_of_on g.S.Shelf _ _ v w.at w.count c.piece-piece.result.drive.0 (has_at v w.at w.count w.done c.piece-piece.result.drive.0 c.requires.open.some_left here)
+    where_on g.S.Shelf _ _ (has_drive v w.at w.count) c.piece-piece.result.drive.0 (has_at v w.at w.count w.done c.piece-piece.result.drive.0 c.requires.open.some_left here)
     (kept_on_call g.S.Shelf (OnDrive c.piece-piece.result.drive.0) _ _ c.sync.ensures.noted c.sync.ensures.keeps c.sync.ensures.cause.others)

@@ -1,5 +1,5 @@
 use Rattle.std.proofs.Common.{◌≡◌, ◌≤◌, length, take}
-use Rattle.mdv_table.specs.Plan.{beside}
+use Rattle.mdv_config.specs.Lists.{beside}
 use Rattle.mdv_places.proofs.asked.list_beside.Given as goal
 
 abbrev pub invariant-loop-place : goal.invariant-loop-place

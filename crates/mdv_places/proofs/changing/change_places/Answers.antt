@@ -28,7 +28,7 @@ use Rattle.mdv_places.proofs.changing.change_places.Goals.{After-form, After-wip
 
 -- The lists, as they were asked.
 was_is : (g : _) (c : After-form g) → c.copy_of-was.result ≡ last_of c.args.store.now.table.plan.lists
-was_is g c = c.copy_of-was.ensures ∙ c.last.ensures.value ∙ ap (λ (t : Table). last_of t.plan.lists) c.table.ensures
+was_is g c = c.copy_of-was.ensures ∙ c.last_of.ensures.value ∙ ap (λ (t : Table). last_of t.plan.lists) c.table.ensures
 
 next_is : (g : _) (c : After-form g) → c.list_after-next.result ≡ list_after (asked_of c.args.asked.now) (last_of c.args.store.now.table.plan.lists)
 next_is g c = c.list_after-next.ensures ∙ ap (list_after (asked_of c.args.asked.now)) (c.as_slice.ensures ∙ was_is g c)

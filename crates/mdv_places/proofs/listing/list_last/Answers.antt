@@ -22,7 +22,7 @@ returns-clause-lost g c =
     let o = c.args.store.now in
     let sizes = g.S.Shelf.sizes c.args.shelf.now in
     let list = last_of o.table.plan.lists in
-    let list_is = c.last.ensures.value ∙ ap (λ (t : Table). last_of t.plan.lists) c.table.ensures in
+    let list_is = c.last_of.ensures.value ∙ ap (λ (t : Table). last_of t.plan.lists) c.table.ensures in
     listed_lost g.S.Shelf c.args.shelf.now c.list_last.new.shelf (last_by o) c.list_last.new.self c.list_last.result c.list_last.ensures c.requires.few (laid_in list o.seats sizes c.requires.laid) c.listed_drives-tried.result c.active_drives.result c.args.lost.now
     c.leave.new.lost (subst (λ (ss : List Seat). AreDrivesOf c.listed_drives-tried.result (seats_in list ss)) c.seats.ensures (subst (λ (l : List Place). AreDrivesOf c.listed_drives-tried.result (seats_in l c.seats.result.now)) list_is c.listed_drives-tried.ensures))
     (subst (AreDrivesOf c.active_drives.result) c.seats-2.ensures c.active_drives.ensures)

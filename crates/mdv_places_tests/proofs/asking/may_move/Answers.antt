@@ -1,8 +1,8 @@
 use Rattle.std.proofs.Common.{◌≡◌, ◌≤◌, length, sym, ◌∙◌, ap, arith}
 use Rattle.std.proofs.lemmas.Bool.Decides.{nat_tests}
 use Rattle.mdv_shelf.specs.MemShelf.{shelf_sizes}
-use Rattle.mdv_table.specs.declared.plan.Lists.TheVariants.{One}
-use Rattle.mdv_table.specs.declared.table.Table.{Table}
+use Rattle.mdv_plan.specs.declared.lists.Lists.TheVariants.{One}
+use Rattle.mdv_plan.specs.declared.table.Table.{Table}
 use Rattle.mdv_places.specs.Asked.{asked_of}
 use Rattle.mdv_places_tests.proofs.Few.{may_be_moved}
 use Rattle.mdv_places_tests.proofs.asking.may_move.Goals as goal

@@ -6,7 +6,7 @@ use Rattle.mdv_store.specs.Shares.{short_of}
 use Rattle.mdv_store.specs.Taking.{drives_read}
 use Rattle.mdv_store.specs.declared.seats.Need.TheVariants.{More}
 use Rattle.mdv_store.specs.declared.seats.Seat.{Seat}
-use Rattle.mdv_store.proofs.Adoptions.{adopt_still, adopted_answer, adopted_ends, adopted_moments, got_within, hand_drives, hand_laid, seated_small}
+use Rattle.mdv_store.proofs.Adoptions.{adopt_still, adopted_answer, adopted_ends, adopted_moments, got_within, hand_drives, hand_laid, seated_small, spent_answer, unread_answer}
 use Rattle.mdv_store.proofs.Reading.{hand_ready}
 use Rattle.mdv_store.proofs.booting.adopt.Goals as goal
 use Rattle.mdv_store.proofs.booting.adopt.Goals.{After-rewrite}
@@ -20,9 +20,21 @@ in_hand-requires-clause-within g c = got_within c.args.replicas.now c.args.newes
 pub returns-in-Err-clause-moments : goal.returns-in-Err-clause-moments
 returns-in-Err-clause-moments g c = adopt_still c.args.site.now c.args.replicas.now c.args.newest c.quiet.result.end (g.S.Shelf.tale c.args.shelf.now) (ap has_written c.quiet.ensures.end)
 
+pub returns-in-Some-clause-answer : goal.returns-in-Some-clause-answer
+returns-in-Some-clause-answer g c =
+    unread_answer c.args.site.now c.args.replicas.now c.args.newest c.in-Ok.hand c.in-Ok.ensures c.requires.seated c.requires.newest g.S.Shelf c.args.shelf.now c.in-Some.share
+    (ap (λ (l : List Seat). short_of More l c.args.newest.table.plan.lists) (sym c.as_slice.ensures) ∙ sym c.short.ensures ∙ c.in-Some.is)
+    c.quiet-in-Some.result (c.quiet-in-Some.ensures.end ∙ c.unread.ensures) c.quiet-in-Some.ensures.calm
+
 pub returns-in-Some-clause-moments : goal.returns-in-Some-clause-moments
 returns-in-Some-clause-moments g c =
     adopt_still c.args.site.now c.args.replicas.now c.args.newest c.quiet-in-Some.result.end (g.S.Shelf.tale c.args.shelf.now) (ap has_written (c.quiet-in-Some.ensures.end ∙ c.unread.ensures))
+
+pub returns-then-hand-ge-NUMBER_LIMIT-clause-answer : goal.returns-then-hand-ge-NUMBER_LIMIT-clause-answer
+returns-then-hand-ge-NUMBER_LIMIT-clause-answer g c =
+    spent_answer c.args.site.now c.args.replicas.now c.args.newest c.in-Ok.hand c.in-Ok.ensures c.requires.seated c.requires.newest g.S.Shelf c.args.shelf.now
+    (ap (λ (l : List Seat). short_of More l c.args.newest.table.plan.lists) (sym c.as_slice.ensures) ∙ sym c.short.ensures ∙ c.in_default.is)
+    (omega (arith, c.if-hand-ge-NUMBER_LIMIT.true)) c.quiet-then-hand-ge-NUMBER_LIMIT.result c.quiet-then-hand-ge-NUMBER_LIMIT.ensures.end c.quiet-then-hand-ge-NUMBER_LIMIT.ensures.calm
 
 pub returns-then-hand-ge-NUMBER_LIMIT-clause-moments : goal.returns-then-hand-ge-NUMBER_LIMIT-clause-moments
 returns-then-hand-ge-NUMBER_LIMIT-clause-moments g c =

@@ -4,7 +4,7 @@ use Rattle.mdv_shelf.specs.Drives.{KeptAmong}
 use Rattle.mdv_shelf.specs.Shelves.{AtEachTale, AtEnd, DriveFailures}
 use Rattle.mdv_standing.specs.Creating.{first_mark}
 use Rattle.mdv_acts.specs.Acts.{HaveGone, HaveStopped, blanks_asked, forms_asked}
-use Rattle.mdv_store.specs.Below.{Table, places_of, record_text}
+use Rattle.mdv_store.specs.Below.{Table, record_bytes}
 use Rattle.mdv_store.specs.Counts.{ArePassCounted}
 use Rattle.mdv_acts.specs.Asked.{drives_asked}
 use Rattle.mdv_store.specs.Create.{CreateEnds, IsCreated, IsCreationCounted, seats_asked, table_of}
@@ -20,7 +20,7 @@ use Rattle.mdv_store.specs.Listing.{list_room}
 use Rattle.mdv_acts.proofs.Acting.{gone_then, stopped_front, stopped_then}
 use Rattle.mdv_store.proofs.Given.{IsOwner}
 use Rattle.mdv_store.proofs.Making.{all_kept, lost_counted, lost_created, lost_end, made_counted, made_created, made_end, made_open, memory_created, memory_moments, stopped_counted, stopped_created, stopped_end, stopped_moments, written_moments}
-use Rattle.mdv_record.proofs.Rooms.{room_most}
+use Rattle.mdv_encoding.proofs.Rooms.{room_most}
 use Rattle.mdv_store.proofs.Seated.{room_asked, room_for_text, seats_laid, text_asked}
 use Rattle.mdv_store.proofs.Spotting.{asked_length}
 use Rattle.mdv_store.proofs.creating.create.Goals as goal
@@ -126,7 +126,7 @@ sizes g c = g.S.Shelf.sizes c.args.shelf.now
 least : (g : _) (c : After-deref_mut g) → 6 ≤ least_room (map (λ (s : Seat). s.place) (seats g c))
 least g c = room_asked c.args.key.now c.args.identity c.args.count c.args.blocks c.args.lines.now (sizes g c) c.requires.asked
 
-text : (g : _) (c : After-deref_mut g) → length (record_text (table_of (seats g c))) ≡ 24 + 12 * (length c.args.lines.now * c.args.count)
+text : (g : _) (c : After-deref_mut g) → record_bytes (table_of (seats g c)) ≡ 24 + 12 * (length c.args.lines.now * c.args.count)
 text g c = text_asked c.args.key.now c.args.identity c.args.count c.args.blocks c.args.lines.now (sizes g c) c.requires.asked
 
 gone : (g : _) (c : After-deref_mut g) → HaveGone g.S.Shelf c.args.shelf.now c.format_all.new.shelf (drives_asked c.args.lines.now) ((blanks_asked c.args.lines.now c.args.count c.args.blocks) ++ (forms_asked c.args.key.now c.args.identity 1 c.args.lines.now c.args.count c.args.blocks))

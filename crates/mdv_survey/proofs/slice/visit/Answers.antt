@@ -9,7 +9,7 @@ use Rattle.mdv_survey.specs.declared.body.ReadFault.{ReadFault}
 use Rattle.mdv_survey.specs.declared.body.ReadFault.TheVariants.{Memory}
 use Rattle.mdv_survey.proofs.Counting.{err_is}
 use Rattle.mdv_survey.proofs.Seating.{first_fits, placed_of}
-use Rattle.mdv_survey.proofs.Places.{calm_here, cause_here, slots_here, unfit_here}
+use Rattle.mdv_survey.proofs.Places.{calm_here, cause_here, fit_here, slots_here, unfit_here}
 use Rattle.mdv_survey.proofs.Told.{added_is}
 use Rattle.mdv_survey.proofs.Visiting.{lists_added, lists_other, lists_skip, visits_added, visits_not, visits_other}
 use Rattle.mdv_survey.proofs.slice.visit.Goals as goal
@@ -85,6 +85,12 @@ returns-in_err-add_other-2-clause-answer g c =
       err = c.in_err-add_other-2.ensures.err;
     })
 
+pub returns-in_err-add_other-2-clause-counted : goal.returns-in_err-add_other-2-clause-counted
+returns-in_err-add_other-2-clause-counted g c =
+    let fit = fit_here c.at-at.result (at_of c.args.replica) c.at-at.ensures ReadFault g.S.Shelf c.args.shelf.now c.slots_at.new.shelf c.args.geometry.now c.args.replica.head c.in_ok-slots.field-0 c.in-Some.slots c.in-Some.is c.in_ok-slots.ensures.counted in
+    rw (err_is c.from_residual-in_err-add_other-2.result Memory c.from_residual-in_err-add_other-2.ensures.1)
+    (record { calls = fit.calls; few = fit.few; made = fit.made; by = λ t is. tt })
+
 -- it is of another key
 pub returns-then-not-is_same-clause-answer : goal.returns-then-not-is_same-clause-answer
 returns-then-not-is_same-clause-answer g c = record {
@@ -109,6 +115,10 @@ returns-then-not-is_same-clause-reads g c = record {
       (c.as_other-then-not-is_same.ensures ∙ ap (other_of c.args.replica) c.headed-then-not-is_same.ensures)))
       (visits_other c.args.geometry.now c.args.site.now c.args.replica c.requires.seated (last t) c.args.finds.now slots.0 (λ same. absurd (cc (c.is_same.ensures.1 same, c.if-not-is_same.true)))));
 }
+
+pub returns-then-not-is_same-clause-counted : goal.returns-then-not-is_same-clause-counted
+returns-then-not-is_same-clause-counted g c =
+    fit_here c.at-at.result (at_of c.args.replica) c.at-at.ensures ReadFault g.S.Shelf c.args.shelf.now c.slots_at.new.shelf c.args.geometry.now c.args.replica.head c.in_ok-slots.field-0 c.in-Some.slots c.in-Some.is c.in_ok-slots.ensures.counted
 
 -- there is no memory for it
 pub returns-in_err-add-clause-answer : goal.returns-in_err-add-clause-answer

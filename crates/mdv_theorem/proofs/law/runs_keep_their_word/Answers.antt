@@ -1,7 +1,7 @@
 use Rattle.mdv_theorem.proofs.Agreeing.{reads_agree}
 use Rattle.mdv_theorem.proofs.Ending.{runs_end}
 use Rattle.mdv_theorem.proofs.Lasting.{writes_last}
-use Rattle.mdv_theorem.proofs.Reading.{reads_are_told}
+use Rattle.mdv_theorem.proofs.Reading.{transfers_are_told}
 use Rattle.mdv_theorem.proofs.Enduring.{volumes_stay}
 use Rattle.mdv_theorem.proofs.law.runs_keep_their_word.Goals as goal
 
@@ -12,7 +12,7 @@ pub returns-clause-there : goal.returns-clause-there
 returns-clause-there c = volumes_stay
 
 pub returns-clause-told : goal.returns-clause-told
-returns-clause-told c = reads_are_told
+returns-clause-told c = transfers_are_told
 
 pub returns-clause-last : goal.returns-clause-last
 returns-clause-last c = writes_last

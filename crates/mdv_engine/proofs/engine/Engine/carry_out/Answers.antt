@@ -14,8 +14,8 @@ use Rattle.mdv_engine.proofs.engine.Engine.carry_out.Goals as goal
 pub returns-in-AddPlaces-clause-end : goal.returns-in-AddPlaces-clause-end
 returns-in-AddPlaces-clause-end g c = rw (c.in-AddPlaces.is) (rw (← c.as_slice.ensures) c.make.ensures.end)
 
-pub returns-in-MakeStripe-clause-end : goal.returns-in-MakeStripe-clause-end
-returns-in-MakeStripe-clause-end g c = rw (c.in-MakeStripe.is) c.make_stripe.ensures.end
+pub returns-in-Alter-clause-end : goal.returns-in-Alter-clause-end
+returns-in-Alter-clause-end g c = rw (c.in-Alter.is) c.alter.ensures.end
 
 pub returns-in-Read-clause-end : goal.returns-in-Read-clause-end
 returns-in-Read-clause-end g c = rw (c.in-Read.is) c.read.ensures.end
@@ -26,8 +26,8 @@ returns-in-Write-clause-end g c = rw (c.in-Write.is) c.write.ensures.end
 pub returns-in-AddPlaces-clause-counted : goal.returns-in-AddPlaces-clause-counted
 returns-in-AddPlaces-clause-counted g c = rw (c.in-AddPlaces.is) (rw (← c.as_slice.ensures) c.make.ensures.counted)
 
-pub returns-in-MakeStripe-clause-counted : goal.returns-in-MakeStripe-clause-counted
-returns-in-MakeStripe-clause-counted g c = rw (c.in-MakeStripe.is) c.make_stripe.ensures.counted
+pub returns-in-Alter-clause-counted : goal.returns-in-Alter-clause-counted
+returns-in-Alter-clause-counted g c = rw (c.in-Alter.is) c.alter.ensures.counted
 
 pub returns-in-Read-clause-counted : goal.returns-in-Read-clause-counted
 returns-in-Read-clause-counted g c = rw (c.in-Read.is) c.read.ensures.counted
@@ -38,8 +38,8 @@ returns-in-Write-clause-counted g c = rw (c.in-Write.is) c.write.ensures.counted
 pub returns-in-AddPlaces-clause-answer : goal.returns-in-AddPlaces-clause-answer
 returns-in-AddPlaces-clause-answer g c = rw (c.in-AddPlaces.is) (rw (← c.as_slice.ensures) c.make.ensures.answer)
 
-pub returns-in-MakeStripe-clause-answer : goal.returns-in-MakeStripe-clause-answer
-returns-in-MakeStripe-clause-answer g c = rw (c.in-MakeStripe.is) c.make_stripe.ensures.answer
+pub returns-in-Alter-clause-answer : goal.returns-in-Alter-clause-answer
+returns-in-Alter-clause-answer g c = rw (c.in-Alter.is) c.alter.ensures.answer
 
 pub returns-in-Read-clause-answer : goal.returns-in-Read-clause-answer
 returns-in-Read-clause-answer g c = rw (c.in-Read.is) c.read.ensures.answer

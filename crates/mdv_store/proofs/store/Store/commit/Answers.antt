@@ -1,7 +1,7 @@
-use Rattle.std.proofs.Common.{◌≡◌, inl, ℕ, List, ◌≤◌, ◌<◌, ◌+◌, ◌^◌, ◌∙◌, None, Err, ap, arith, length, subst, sym, vec_len}
+use Rattle.std.proofs.Common.{◌≡◌, inl, ℕ, List, ◌≤◌, ◌<◌, ◌+◌, ◌^◌, ◌∙◌, None, Err, ap, arith, subst, sym, vec_len}
 use Rattle.mdv_shelf.specs.Moments.{Ends, Moments}
 use Rattle.mdv_shelf.specs.Shelves.{AtEnd, DriveFailures}
-use Rattle.mdv_store.specs.Below.{Failures, Geometry, IsOfGeometry, record_text}
+use Rattle.mdv_store.specs.Below.{Failures, Geometry, IsOfGeometry, record_bytes}
 use Rattle.mdv_store.specs.Commit.{CameOfCommit, CommitDone, CommitMoment, IsCommitted, IsLostNow, next_mark, room_in}
 use Rattle.mdv_store.specs.Opened.{IsOpenedAt, Opened, shortage}
 use Rattle.mdv_store.specs.Seats.{AreLaid, TakesSlot}
@@ -32,12 +32,12 @@ write_all-requires-clause-laid g c = subst (λ (o : Opened). AreLaid (g.S.Shelf.
 
 pub write_all-requires-clause-in_seats : goal.write_all-requires-clause-in_seats
 write_all-requires-clause-in_seats g c =
-    have_room c.self.inside.table c.self.inside.seats (length (record_text c.args.next)) c.self.invariant.seats (text_some c.args.next)
-    (subst (λ (o : Opened). length (record_text c.args.next) ≤ room_in o.table) (sym c.self.view_is) c.in_ok-check_room.ensures.ok)
+    have_room c.self.inside.table c.self.inside.seats (record_bytes c.args.next) c.self.invariant.seats (text_some c.args.next)
+    (subst (λ (o : Opened). record_bytes c.args.next ≤ room_in o.table) (sym c.self.view_is) c.in_ok-check_room.ensures.ok)
 
 pub write_all-requires-clause-some : goal.write_all-requires-clause-some
 write_all-requires-clause-some g c =
-    let fits = subst (λ (o : Opened). length (record_text c.args.next) ≤ room_in o.table) (sym c.self.view_is) c.in_ok-check_room.ensures.ok in
+    let fits = subst (λ (o : Opened). record_bytes c.args.next ≤ room_in o.table) (sym c.self.view_is) c.in_ok-check_room.ensures.ok in
     omega (arith, text_some c.args.next, c.deref_mut.ensures.len)
 
 -- the open database, by its fields
@@ -51,8 +51,8 @@ half g c = subst (λ (o : Opened). shortage o ≡ None) (sym c.self.view_is) (sy
 lists : (g : _) (c : After-write_all g) → c.args.next.plan.lists ≡ (opened g c).table.plan.lists
 lists g c = c.requires.lists ∙ ap (λ (o : Opened). o.table.plan.lists) (sym c.self.view_is)
 
-fits : (g : _) (c : After-write_all g) → length (record_text c.args.next) ≤ room_in (opened g c).table
-fits g c = subst (λ (o : Opened). length (record_text c.args.next) ≤ room_in o.table) (sym c.self.view_is) c.in_ok-check_room.ensures.ok
+fits : (g : _) (c : After-write_all g) → record_bytes c.args.next ≤ room_in (opened g c).table
+fits g c = subst (λ (o : Opened). record_bytes c.args.next ≤ room_in o.table) (sym c.self.view_is) c.in_ok-check_room.ensures.ok
 
 small : (g : _) (c : After-write_all g) → (opened g c).mark.count + 1 < 2 ^ 63
 small g c = omega arith
@@ -64,7 +64,7 @@ failed g c = DriveFailures g.S.Shelf c.args.shelf.now c.write_all.new.shelf
 laid : (g : _) (c : After-write_all g) → AreLaid (g.S.Shelf.sizes c.write_all.new.shelf) c.write_all.new.seats
 laid g c =
     let mark = next_mark c.self.inside.mark in
-    let bytes = length (record_text c.args.next) in
+    let bytes = record_bytes c.args.next in
     let before = subst (λ (o : Opened). AreLaid (g.S.Shelf.sizes c.args.shelf.now) o.seats) (sym c.self.view_is) c.requires.laid in
     left_laid (failed g c) (TakesSlot mark bytes) (g.S.Shelf.sizes c.write_all.new.shelf) c.self.inside.seats c.write_all.new.seats (slot_laid mark bytes (g.S.Shelf.sizes c.write_all.new.shelf)) c.write_all.ensures.left
     (subst (λ (sizes : List ℕ). AreLaid sizes c.self.inside.seats) (sym c.write_all.ensures.kept.keeps.same_sizes) before)

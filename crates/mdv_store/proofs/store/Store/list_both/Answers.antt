@@ -1,11 +1,11 @@
-use Rattle.std.proofs.Common.{◌≡◌, ◌≤◌, ◌<◌, ◌+◌, ◌*◌, ◌^◌, ◌∙◌, ℕ, List, [], None, Some, Ok, Err, MatchOption, Contains, Option, ap, arith, length, refl, subst, sym, vec_len}
-use Rattle.mdv_record.specs.Room.{least_slot_bytes}
+use Rattle.std.proofs.Common.{◌≡◌, ◌≤◌, ◌<◌, ◌+◌, ◌^◌, ◌∙◌, List, [], Ok, Err, MatchOption, Contains, Option, ap, arith, refl, subst, sym, vec_len}
+use Rattle.mdv_encoding.specs.Room.{least_slot_bytes}
 use Rattle.mdv_shelf.specs.Shelves.{DriveFailures}
-use Rattle.mdv_store.specs.Below.{Failures, HasNoneAbove, Lists, Mark, One, Replica, Two, last_of, places_of}
+use Rattle.mdv_store.specs.Below.{HasNoneAbove, Mark, Replica, last_of, places_of}
 use Rattle.mdv_store.specs.Commit.{next_mark}
-use Rattle.mdv_store.specs.Listing.{CameOfListing, IsRoomFor, IsRoomy, WasListed, listed_by, seats_then, with_lists}
+use Rattle.mdv_store.specs.Listing.{IsRoomFor, IsRoomy, WasListed, listed_by, seats_then, with_lists}
 use Rattle.mdv_store.specs.Opened.{AreSeatsOf, IsOpen, Opened, least_room}
-use Rattle.mdv_store.specs.Seats.{AreLaid, AreLeft, TakesSlot, replicas_of}
+use Rattle.mdv_store.specs.Seats.{AreLaid, replicas_of}
 use Rattle.mdv_store.specs.Settled.{first_room}
 use Rattle.mdv_store.specs.Shares.{short_of}
 use Rattle.mdv_store.specs.Writing.{WroteAll, text_size}

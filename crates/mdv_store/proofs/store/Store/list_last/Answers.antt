@@ -1,14 +1,14 @@
-use Rattle.std.proofs.Common.{◌≡◌, ◌≤◌, ◌<◌, ◌+◌, ◌*◌, ◌^◌, ◌∙◌, ℕ, List, Contains, ap, arith, length, subst, sym}
-use Rattle.mdv_record.specs.Room.{least_slot_bytes}
+use Rattle.std.proofs.Common.{◌≡◌, ◌≤◌, ◌∙◌, List, Contains, Err, ap, arith, refl, subst, sym}
+use Rattle.mdv_encoding.specs.Room.{least_slot_bytes}
 use Rattle.mdv_shelf.specs.Shelves.{DriveFailures}
-use Rattle.mdv_store.specs.Below.{HasNoneAbove, Lists, Mark, One, Place, Replica, Table, last_of, places_of, settled}
+use Rattle.mdv_store.specs.Below.{HasNoneAbove, Mark, One, Place, Replica, last_of, places_of}
 use Rattle.mdv_store.specs.Commit.{next_mark}
-use Rattle.mdv_store.specs.Listing.{IsLast, last_by, seats_in, with_lists}
+use Rattle.mdv_store.specs.Listing.{IsLast, WasListed, last_by, seats_in, with_lists}
 use Rattle.mdv_store.specs.Opened.{AreSeatsOf, IsOpen, Opened, least_room}
 use Rattle.mdv_store.specs.Seats.{AreLaid, AreLeft, TakesSlot, replicas_of}
 use Rattle.mdv_store.specs.Settled.{first_room}
 use Rattle.mdv_store.specs.Shares.{short_of}
-use Rattle.mdv_store.specs.Writing.{text_size}
+use Rattle.mdv_store.specs.Writing.{WroteAll, text_size}
 use Rattle.mdv_store.specs.declared.seats.Need.TheVariants.{Half}
 use Rattle.mdv_store.specs.declared.seats.Seat.{Seat}
 use Rattle.mdv_store.specs.declared.store.Store.TheInside.{Inside}
@@ -27,7 +27,7 @@ last : (g : _) (c : After-deref_mut g) → IsLast (was g c)
 last g c = subst IsLast (sym c.self.view_is) c.requires.last
 
 list_is : (g : _) (c : After-deref_mut g) → c.copy_of-list.result ≡ last_of c.self.inside.table.plan.lists
-list_is g c = c.copy_of-list.ensures ∙ c.last.ensures.value
+list_is g c = c.copy_of-list.ensures ∙ c.last_of.ensures.value
 
 seats_are : (g : _) (c : After-deref_mut g) → c.keep_listed.new.seats ≡ seats_in (last_of c.self.inside.table.plan.lists) c.self.inside.seats
 seats_are g c = c.keep_listed.ensures ∙ ap (λ (l : List Place). seats_in l c.self.inside.seats) (c.as_slice.ensures ∙ list_is g c)
@@ -87,6 +87,19 @@ invariant_of-self g c =
     let few = ap (λ (l : List Seat). short_of Half l (One c.copy_of-list.result)) (sym c.as_slice-2.ensures) ∙ sym c.in-Some.ensures in
     unlisted_open (before g d) (are g d) (fits g d) (above g d) c.self.invariant.boot (last g d).small c.self.inside.room.len (whole g d) (first g d) c.self.invariant.short
     (DriveFailures g.S.Shelf c.args.shelf.now c.write_all.new.shelf) c.write_all.new.seats (left g w) c.in-Some.share few
+
+wrote : (g : _) (c : After-write_all g) → WroteAll g.S.Shelf (next_mark c.self.inside.mark) (with_lists c.self.inside.table (One c.copy_of-list.result)) c.args.shelf.now c.write_all.new.shelf c.keep_listed.new.seats c.write_all.new.seats
+wrote g c =
+    subst (λ (m : Mark). WroteAll g.S.Shelf m (with_lists c.self.inside.table (One c.copy_of-list.result)) c.args.shelf.now c.write_all.new.shelf c.keep_listed.new.seats c.write_all.new.seats) (mark_is g c)
+    (record { left = c.write_all.ensures.left; moments = c.write_all.ensures.moments; ends = c.write_all.ensures.end; passed = c.write_all.ensures.passed; kept = c.write_all.ensures.kept })
+
+pub returns-in-Some : goal.returns-in-Some
+returns-in-Some g c =
+    let w = (goal.at.returns-in-Some g c).After-write_all in
+    let d = (goal.at.returns-in-Some g c).After-deref_mut in
+    let few = ap (λ (l : List Seat). short_of Half l (One c.copy_of-list.result)) (sym c.as_slice-2.ensures) ∙ sym c.in-Some.ensures in
+    let now : Opened = record (before g d) { seats = c.write_all.new.seats } in
+    subst (λ (o : Opened). WasListed g.S.Shelf c.args.shelf.now c.write_all.new.shelf o now (Err c.in-Some.share)) (before_is g d ∙ ap last_by c.self.view_is) (record { wrote = wrote g w; came = (few, refl) })
 
 pub invariant_of-self-2 : goal.invariant_of-self-2
 invariant_of-self-2 g c =

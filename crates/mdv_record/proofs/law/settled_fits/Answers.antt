@@ -1,5 +1,0 @@
-use Rattle.mdv_record.proofs.Settling.{settled_record}
-use Rattle.mdv_record.proofs.law.settled_fits.Goals as goal
-
-pub returns : goal.returns
-returns c = settled_record

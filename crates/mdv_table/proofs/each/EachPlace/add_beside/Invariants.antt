@@ -1,9 +1,0 @@
-use Rattle.std.proofs.Common.{◌≡◌, ◌≤◌, ◌+◌, ◌++◌, length, take}
-use Rattle.mdv_table.specs.Plan.{beside}
-use Rattle.mdv_table.proofs.each.EachPlace.add_beside.Given as goal
-
-abbrev pub invariant-loop-place : goal.invariant-loop-place
-invariant-loop-place l = record {
-  added : l.self ≡ l.initial.self ++ beside l.old (take l.place-index l.new);
-  few : length l.self ≤ length l.initial.self + l.place-index;
-}
