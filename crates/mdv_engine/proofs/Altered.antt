@@ -1,5 +1,5 @@
 -- The change that a line asks, and the table that it makes of the open one.
-use Rattle.std.proofs.Common.{◌≡◌, inl, inr, ◌<◌, Bool, true, List, [], ◌∷◌, map, Option, Some, None, All, refl, sym, ap, ◌∙◌, subst, arith}
+use Rattle.std.proofs.Common.{◌≡◌, inl, inr, ◌<◌, Bool, false, true, List, [], ◌∷◌, map, Option, Some, None, All, refl, sym, ap, ◌∙◌, subst, arith}
 use Rattle.std.proofs.lemmas.Bool.{and_parts}
 use Rattle.std.proofs.lemmas.Bool.Decides.{nat_tests}
 use Rattle.std.proofs.lemmas.List.Elements.{All-cons, All-nil}
@@ -10,17 +10,18 @@ use Rattle.std.specs.Prelude.{◌&&◌, nat_lt}
 use Rattle.mdv_base.specs.Order.{first_refusal}
 use Rattle.mdv_base.specs.declared.refusal.Refusal.TheVariants.{NoDatabase}
 use Rattle.mdv_change.specs.Apply.{IsMade}
-use Rattle.mdv_change.specs.declared.change.Change.TheVariants.{MakeStripe}
+use Rattle.mdv_change.specs.declared.change.Change.TheVariants.{AddRow, MakeStripe}
+use Rattle.mdv_change.specs.declared.change.Change.TheVariants as changes
 use Rattle.mdv_keeping.specs.Built.{IsBuilt, IsOfSlices, IsSlice}
 use Rattle.mdv_keeping.specs.Keeping.{IsStepOf}
 use Rattle.mdv_keeping.specs.Refused.{cause_with, refusal_in}
 use Rattle.mdv_remake.specs.Below.{Named as Component, NamedSlice as Slice, NamedVolume as Volume}
-use Rattle.mdv_remake.specs.Asked.{base_of, is_few, is_short_row, row_of}
+use Rattle.mdv_remake.specs.Asked.{base_of, clearing_of, is_few, is_short_row, row_of}
 use Rattle.mdv_store_law.specs.Changes.{IsAsked}
 use Rattle.mdv_tab.specs.declared.entry.Entry.TheVariants.{Stripe}
 use Rattle.mdv_tab.specs.declared.entry.Row.{Row}
 use Rattle.mdv_words.specs.Line.{IsInForm, is_of_slices, is_slice}
-use Rattle.mdv_words.specs.declared.command.Alteration.TheVariants.{Make}
+use Rattle.mdv_words.specs.declared.command.Alteration.TheVariants.{Attach, Clear, ClearAll, Make}
 use Rattle.mdv_engine_law.specs.Altering.{Alters, change_of, table_where}
 use Rattle.mdv_engine_law.specs.Refusals.{held_of_alteration}
 use Rattle.mdv_engine.specs.Below.{Alter, Alteration, BadLine, Host, Memory, Opened, OutOfMemory, PlanChange, Refusal, Table}
@@ -60,6 +61,10 @@ asks_for (Make (Stripe name rows spares)) form =
     let small = and_parts (nat_lt name.volume.0 8192) (is_few rows && list_all is_short_row rows) form.1 in
     record { change = MakeStripe name.volume (map row_of rows) spares; asks = refl; asked = tt; built = (below name.volume.0 small.0, none_is spares made.0, all_made is_of_slices row_of IsOfSlices row_made rows made.1) }
 asks_for (Make other) form = absurd (let is = form.0 in cc (is))
+asks_for (Attach volume row) form = record { change = AddRow volume (row_of row); asks = refl; asked = tt; built = row_made row form.0 }
+asks_for (Clear names false) form = record { change = clearing_of names false; asks = refl; asked = tt; built = tt }
+asks_for (Clear names true) form = record { change = clearing_of names true; asks = refl; asked = tt; built = tt }
+asks_for ClearAll form = record { change = changes.ClearAll; asks = refl; asked = tt; built = tt }
 
 module _ (alteration : Alteration) (form : IsInForm (Alter alteration)) (change : PlanChange) (asks : Alters alteration change) where
   same : (asks_for alteration form).change ≡ change

@@ -1,6 +1,5 @@
 -- What a request for blocks of a volume says, by the device's map: what was read, how many calls were made, and on which drive one failed.
-use Rattle.std.proofs.Common.{◌≡◌, ◌≤◌, ◌<◌, ◌+◌, inl, inr, ℕ, zero, suc, Bool, true, List, length, Option, Some, Err, refl, sym, ◌∙◌, ap, subst, arith}
-use Rattle.std.proofs.lemmas.Bool.{cases_lt}
+use Rattle.std.proofs.Common.{◌≡◌, ◌≤◌, ◌<◌, ◌+◌, ℕ, Bool, true, List, length, Option, Some, Err, refl, sym, ◌∙◌, ap, subst, arith}
 use Rattle.mdv_shelf.proofs.Between.{between_wider}
 use Rattle.mdv_shelf.proofs.InTime.{in_time_none}
 use Rattle.mdv_shelf.proofs.Moments.{some_is}
@@ -12,8 +11,8 @@ use Rattle.mdv_map.specs.Below.{Among}
 use Rattle.mdv_map.specs.Maps.{readings}
 use Rattle.mdv_map.specs.Requests.{AllRead}
 use Rattle.mdv_dev.proofs.Copies.{reads_there}
-use Rattle.mdv_dev.proofs.Counting.{has_at}
-use Rattle.mdv_dev.specs.Pieces.{IsOneCopy, count_to, drives, pieces}
+use Rattle.mdv_dev.proofs.Counting.{count_below, has_at}
+use Rattle.mdv_dev.specs.Pieces.{IsOneCopy, drives, pieces}
 use Rattle.mdv_dev.specs.Works.{StopsAt, TakesReads, is_turn, turns}
 use Rattle.mdv_dev.specs.Writing.{HaveFailed}
 use Rattle.mdv_dev.specs.declared.work.WorkKind.{WorkKind}
@@ -22,18 +21,6 @@ use Rattle.mdv_engine_law.specs.Efforts.{map_or_none}
 use Rattle.mdv_engine.specs.Below.{AreSeen, DriveNo, Ends, FailedOn, HasBlocks, Host, KeptOnDrives, Map, Memory, Opened, Tale, VolId, last, lies_on, map_open, pieces_in, write_calls_in}
 use Rattle.mdv_engine.specs.Ends.{KeptOnBlocks}
 use Rattle.mdv_engine.specs.Engine.{FailedBlocks, FailedWrite}
-
--- one number that passes a test, and is below another, is counted there and not before
-count_below : (test : ℕ → Bool) (k n : ℕ) → k < n → test k ≡ true → count_to test k + 1 ≤ count_to test n
-unfolding count_to
-count_below test k zero lt is = absurd (omega (arith, lt))
-count_below test k (suc n) lt is = elim (cases_lt k n) [
-  | inl below ↦ let before = count_below test k n below is in omega (arith, before)
-  | inr last_one ↦
-      let same : n ≡ k = omega (arith, lt, last_one) in
-      let counted : count_to test n ≡ count_to test k = ap (count_to test) same in
-      let here : test n ≡ true = ap test same ∙ is in rw here (omega (arith, counted))
-]
 
 -- no call is one on no drive
 pub drives_none : {S : Type 0} (shelf : Ghosts S) (a : S) (v : Map) (at count : ℕ) → KeptOnDrives shelf a a v at count

@@ -17,7 +17,7 @@ use mdv_change::{ApplyFault, Change};
 use mdv_engine_law::{Answer, Ended, Outcome};
 use mdv_keeping::next_table;
 use mdv_plan::Table;
-use mdv_remake::change_of;
+use mdv_remake::{change_of, clearing_of, row_of};
 use mdv_shelf::Shelf;
 use mdv_store::CommitFault;
 use mdv_words::Alteration;
@@ -101,6 +101,16 @@ fn asked(alloc: Global, alteration: &Alteration) -> Result<Option<Change>, Alloc
 {
     match alteration {
         Alteration::Make(entry) => change_of(alloc, entry),
+        Alteration::Attach { volume, row } => Ok(Some(Change::AddRow {
+            volume: *volume,
+            row: row_of(alloc, row)?,
+        })),
+        Alteration::Clear { names, below } => Ok(Some(clearing_of(
+            alloc,
+            names.as_slice(),
+            *below,
+        )?)),
+        Alteration::ClearAll => Ok(Some(Change::ClearAll)),
     }
 }
 

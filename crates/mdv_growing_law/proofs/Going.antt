@@ -1,30 +1,36 @@
 -- How a change moves the maps of volumes.
-use Rattle.std.proofs.Common.{◌≡◌, inl, inr, ℕ, ◌==◌, Bool, true, false, if◌then◌else◌, List, [], ◌∷◌, ◌++◌, get_or, map, find, Option, None, Some, option_map, refl, sym, ◌∙◌, ap, subst, arith}
+use Rattle.std.proofs.Common.{◌≡◌, ◌⊎◌, inl, inr, ℕ, ◌==◌, Bool, true, false, not, if◌then◌else◌, List, [], ◌∷◌, ◌++◌, append-nil, filter, get_or, map, find, Contains, Option, None, Some, option_map, refl, sym, ◌∙◌, ap, subst, arith}
 use Rattle.std.specs.Prelude.{All}
-use Rattle.std.proofs.lemmas.Bool.{cases_Bool}
+use Rattle.std.specs.List.{list_any}
+use Rattle.std.specs.Option.{is_some}
+use Rattle.std.proofs.lemmas.Bool.{cases_Bool, false≢true, or_parts}
 use Rattle.std.proofs.lemmas.Bool.Decides.{nat_tests}
 use Rattle.std.proofs.lemmas.List.{map-append}
-use Rattle.std.proofs.lemmas.List.Elements.{All-append, All-cons, All-map, All-nil}
+use Rattle.std.proofs.lemmas.List.Elements.{All-append, All-cons, All-filter, All-map, All-nil}
 use Rattle.std.proofs.lemmas.List.Folds.{list_any_none}
 use Rattle.std.proofs.lemmas.Option.{none-some}
-use Rattle.mdv_change.specs.declared.change.Change.TheVariants.{MakeRaid, MakeMirror, MakeSoft, Attach, Detach, Offline, Online, EnablePart, ReplacePart, Grow, AddSpares, AddSparesToAll, DeleteSpares, ReplaceSpare, EnableSpares, Clear, ClearBelow, ClearAll}
+use Rattle.mdv_change.specs.Below.{kept, volume_key}
 use Rattle.mdv_change.specs.Change.{refusal_of, row_behind, table_after, with_changed}
+use Rattle.mdv_change.specs.Levels.{below_at, below_of, falls, with_level, with_levels}
 use Rattle.mdv_components.proofs.Causes.{is_none}
+use Rattle.mdv_components.specs.Bases.{is_missing}
 use Rattle.mdv_components.specs.Room.{component_on}
 use Rattle.mdv_components.specs.Stripes.{row_blocks, row_on, stripe_on}
 use Rattle.mdv_config.specs.Table.{IsKindOf, IsPartOn, row_depth}
 use Rattle.mdv_keeping.proofs.Unrefused.{unrefused}
 use Rattle.mdv_layout_law.proofs.Chained.{chained_lie, fronts_lie}
 use Rattle.mdv_layout_law.proofs.Laid.{tables_lie}
-use Rattle.mdv_layout_law.proofs.Lists.{All-changed, All-with_item, changed_found, changed_others, find_found, with_new, with_others}
+use Rattle.mdv_layout_law.proofs.Lists.{All-changed, Found, All-with_item, changed_found, changed_others, find_found, with_new, with_others}
 use Rattle.mdv_layout_law.proofs.Telling.{rows_same, volumes_tell}
 use Rattle.mdv_layout_law.specs.Chained.{IsFrontOf, chained}
 use Rattle.mdv_layout_law.specs.Layout.{IsMapOf, component_map, kind_map, map_at, map_of, row_map, rows_map}
+use Rattle.mdv_plan.specs.Named.{base_below, component_below, kind_below, row_below}
 use Rattle.mdv_plan.specs.Parents.{has_parent, is_component, is_in_row, is_volume, names_volume}
 use Rattle.mdv_plan.specs.Sorted.{changed, with_item}
 use Rattle.mdv_rows.specs.Adding.{kind_with, with_row}
-use Rattle.mdv_growing_law.specs.Below.{AddRow, Base, Change, Component, DriveNo, Geometry, HasDriveBlock, IsBuilt, IsMade, IsOfGeometry, IsOfSlices, IsSlice, IsSound, IsStepOf, MakeStripe, Map, Mirror, OneVolume, Plan, PoolId, Raid, Row, RowAsked, Slice, Soft, Stripe, Table, VolId, Volume, VolumeKind, volume_of}
-use Rattle.mdv_growing_law.specs.Going.{blocks_at, IsFresh, IsMadeAnew, MapsGo, Went, stayed, grew, began}
+use Rattle.mdv_growing_law.specs.Below.{AddRow, Base, Change, Clear, ClearAll, ClearBelow, Component, DriveNo, Geometry, HasDriveBlock, IsOfGeometry, IsOfSlices, IsSlice, IsSound, IsStepOf, MakeStripe, Map, Mirror, OneVolume, Plan, PoolId, Raid, Row, RowAsked, Slice, Soft, Stripe, Table, VolId, Volume, VolumeKind, volume_of}
+use Rattle.mdv_growing_law.specs.Going.{blocks_at, Clears, IsClearing, IsCleared, IsFresh, IsGrown, IsMadeAnew, MapsGo, Went, stayed, grew, began}
+use Rattle.mdv_growing_law.proofs.Clearing.{find_gone, find_kept, flat_none, is_one, named_is, same_id, unnamed_isnt}
 
 -- rows of slices alone
 abbrev pub IsRowSlices : Row → Type 0
@@ -85,11 +91,16 @@ data Moves (o n : Option Map) : Type 0 where
   longer : (u v : Map) → o ≡ Some u → n ≡ Some v → IsFrontOf u v → Moves o n
   as_new : o ≡ None → Moves o n
 
+-- a map, and one that begins with it
+record IsLonger (o n : Option Map) : Type 0 where
+  before : Map
+  was : o ≡ Some before
+  after : Map
+  now : n ≡ Some after
+  front : IsFrontOf before after
+
 abbrev number : OneVolume → ℕ
 number w = w.number.0
-
-same_id : (v w : VolId) → v.0 == w.0 ≡ true → v ≡ w
-same_id v w is = let same : v.0 ≡ w.0 = grind (arith, nat_tests) in ap (λ (n : ℕ). record { 0 = n }) same
 
 module _ (g : Geometry) (old next : Table) (were : AllOnSlices old) (are : AllOnSlices next) where
   kind_same : (kind : VolumeKind) → OnSlices kind → kind_map g next kind ≡ kind_map g old kind
@@ -185,91 +196,206 @@ module _ (g : Geometry) (old next : Table) (were : AllOnSlices old) (volume : Vo
     grown_kind (Soft s) is = absurd is
 
     -- the rows that were there are in front
-    kind_grows : (kind : VolumeKind) → OnSlices kind → Moves (kind_map g old kind) (kind_map g next (kind_with row kind))
-    kind_grows (Stripe s) is =
+    kind_longer : (kind : VolumeKind) → OnSlices kind → IsLonger (kind_map g old kind) (kind_map g next (kind_with row kind))
+    kind_longer (Stripe s) is =
         let before = rows_map g old.plan s.rows in
         let here = map (row_map g next.plan) s.rows in
         let behind = row_map g next.plan row ∷ [] in
         let whole : rows_map g next.plan (s.rows ++ row ∷ []) ≡ chained (here ++ behind) = ap chained (map-append (row_map g next.plan) s.rows (row ∷ [])) in
         let front : IsFrontOf before (chained (here ++ behind)) = subst (λ (v : Map). IsFrontOf v (chained (here ++ behind))) (rows_alone g next.plan old.plan s.rows is) (chained_lie.front here behind) in
-        longer before (chained (here ++ behind)) refl (ap Some whole) front
-    kind_grows (Mirror m) is = absurd is
-    kind_grows (Raid r) is = absurd is
-    kind_grows (Soft s) is = absurd is
+        record { before = before; was = refl; after = chained (here ++ behind); now = ap Some whole; front = front }
+    kind_longer (Mirror m) is = absurd is
+    kind_longer (Raid r) is = absurd is
+    kind_longer (Soft s) is = absurd is
+
+    -- the volume is there
+    module _ (of : OneVolume) (there : volume_of old.plan volume ≡ Some of) where
+      at : Found (λ (w : OneVolume). w.number.0 == volume.0) old.plan.volumes of
+      at = find_found (λ (w : OneVolume). w.number.0 == volume.0) old.plan.volumes of there
+
+      on_slices : OnSlices of.kind
+      on_slices = subst (λ (w : OneVolume). OnSlices w.kind) at.is (were at.at of at.within)
+
+      its_number : of.number ≡ volume
+      its_number = same_id of.number volume at.passes
+
+      listed : next.plan.volumes ≡ changed number (with_row row of) old.plan.volumes
+      listed = added_volumes (Some of) there
+
+      all_on : AllOnSlices next
+      all_on = subst (All (λ (w : OneVolume). OnSlices w.kind)) (sym listed) (All-changed number (with_row row of) (λ (w : OneVolume). OnSlices w.kind) (grown_kind of.kind on_slices) old.plan.volumes were)
+
+      others_found : (other : VolId) → of.number.0 == other.0 ≡ false → volume_of next.plan other ≡ volume_of old.plan other
+      others_found other differs = ap (find (λ (w : OneVolume). w.number.0 == other.0)) listed ∙ changed_others number (with_row row of) old.plan.volumes other.0 differs
+
+      found_longer : volume_of next.plan volume ≡ Some (with_row row of)
+      found_longer =
+          let key : volume.0 ≡ of.number.0 = sym (ap (λ (v : VolId). v.0) its_number) in
+          let was : find (λ (w : OneVolume). w.number.0 == of.number.0) old.plan.volumes ≡ Some of = ap (λ (k : ℕ). find (λ (w : OneVolume). w.number.0 == k) old.plan.volumes) (sym key) ∙ there in
+          ap (find (λ (w : OneVolume). w.number.0 == volume.0)) listed ∙ ap (λ (k : ℕ). find (λ (w : OneVolume). w.number.0 == k) (changed number (with_row row of) old.plan.volumes)) key
+          ∙ changed_found number (with_row row of) old.plan.volumes of was
+
+      is_longer : IsLonger (kind_map g old of.kind) (kind_map g next (kind_with row of.kind))
+      is_longer = kind_longer of.kind on_slices
+
+      grown_there : IsGrown g volume old next
+      grown_there = record {
+        before = is_longer.before;
+        was = map_alone g old volume were ∙ ap (map_at g old) there ∙ is_longer.was;
+        map = is_longer.after;
+        lies = map_alone g next volume all_on ∙ ap (map_at g next) found_longer ∙ is_longer.now;
+        front = is_longer.front;
+        others = λ other differ. elim (cases_Bool (of.number.0 == other.0)) [
+          | inl here ↦ absurd (differ (sym (same_id of.number other here) ∙ its_number))
+          | inr differs ↦ lies_as_was g old next were all_on other (others_found other differs)
+        ];
+      }
+
+      there_moves : (other : VolId) → Moves (map_of g old other) (map_of g next other)
+      there_moves other = elim (cases_Bool (of.number.0 == other.0)) [
+        | inl here ↦
+            let named : volume ≡ other = sym its_number ∙ same_id of.number other here in
+            subst (λ (v : VolId). Moves (map_of g old v) (map_of g next v)) named (longer grown_there.before grown_there.map grown_there.was grown_there.lies grown_there.front)
+        | inr differs ↦ stays g old next were all_on other (others_found other differs)
+      ]
 
     added_moves : (other : VolId) → Moves (map_of g old other) (map_of g next other)
     added_moves other = by (volume_of old.plan volume) refl where
-      grows : (of : OneVolume) → volume_of old.plan volume ≡ Some of → Moves (map_of g old other) (map_of g next other)
-      grows of is =
-          let at = find_found (λ (w : OneVolume). w.number.0 == volume.0) old.plan.volumes of is in
-          let kind : OnSlices of.kind = subst (λ (w : OneVolume). OnSlices w.kind) at.is (were at.at of at.within) in
-          let listed = added_volumes (Some of) is in
-          let are : AllOnSlices next = subst (All (λ (w : OneVolume). OnSlices w.kind)) (sym listed) (All-changed number (with_row row of) (λ (w : OneVolume). OnSlices w.kind) (grown_kind of.kind kind) old.plan.volumes were) in
-          elim (cases_Bool (of.number.0 == other.0)) [
-            | inl here ↦
-                let named : other ≡ volume = sym (same_id of.number other here) ∙ same_id of.number volume at.passes in
-                let found : volume_of old.plan other ≡ Some of = ap (volume_of old.plan) named ∙ is in
-                let key : other.0 ≡ of.number.0 = sym (ap (λ (v : VolId). v.0) (same_id of.number other here)) in
-                let was : find (λ (w : OneVolume). w.number.0 == of.number.0) old.plan.volumes ≡ Some of = ap (λ (k : ℕ). find (λ (w : OneVolume). w.number.0 == k) old.plan.volumes) (sym key) ∙ found in
-                let now : volume_of next.plan other ≡ Some (with_row row of) =
-                ap (find (λ (w : OneVolume). w.number.0 == other.0)) listed ∙ ap (λ (k : ℕ). find (λ (w : OneVolume). w.number.0 == k) (changed number (with_row row of) old.plan.volumes)) key
-                ∙ changed_found number (with_row row of) old.plan.volumes of was in
-                let from = map_alone g old other were ∙ ap (map_at g old) found in
-                let to = map_alone g next other are ∙ ap (map_at g next) now in
-                subst (λ (o : Option Map). Moves o (map_of g next other)) (sym from) (subst (Moves (kind_map g old of.kind)) (sym to) (kind_grows of.kind kind))
-            | inr differs ↦ stays g old next were are other (ap (find (λ (w : OneVolume). w.number.0 == other.0)) listed ∙ changed_others number (with_row row of) old.plan.volumes other.0 differs)
-          ]
-
       by : (o : Option OneVolume) → volume_of old.plan volume ≡ o → Moves (map_of g old other) (map_of g next other)
       by None is = as_was (volumes_tell g next old other (added_volumes None is))
-      by (Some of) is = grows of is
+      by (Some of) is = there_moves of is other
+
+    grown_by : (o : Option OneVolume) → volume_of old.plan volume ≡ o → is_some o ≡ true → IsGrown g volume old next
+    grown_by None none some = absurd (false≢true some)
+    grown_by (Some of) there some = grown_there of there
 
 -- what nothing refuses has a free name
 free_name : (g : Geometry) (drives : List DriveNo) (old : Table) (volume : VolId) (rows : List RowAsked) (pool : Option PoolId) → refusal_of g drives old (MakeStripe volume rows pool) ≡ None → volume_of old.plan volume ≡ None
 free_name g drives old volume rows pool allowed = is_none (volume_of old.plan volume) (unrefused g drives old (MakeStripe volume rows pool) allowed).free
 
-moves : (g : Geometry) (change : Change) (old next : Table) (step : IsStepOf g change old next) (volume : VolId) → Moves (map_of g old volume) (map_of g next volume)
-moves g change old next step volume = by change step.built step.made where
-  by : (change : Change) → IsBuilt change → IsMade g step.drives change old next → Moves (map_of g old volume) (map_of g next volume)
-  by (MakeStripe v rows pool) built made = made_moves g old next (of_geometry g old step.old_of) v rows pool built.2 made.after (free_name g step.drives old v rows pool made.allowed) volume
-  by (AddRow v asked) built made = added_moves g old next (of_geometry g old step.old_of) v asked built made.after volume
-  by (MakeRaid v raid) built made = absurd built
-  by (MakeMirror v mirror) built made = absurd built
-  by (MakeSoft v asked) built made = absurd built
-  by (Attach mirror sub) built made = absurd built
-  by (Detach mirror sub force) built made = absurd built
-  by (Offline mirror sub) built made = absurd built
-  by (Online mirror sub) built made = absurd built
-  by (EnablePart v part) built made = absurd built
-  by (ReplacePart v part new) built made = absurd built
-  by (Grow v blocks) built made = absurd built
-  by (AddSpares q new slices) built made = absurd built
-  by (AddSparesToAll slices) built made = absurd built
-  by (DeleteSpares pools slices) built made = absurd built
-  by (ReplaceSpare pools part new) built made = absurd built
-  by (EnableSpares slices) built made = absurd built
-  by (Clear volumes pools) built made = absurd built
-  by (ClearBelow volumes pools) built made = absurd built
-  by ClearAll built made = absurd built
+-- and where a row is added the volume is there
+is_there : (g : Geometry) (drives : List DriveNo) (old : Table) (volume : VolId) (asked : RowAsked) → refusal_of g drives old (AddRow volume asked) ≡ None → is_some (volume_of old.plan volume) ≡ true
+is_there g drives old volume asked allowed =
+    let none = (or_parts (not (is_some (volume_of old.plan volume))) (list_any (is_missing old.plan) asked.components) (unrefused g drives old (AddRow volume asked) allowed).there).0 in
+    is_not (is_some (volume_of old.plan volume)) none where
+      is_not : (b : Bool) → not b ≡ false → b ≡ true
+      is_not true is = refl
+      is_not false is = absurd (false≢true (sym is))
+
+-- no volume lies below another
+base_alone : (base : Base) → IsSlice base → base_below base ≡ []
+base_alone (Slice slice) is = refl
+base_alone (Volume volume) is = absurd is
+
+kind_alone : (kind : VolumeKind) → OnSlices kind → kind_below kind ≡ []
+kind_alone (Stripe s) is = flat_none row_below s.rows (λ k d lt. let row = get_or s.rows k d in
+    flat_none component_below row.components (λ i c within. base_alone (get_or row.components i c).on (is k d lt i c within)))
+kind_alone (Mirror m) is = absurd is
+kind_alone (Raid r) is = absurd is
+kind_alone (Soft s) is = absurd is
+
+module _ (t : Table) (are : AllOnSlices t) where
+  none_below : (volume : VolId) → below_of t.plan volume ≡ []
+  none_below volume = by (volume_of t.plan volume) refl where
+    by : (o : Option OneVolume) → volume_of t.plan volume ≡ o → below_at o ≡ []
+    by None is = refl
+    by (Some of) is =
+        let at = find_found (λ (w : OneVolume). w.number.0 == volume.0) t.plan.volumes of is in
+        kind_alone of.kind (subst (λ (w : OneVolume). OnSlices w.kind) at.is (are at.at of at.within))
+
+  level_alone : (vs : List VolId) → with_level t.plan vs ≡ vs
+  level_alone vs = ap (λ (l : List VolId). vs ++ filter (falls t.plan vs) l) (flat_none (below_of t.plan) vs (λ k d lt. none_below (get_or vs k d))) ∙ append-nil vs
+
+  levels_alone : (vs : List VolId) → with_levels t.plan vs ≡ vs
+  levels_alone vs = ap (λ (l : List VolId). with_level t.plan (with_level t.plan l)) (level_alone vs) ∙ ap (with_level t.plan) (level_alone vs) ∙ level_alone vs
+
+module _ (g : Geometry) (old next : Table) (were : AllOnSlices old) where
+  -- the volumes of these names go
+  module _ (vs : List VolId) (left : next.plan.volumes ≡ kept number (map volume_key vs) old.plan.volumes) where
+    left_are : AllOnSlices next
+    left_are = subst (All (λ (w : OneVolume). OnSlices w.kind)) (sym left) (All-filter (λ (w : OneVolume). not (is_one vs w.number)) (λ (w : OneVolume). OnSlices w.kind) old.plan.volumes were)
+
+    cleared_gone : (volume : VolId) → Contains vs volume → map_of g next volume ≡ None
+    cleared_gone volume has =
+        let none = find_gone number (map volume_key vs) volume.0 (named_is vs volume has) old.plan.volumes in
+        map_alone g next volume left_are ∙ ap (map_at g next) (ap (find (λ (w : OneVolume). w.number.0 == volume.0)) left ∙ none)
+
+    cleared_others : (volume : VolId) → (Contains vs volume → ⊥) → map_of g next volume ≡ map_of g old volume
+    cleared_others volume never =
+        let same = find_kept number (map volume_key vs) volume.0 (unnamed_isnt vs volume never) old.plan.volumes in
+        lies_as_was g old next were left_are volume (ap (find (λ (w : OneVolume). w.number.0 == volume.0)) left ∙ same)
+
+  -- all go
+  all_gone : next.plan.volumes ≡ [] → (volume : VolId) → map_of g next volume ≡ None
+  all_gone left volume =
+      let are : AllOnSlices next = subst (All (λ (w : OneVolume). OnSlices w.kind)) (sym left) (All-nil (λ (w : OneVolume). OnSlices w.kind)) in
+      map_alone g next volume are ∙ ap (map_at g next) (ap (find (λ (w : OneVolume). w.number.0 == volume.0)) left)
+
+cleared : (g : Geometry) (change : Change) (old next : Table) → IsClearing change → IsStepOf g change old next → IsCleared g change old next
+cleared g (Clear vs pools) old next is step =
+    let were = of_geometry g old step.old_of in
+    let left : next.plan.volumes ≡ kept number (map volume_key vs) old.plan.volumes = ap (λ (t : Table). t.plan.volumes) step.made.after in
+    record { gone = cleared_gone g old next were vs left; others = cleared_others g old next were vs left }
+cleared g (ClearBelow vs pools) old next is step =
+    let were = of_geometry g old step.old_of in
+    let left : next.plan.volumes ≡ kept number (map volume_key vs) old.plan.volumes =
+    ap (λ (t : Table). t.plan.volumes) step.made.after ∙ ap (λ (l : List VolId). kept number (map volume_key l) old.plan.volumes) (levels_alone old were vs) in
+    record { gone = cleared_gone g old next were vs left; others = cleared_others g old next were vs left }
+cleared g ClearAll old next is step = record {
+  gone = λ volume clears. all_gone g old next (of_geometry g old step.old_of) (ap (λ (t : Table). t.plan.volumes) step.made.after) volume;
+  others = λ volume never. absurd (never tt);
+}
+cleared g other old next is step = absurd is
+
+-- a change clears volumes, or none
+clears_or : (change : Change) → IsClearing change ⊎ ((volume : VolId) → Clears change volume → ⊥)
+clears_or (Clear vs pools) = inl tt
+clears_or (ClearBelow vs pools) = inl tt
+clears_or ClearAll = inl tt
+clears_or other = inr (λ volume is. is)
+
+-- so a volume that has a map isn't cleared
+uncleared : (g : Geometry) (change : Change) (old next : Table) (volume : VolId) (v : Map) → IsStepOf g change old next → IsMapOf g next volume v → Clears change volume → ⊥
+uncleared g change old next volume v step map is = elim (clears_or change) [
+  | inl clears ↦ none-some v (sym ((cleared g change old next clears step).gone volume is) ∙ map)
+  | inr never ↦ never volume is
+]
+
+moves : (g : Geometry) (change : Change) (old next : Table) (step : IsStepOf g change old next) (volume : VolId) → (Clears change volume → ⊥) → Moves (map_of g old volume) (map_of g next volume)
+moves g (MakeStripe v rows pool) old next step volume never =
+    made_moves g old next (of_geometry g old step.old_of) v rows pool step.built.2 step.made.after (free_name g step.drives old v rows pool step.made.allowed) volume
+moves g (AddRow v asked) old next step volume never = added_moves g old next (of_geometry g old step.old_of) v asked step.built step.made.after volume
+moves g (Clear vs pools) old next step volume never = as_was ((cleared g (Clear vs pools) old next tt step).others volume never)
+moves g (ClearBelow vs pools) old next step volume never = as_was ((cleared g (ClearBelow vs pools) old next tt step).others volume never)
+moves g ClearAll old next step volume never = absurd (never tt)
+moves g other old next step volume never = absurd step.built
 
 went : (g : Geometry) (change : Change) (old next : Table) (volume : VolId) (v : Map) → IsStepOf g change old next → IsMapOf g next volume v → Went g old volume v
-went g change old next volume v step map = elim (moves g change old next step volume) [
+went g change old next volume v step map = elim (moves g change old next step volume (uncleared g change old next volume v step map)) [
   | as_was is ↦ stayed (sym is ∙ map)
   | longer u w was now front ↦ let is : w ≡ v = (let both = sym now ∙ map in cc both) in grew u was (subst (IsFrontOf u) is front)
   | as_new was ↦ began was
 ]
 
-keeps : (g : Geometry) (change : Change) (old next : Table) (volume : VolId) (w : Map) → IsStepOf g change old next → IsMapOf g old volume w → (v : Map) × IsMapOf g next volume v × IsFrontOf w v
-keeps g change old next volume w step map = elim (moves g change old next step volume) [
+keeps : (g : Geometry) (change : Change) (old next : Table) (volume : VolId) (w : Map) → IsStepOf g change old next → (Clears change volume → ⊥) → IsMapOf g old volume w → (v : Map) × IsMapOf g next volume v × IsFrontOf w v
+keeps g change old next volume w step never map = elim (moves g change old next step volume never) [
   | as_was is ↦ (w, is ∙ map, fronts_lie.itself w)
   | longer u v was now front ↦ let is : u ≡ w = (let both = sym was ∙ map in cc both) in (v, now, subst (λ (x : Map). IsFrontOf x v) is front)
   | as_new was ↦ absurd (none-some w (sym was ∙ map))
 ]
 
-fresh : (g : Geometry) (change : Change) (old next : Table) (volume : VolId) (v : Map) → IsSound g → IsStepOf g change old next → IsMapOf g next volume v → IsFresh g old (blocks_at (map_of g old volume)) v
-fresh g change old next volume v sound step map other u a b drive block there below from above in_a in_b =
+-- where volumes are cleared no map is longer
+cleared_fresh : (g : Geometry) (change : Change) (old next : Table) (volume : VolId) (v : Map) → IsClearing change → IsStepOf g change old next → IsMapOf g next volume v → IsFresh g old (blocks_at (map_of g old volume)) v
+cleared_fresh g change old next volume v is step map other u a b drive block there below from above in_a in_b =
+    let same = (cleared g change old next is step).others volume (uncleared g change old next volume v step map) in
+    let had : blocks_at (map_of g old volume) ≡ v.blocks = ap blocks_at (sym same ∙ map) in
+    omega (arith, had, from, above)
+
+others_fresh : (g : Geometry) (change : Change) (old next : Table) (volume : VolId) (v : Map) → IsSound g → ((other : VolId) → Clears change other → ⊥) → IsStepOf g change old next → IsMapOf g next volume v
+    → IsFresh g old (blocks_at (map_of g old volume)) v
+others_fresh g change old next volume v sound never step map other u a b drive block there below from above in_a in_b =
     let laid = tables_lie g next sound step.next_of in
-    let kept = keeps g change old next other u step there in
+    let kept = keeps g change old next other u step (never other) there in
     let within = kept.2.blocks in
     let in_kept : HasDriveBlock (kept.0.places a) drive block = subst (λ ss. HasDriveBlock ss drive block) (sym (kept.2.places a below)) in_a in
     elim (cases_Bool (other.0 == volume.0)) [
@@ -285,9 +411,19 @@ fresh g change old next volume v sound step map other u a b drive block there be
           apart a b drive block (omega arith) above in_kept in_b
     ]
 
+fresh : (g : Geometry) (change : Change) (old next : Table) (volume : VolId) (v : Map) → IsSound g → IsStepOf g change old next → IsMapOf g next volume v → IsFresh g old (blocks_at (map_of g old volume)) v
+fresh g change old next volume v sound step map = elim (clears_or change) [
+  | inl is ↦ cleared_fresh g change old next volume v is step map
+  | inr never ↦ others_fresh g change old next volume v sound never step map
+]
+
 made_new : (g : Geometry) (volume : VolId) (rows : List RowAsked) (pool : Option PoolId) (old next : Table) → IsStepOf g (MakeStripe volume rows pool) old next → IsMadeAnew g volume old next
 made_new g volume rows pool old next step =
     made_anew g old next (of_geometry g old step.old_of) volume rows pool step.built.2 step.made.after (free_name g step.drives old volume rows pool step.made.allowed)
 
+grown : (g : Geometry) (volume : VolId) (asked : RowAsked) (old next : Table) → IsStepOf g (AddRow volume asked) old next → IsGrown g volume old next
+grown g volume asked old next step =
+    grown_by g old next (of_geometry g old step.old_of) volume asked step.built step.made.after (volume_of old.plan volume) refl (is_there g step.drives old volume asked step.made.allowed)
+
 pub maps_go : MapsGo
-maps_go = record { went = went; keeps = keeps; fresh = fresh; made = made_new }
+maps_go = record { went = went; keeps = keeps; fresh = fresh; made = made_new; grown = grown; cleared = cleared }

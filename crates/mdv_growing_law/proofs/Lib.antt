@@ -1,2 +1,3 @@
-pub mod Places
+pub mod Clearing
 pub mod Going
+pub mod Places

@@ -3,7 +3,7 @@ use Rattle.std.proofs.Common.{◌≡◌, ℕ, ◌^◌, min, false, List, [], ◌
 use Rattle.std.specs.Prelude.{All}
 use Rattle.std.specs.List.{fold, list_any}
 use Rattle.std.proofs.lemmas.List.Elements.{All-head, All-tail}
-use Rattle.mdv_change.specs.declared.change.Change.TheVariants.{MakeRaid, MakeMirror, MakeSoft, Attach, Detach, Offline, Online, EnablePart, ReplacePart, Grow, AddSpares, AddSparesToAll, DeleteSpares, ReplaceSpare, EnableSpares, Clear, ClearBelow, ClearAll}
+use Rattle.mdv_change.specs.declared.change.Change.TheVariants.{MakeRaid, MakeMirror, MakeSoft, Attach, Detach, Offline, Online, EnablePart, ReplacePart, Grow, AddSpares, AddSparesToAll, DeleteSpares, ReplaceSpare, EnableSpares}
 use Rattle.mdv_change.specs.Change.{row_behind, table_after, with_changed, with_states, with_volume}
 use Rattle.mdv_components.proofs.Formed.{none_passes}
 use Rattle.mdv_components.specs.Room.{component_on, room_at, room_of, start_at, start_of}
@@ -15,7 +15,7 @@ use Rattle.mdv_name.specs.SliceIndex.{slice_at}
 use Rattle.mdv_name.specs.declared.slice_lines.SliceAt.{SliceAt}
 use Rattle.mdv_plan.specs.declared.lists.Lists.{Lists}
 use Rattle.mdv_rows.specs.Adding.{added_states, with_row}
-use Rattle.mdv_growing_law.specs.Below.{AddRow, Base, Change, Component, Geometry, IsBuilt, IsOfSlices, IsSlice, MakeStripe, OneVolume, Plan, PoolId, Row, RowAsked, Slice, Stripe, Table, VolId, Volume, volume_of}
+use Rattle.mdv_growing_law.specs.Below.{AddRow, Base, Change, Clear, ClearAll, ClearBelow, Component, Geometry, IsBuilt, IsOfSlices, IsSlice, MakeStripe, OneVolume, Plan, PoolId, Row, RowAsked, Slice, Stripe, Table, VolId, Volume, volume_of}
 
 least_same : (f h : Base → ℕ) (a : ℕ) (xs : List Base) → All (λ (x : Base). f x ≡ h x) xs → fold (λ least x. min least (f x)) a xs ≡ fold (λ least x. min least (h x)) a xs
 least_same f h a [] same = refl
@@ -70,6 +70,9 @@ module _ (g : Geometry) (t : Table) (lists : Lists) where
 pub places_apart : (g : Geometry) (change : Change) (t : Table) (lists : Lists) → IsBuilt change → names_db g change ≡ false → table_after g (with_lists t lists) change ≡ with_lists (table_after g t change) lists
 places_apart g (MakeStripe v rows pool) t lists built plain = made g t lists v rows pool built.2 plain
 places_apart g (AddRow v r) t lists built plain = added g t lists v r built plain
+places_apart g (Clear volumes pools) t lists built plain = refl
+places_apart g (ClearBelow volumes pools) t lists built plain = refl
+places_apart g ClearAll t lists built plain = refl
 places_apart g (MakeRaid v raid) t lists built plain = absurd built
 places_apart g (MakeMirror v mirror) t lists built plain = absurd built
 places_apart g (MakeSoft v asked) t lists built plain = absurd built
@@ -85,6 +88,3 @@ places_apart g (AddSparesToAll slices) t lists built plain = absurd built
 places_apart g (DeleteSpares pools slices) t lists built plain = absurd built
 places_apart g (ReplaceSpare pools part new) t lists built plain = absurd built
 places_apart g (EnableSpares slices) t lists built plain = absurd built
-places_apart g (Clear volumes pools) t lists built plain = absurd built
-places_apart g (ClearBelow volumes pools) t lists built plain = absurd built
-places_apart g ClearAll t lists built plain = absurd built

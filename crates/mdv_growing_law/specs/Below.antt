@@ -4,7 +4,7 @@ pub use Rattle.mdv_base.specs.declared.name.PoolId.{PoolId}
 pub use Rattle.mdv_base.specs.declared.name.VolId.{VolId}
 pub use Rattle.mdv_change.specs.Apply.{IsMade}
 pub use Rattle.mdv_change.specs.declared.change.Change.{Change}
-pub use Rattle.mdv_change.specs.declared.change.Change.TheVariants.{AddRow, MakeStripe}
+pub use Rattle.mdv_change.specs.declared.change.Change.TheVariants.{AddRow, Clear, ClearAll, ClearBelow, MakeStripe}
 pub use Rattle.mdv_components.specs.Bases.{volume_of}
 pub use Rattle.mdv_components.specs.declared.asked.RowAsked.{RowAsked}
 pub use Rattle.mdv_config.specs.Slices.{IsSound}

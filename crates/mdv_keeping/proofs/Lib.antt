@@ -1,5 +1,6 @@
 pub mod Adding
 pub mod Apart
+pub mod Clearing
 pub mod Judged
 pub mod Keeping
 pub mod Lists

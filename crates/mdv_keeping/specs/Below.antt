@@ -5,7 +5,7 @@ pub use Rattle.mdv_base.specs.declared.place.Place.{Place}
 pub use Rattle.mdv_change.specs.Apply.{HasFault, IsMade}
 pub use Rattle.mdv_change.specs.Change.{refusal_of}
 pub use Rattle.mdv_change.specs.declared.change.Change.{Change}
-pub use Rattle.mdv_change.specs.declared.change.Change.TheVariants.{AddRow, MakeStripe}
+pub use Rattle.mdv_change.specs.declared.change.Change.TheVariants.{AddRow, Clear, ClearAll, ClearBelow, MakeStripe}
 pub use Rattle.mdv_components.specs.declared.asked.RowAsked.{RowAsked}
 pub use Rattle.mdv_config.specs.Lists.{settled, with_lists}
 pub use Rattle.mdv_config.specs.Slices.{IsSound}

@@ -1,7 +1,7 @@
 -- The changes that the program makes yet, and those that name a slice which is set aside for replicas.
 use Rattle.std.specs.Prelude.{◌≡◌, ◌<◌, Bool, false, None, Option, Some, All}
 use Rattle.std.specs.List.{list_any}
-use Rattle.mdv_keeping.specs.Below.{AddRow, Base, Change, Geometry, MakeStripe, RowAsked, Slice, SliceAt, Volume, slice_at}
+use Rattle.mdv_keeping.specs.Below.{AddRow, Base, Change, Clear, ClearAll, ClearBelow, Geometry, MakeStripe, RowAsked, Slice, SliceAt, Volume, slice_at}
 
 abbrev pub IsSlice : Base → Type 0
 IsSlice (Slice slice) = Unit {0}
@@ -11,10 +11,13 @@ IsSlice (Volume volume) = ⊥
 abbrev pub IsOfSlices : RowAsked → Type 0
 IsOfSlices asked = All IsSlice asked.components
 
--- a volume of rows of slices, without spares, and a row of slices more for one
+-- a volume of rows of slices, without spares, a row of slices more for one, and the clearing of volumes and pools
 abbrev pub IsBuilt : Change → Type 0
 IsBuilt (MakeStripe volume rows pool) = (volume.0 < 8192) × (pool ≡ None) × All IsOfSlices rows
 IsBuilt (AddRow volume row) = IsOfSlices row
+IsBuilt (Clear volumes pools) = Unit {0}
+IsBuilt (ClearBelow volumes pools) = Unit {0}
+IsBuilt ClearAll = Unit {0}
 IsBuilt other = ⊥
 
 abbrev pub is_db_at : Option SliceAt → Bool

@@ -41,6 +41,9 @@ enum Asked {
     AddListed(u8, bool),
     DropPlaces(&'static [SliceName], bool),
     Make(u16, &'static [Slices]),
+    Attach(u16, Slices),
+    Clear(&'static [Named], bool),
+    ClearAll,
     Read(u64, u64),
     Write(&'static [u8]),
     Fill(u64, u64, u8),
@@ -136,6 +139,27 @@ const LINES: &[(&[u8], Asked)] = &[
         Asked::Make(1, &[(TWICE, Some(2048)), (ONE, None), (TWO, None)]),
     ),
     (b"metainit d7 1 0", Asked::Make(7, &[(&[], None)])),
+    (b"metattach d7 c0t1d2s7", Asked::Attach(7, (ONE, None))),
+    (
+        b"metattach -i 16b d0 c0t1d2s7 c0t2d2s0",
+        Asked::Attach(0, (TWO, Some(16))),
+    ),
+    (
+        b" metattach /dev/md/dsk/d8191\tc0t1d2s7 c0t1d2s7 -i 1m",
+        Asked::Attach(8191, (TWICE, Some(2048))),
+    ),
+    (b"metaclear d7", Asked::Clear(&[VOLUME], false)),
+    (
+        b" metaclear -f /dev/md/rdsk/d7\td0  d7 ",
+        Asked::Clear(&[VOLUME, FIRST, VOLUME], false),
+    ),
+    (
+        b"metaclear -r hsp001 d7",
+        Asked::Clear(&[POOL, VOLUME], true),
+    ),
+    (b"metaclear -fr d0", Asked::Clear(&[FIRST], true)),
+    (b"metaclear -a", Asked::ClearAll),
+    (b"metaclear -af ", Asked::ClearAll),
     (b"read d12 0 1", Asked::Read(0, 1)),
     (b"read \td12  0 1025 ", Asked::Read(0, 1025)),
     (
@@ -218,9 +242,24 @@ const BAD: &[&[u8]] = &[
     b"metainit d8192 1 1 c0t1d2s7",
     b"metainit d07 1 1 c0t1d2s7",
     b"metainit d7 1 2 c0t1d2s7",
-    b"metaclear d7",
-    b"metaclear -a",
+    b"metaclear",
+    b"metaclear -r",
+    b"metaclear -a d7",
+    b"metaclear -ar",
+    b"metaclear -a -s blue",
+    b"metaclear -s blue d7",
+    b"metaclear d7 blue/d8",
+    b"metaclear blue/hsp001",
+    b"metaclear d7 c0t1d2s7",
+    b"metaclear d7 -f",
+    b"metaclear d8192",
+    b"metaclear -p c0t1d2s7",
     b"metattach d0 d20",
+    b"metattach d0 c0t1d2s7 d20",
+    b"metattach blue/d0 c0t1d2s7",
+    b"metattach -s blue d0 c0t1d2s7",
+    b"metattach d0 c0t1d2s7 -i",
+    b"metattach d8192 c0t1d2s7",
     b"metattach d1 1g",
     b"metadetach d0 d20",
     b"metaoffline d0 d20",
@@ -313,6 +352,20 @@ fn address(asked: &Asked) -> u64 {
     }
 }
 
+fn is_alteration(alteration: &Alteration, asked: &Asked) -> bool {
+    match (alteration, asked) {
+        (Alteration::Make(entry), Asked::Make(number, rows)) => is_made(entry, *number, rows),
+        (Alteration::Attach { volume, row }, Asked::Attach(number, slices)) => {
+            volume.0 == *number && is_row(row, slices)
+        }
+        (Alteration::Clear { names, below }, Asked::Clear(wanted, deep)) => {
+            names.as_slice() == *wanted && below == deep
+        }
+        (Alteration::ClearAll, Asked::ClearAll) => true,
+        _ => false,
+    }
+}
+
 fn is_command(command: &Command, asked: &Asked) -> bool {
     match (command, asked) {
         (
@@ -332,12 +385,7 @@ fn is_command(command: &Command, asked: &Asked) -> bool {
         (Command::DropPlaces { slices, force }, Asked::DropPlaces(named, forced)) => {
             slices.as_slice() == *named && force == forced
         }
-        (
-            Command::Alter {
-                alteration: Alteration::Make(entry),
-            },
-            Asked::Make(number, rows),
-        ) => is_made(entry, *number, rows),
+        (Command::Alter { alteration }, _) => is_alteration(alteration, asked),
         (Command::Read { volume, at, count }, Asked::Read(from, blocks)) => {
             volume.0 == 12 && at == from && count == blocks
         }

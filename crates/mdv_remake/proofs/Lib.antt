@@ -5,6 +5,7 @@ pub mod Components
 pub mod Heights
 pub mod Kept
 pub mod Mirrors
+pub mod Named
 pub mod Orders
 pub mod Parts
 pub mod Pools

@@ -1,7 +1,9 @@
 -- What an entry of an md.tab asks of a table.
-use Rattle.std.specs.Prelude.{ℕ, ◌&&◌, Bool, true, nat_le, nat_lt, List, length, map, Option, None, Some, if◌then◌else◌}
+use Rattle.std.specs.Prelude.{ℕ, ◌&&◌, Bool, false, true, nat_le, nat_lt, List, [], ◌∷◌, flat_map, length, map, Option, None, Some, if◌then◌else◌}
 use Rattle.std.specs.List.{list_all}
-use Rattle.mdv_remake.specs.Below.{VolId, Change, MakeStripe, MakeRaid, MakeMirror, MakeSoft, AddSpares, RaidAsked, RowAsked, Run, Base, Slice, Volume, ReadOption, InTurn, Geometric, First, WriteOption, Parallel, Serial, RoomAsked, Blocks, Extents, SoftAsked, MirrorAsked}
+use Rattle.mdv_remake.specs.Below.{VolId, PoolId, Change, Clear, ClearBelow, MakeStripe, MakeRaid, MakeMirror, MakeSoft, AddSpares, RaidAsked, RowAsked, Run, Base, Slice, Volume, ReadOption, InTurn, Geometric, First, WriteOption, Parallel, Serial, RoomAsked, Blocks, Extents, SoftAsked, MirrorAsked}
+use Rattle.mdv_base.specs.declared.name.Named.{Named as Name}
+use Rattle.mdv_base.specs.declared.name.Named.TheVariants as name
 use Rattle.mdv_remake.specs.Below.{Named, NamedSlice, NamedVolume, Entry, Extent, MirrorOptions, RaidOptions, ReadFrom, Room, RowEntry}
 
 abbrev pub base_of : Named → Base
@@ -64,3 +66,18 @@ is_within (Entry.Raid name columns options) = nat_lt name.volume.0 8192 && is_fe
 is_within (Entry.Soft name base room) = nat_lt name.volume.0 8192 && is_short_room room
 is_within (Entry.Pool name slices) = nat_lt name.pool.0 1000 && is_few slices
 is_within (Entry.Replicas number options slices) = true
+
+-- Below: the clearing of volumes and pools.
+
+abbrev pub volume_named : Name → List VolId
+volume_named (name.Volume v) = v ∷ []
+volume_named (name.Pool q) = []
+
+abbrev pub pool_named : Name → List PoolId
+pool_named (name.Volume v) = []
+pool_named (name.Pool q) = q ∷ []
+
+-- the change by which those of these names go, and with them each volume below that nothing else uses, or these alone
+abbrev pub clearing_of : List Name → Bool → Change
+clearing_of names false = Clear (flat_map volume_named names) (flat_map pool_named names)
+clearing_of names true = ClearBelow (flat_map volume_named names) (flat_map pool_named names)

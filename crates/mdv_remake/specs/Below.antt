@@ -6,7 +6,7 @@ pub use Rattle.mdv_base.specs.declared.name.VolId.{VolId}
 pub use Rattle.mdv_base.specs.declared.refusal.Refusal.{Refusal}
 pub use Rattle.mdv_change.specs.Change.{refusal_of, table_after}
 pub use Rattle.mdv_change.specs.Clear.{emptied}
-pub use Rattle.mdv_change.specs.declared.change.Change.TheVariants.{MakeStripe, MakeRaid, MakeMirror, MakeSoft, AddSpares}
+pub use Rattle.mdv_change.specs.declared.change.Change.TheVariants.{MakeStripe, MakeRaid, MakeMirror, MakeSoft, AddSpares, Clear, ClearBelow}
 pub use Rattle.mdv_change.specs.declared.change.Change.{Change}
 pub use Rattle.mdv_components.specs.Bases.{volume_of}
 pub use Rattle.mdv_components.specs.Raids.{column_blocks, units_of}

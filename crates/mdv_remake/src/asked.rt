@@ -1,11 +1,12 @@
 //! What an entry asks of a table.
-ghost use Rattle.std.specs.Prelude.{◌≡◌, ◌≤◌, true, nat_lt, length, map, IfOk, IfSome};
+ghost use Rattle.std.specs.Prelude.{◌≡◌, ◌≤◌, true, nat_lt, flat_map, length, map, IfOk, IfSome};
 ghost use Rattle.std.specs.List.{list_all};
 ghost use Rattle.mdv_change.specs.Apply.{IsNumbered};
+ghost use Rattle.mdv_remake.specs.Asked.{clearing_of as spec_clearing_of, pool_named, volume_named};
 ghost use Rattle.mdv_remake.specs.Asked.{asked_of, base_of as spec_base_of, is_few as spec_is_few, is_short_room as spec_is_short_room, is_short_row as spec_is_short_row, is_within as spec_is_within};
 ghost use Rattle.mdv_remake.specs.Asked.{mirror_of as spec_mirror_of, raid_of as spec_raid_of, read_of as spec_read_of, room_of as spec_room_of, row_of as spec_row_of, run_of as spec_run_of, soft_of as spec_soft_of, write_of as spec_write_of};
 
-use mdv_base::{PoolId, VolId};
+use mdv_base::{Named, PoolId, VolId};
 use mdv_change::Change;
 use mdv_components::{MAX_NAMES, RaidAsked, RowAsked};
 use mdv_extent::Run;
@@ -52,7 +53,10 @@ fn bases(
     listed(alloc, bases.as_slice())
 }
 
-fn row_of(alloc: Global, row: &Row) -> Result<RowAsked, AllocError>
+/// The row that one of an entry asks for.
+///
+/// One that isn't `is_short_row` can't be told as a row of a change.
+pub fn row_of(alloc: Global, row: &Row) -> Result<RowAsked, AllocError>
     requires { spec_is_short_row row.now ≡ true }
     ensures { IfOk result (λ asked. asked ≡ spec_row_of row.now) }
 {
@@ -209,7 +213,51 @@ pub fn change_of(alloc: Global, entry: &Entry) -> Result<Option<Change>, AllocEr
     }))
 }
 
-fn is_few<T>(items: &[T]) -> bool
+// The volumes among the names.
+fn volumes_in(alloc: Global, names: &[Named]) -> Result<Listed<VolId, MAX_NAMES>, AllocError>
+    requires { length names.now ≤ 65536 }
+    ensures { IfOk result (λ volumes. volumes ≡ flat_map volume_named names.now) }
+{
+    let mut volumes = Listed::new(alloc);
+    for name in names {
+        if let Named::Volume(volume) = *name {
+            volumes.push(volume)?;
+        }
+    }
+    Ok(volumes)
+}
+
+// The pools among them.
+fn pools_in(alloc: Global, names: &[Named]) -> Result<Listed<PoolId, MAX_NAMES>, AllocError>
+    requires { length names.now ≤ 65536 }
+    ensures { IfOk result (λ pools. pools ≡ flat_map pool_named names.now) }
+{
+    let mut pools = Listed::new(alloc);
+    for name in names {
+        if let Named::Pool(pool) = *name {
+            pools.push(pool)?;
+        }
+    }
+    Ok(pools)
+}
+
+/// The change by which volumes and pools of these names go, all or none; or with each volume below them that nothing
+/// else uses. There may be `MAX_NAMES` of them.
+pub fn clearing_of(alloc: Global, names: &[Named], below: bool) -> Result<Change, AllocError>
+    requires { spec_is_few names.now ≡ true }
+    ensures { IfOk result (λ change. change ≡ spec_clearing_of names.now below) }
+{
+    let volumes = volumes_in(alloc, names)?;
+    let pools = pools_in(alloc, names)?;
+    Ok(if below {
+        Change::ClearBelow { volumes, pools }
+    } else {
+        Change::Clear { volumes, pools }
+    })
+}
+
+/// Whether a change can have a list of so many: `MAX_NAMES` at most.
+pub fn is_few<T>(items: &[T]) -> bool
     ensures { result ≡ spec_is_few items.now }
 {
     items.len() <= MAX_NAMES
@@ -227,10 +275,17 @@ fn is_pool(pool: PoolId) -> bool
     usize::from(pool.0) < MAX_POOLS
 }
 
+/// Whether a change can have a row of so many components: `MAX_NAMES` at most.
+pub fn is_short_row(row: &Row) -> bool
+    ensures { result ≡ spec_is_short_row row.now }
+{
+    is_few(row.components.as_slice())
+}
+
 fn has_short_rows(rows: &[Row]) -> bool
     ensures { result ≡ list_all spec_is_short_row rows.now }
 {
-    rows.iter().all(|row| is_few(row.components.as_slice()))
+    rows.iter().all(is_short_row)
 }
 
 fn is_short_room(room: &Room) -> bool

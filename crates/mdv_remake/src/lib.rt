@@ -4,5 +4,5 @@
 mod asked;
 mod law;
 
-pub use asked::{change_of, is_within};
+pub use asked::{change_of, clearing_of, is_few, is_short_row, is_within, row_of};
 pub use law::prints_make_again;

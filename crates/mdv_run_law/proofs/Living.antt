@@ -218,7 +218,7 @@ module _ (drives : Geometry) (name : List ℕ) where
       blocks_are = record {
         history = is;
         reads = λ volume v named b x lt among. (is.stands.volumes key volume v named).reads b x lt among;
-        lasts = λ es later place other volume at blocks same keep. told_writes_last view new_history es later place other volume at blocks (λ k. empty_is_log view) (subst (IsCourse view new_history) same its_may) keep;
+        lasts = λ es later place other volume at blocks same keep stays. told_writes_last view new_history es later place other volume at blocks (λ k. empty_is_log view) (subst (IsCourse view new_history) same its_may) keep stays;
       }
 
       -- the next run's boot

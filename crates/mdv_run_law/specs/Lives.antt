@@ -18,7 +18,7 @@ use Rattle.mdv_store_law.specs.Part.{IsPart}
 use Rattle.mdv_engine_law.specs.Standing.{MeetsStaleAt}
 use Rattle.mdv_volumes.specs.Happening.{issued_by, told_by}
 use Rattle.mdv_volumes.specs.History.{Creation, Deleted, Deletes}
-use Rattle.mdv_volumes.specs.HistoryLaws.{KeepDatabase}
+use Rattle.mdv_volumes.specs.HistoryLaws.{KeepDatabase, KeepVolume}
 use Rattle.mdv_run_law.specs.Standing.{RunMoment, AreBegun, AreIdle, AreOfRun, AreTold, HasMetInRun, IsTold}
 
 -- a host's run, told by the word that its databases' identities have: it sees what is its own of the table of drives
@@ -209,12 +209,12 @@ pub record DatabaseIsFound : Type 0 where
       → IsNewWord name fresh ran → BootMeetsNone drives name ran fresh t → BootedTo (host_of drives name fresh) memory t u → memory.begun ≡ 0 → memory.opened ≡ None
 
 -- Each block of a volume that a boot may find reads as one of the values that a history of these runs has for it. Of a write that was told that is its value,
--- whatever happened since, or one that was issued since it was answered, until an end of the database begins.
+-- whatever happened since, or one that was issued since it was answered, until an end of the database begins, or a change that takes the volume away.
 pub record BlocksAre (drives : Geometry) (name : List ℕ) (made : Image) (ran : List Ran) (t : Tale) : Type 0 where
   pub history : IsHistoryOf drives name made ran t
   pub reads : (volume : VolId) (v : Map) → IsNamed (own_view drives name) (history_after_all new_history history.es).databases (Local name) volume v
       → (b : ℕ) (x : List ℕ) → b < v.blocks → Among (readings v (last t) b) x → Among ((history_after_all new_history history.es).volumes (Local name) volume b).reads x
-  pub lasts : (es later : List Event) (place : ℕ) (key : Key) (volume : VolId) (at : ℕ) (blocks : List (List ℕ)) → history.es ≡ es ++ Acknowledges place key volume at blocks ∷ later → KeepDatabase key later → Lasts new_history es later place key volume at blocks
+  pub lasts : (es later : List Event) (place : ℕ) (key : Key) (volume : VolId) (at : ℕ) (blocks : List (List ℕ)) → history.es ≡ es ++ Acknowledges place key volume at blocks ∷ later → KeepDatabase key later → KeepVolume key volume later → Lasts new_history es later place key volume at blocks
 
 abbrev pub BlocksHold : Type 0
 BlocksHold = (drives : Geometry) (name : List ℕ) (made : Image) (ran : List Ran) (t : Tale) → Contains drives.hosts name → IsLife drives made ran t → BlocksAre drives name made ran t

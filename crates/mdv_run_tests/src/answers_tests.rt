@@ -1,23 +1,11 @@
 // What the lines of a script are answered.
 
 use crate::bench::{BLOCKS, CREATION, LONE, TABLE, ends_so};
+use crate::lines::{Lines, Row, WIDE, WIDE_BLOCKS, first_wrong};
 use mdv_run_law::RunStatus;
 use mdv_shelf::MemShelf;
 use std::alloc::{AllocError, Global};
 use std::test::Fail;
-
-// A drive of 40000 blocks: the slice for replicas, which has more than a replica takes, and four for volumes, of
-// which 0 and 4 overlap.
-const WIDE: &str = "host alpha
-drive c0t0d0 40000 alpha d0.img
-slice c0t0d0s0 0 1000
-slice c0t0d0s1 1000 990
-slice c0t0d0s3 2000 4000
-slice c0t0d0s4 999 1
-slice c0t0d0s7 12000 28000 db
-";
-
-const WIDE_BLOCKS: u64 = 40000;
 
 // A slice for replicas that is a block too short for the default, and the least one that there is.
 const SMALL: &str =
@@ -27,61 +15,6 @@ const LEAST: &str =
     "host alpha\ndrive c0t0d0 48 alpha disk.img\nslice c0t0d0s0 0 16\nslice c0t0d0s7 16 32 db\n";
 
 const DOWN: &str = "refused E13 WrongState Down";
-
-// A line and its reply, both without the last newline.
-type Row = (&'static str, &'static str);
-
-// These lines, each with its newline.
-fn script_of(alloc: Global, rows: &[Row]) -> Result<String, AllocError> {
-    let mut script = String::new(alloc);
-    for (line, _) in rows {
-        script.push_str(line)?;
-        script.push('\n')?;
-    }
-    Ok(script)
-}
-
-fn replies_of(alloc: Global, rows: &[Row]) -> Result<String, AllocError> {
-    let mut told = String::new(alloc);
-    for (_, reply) in rows {
-        told.push_str(reply)?;
-        told.push('\n')?;
-    }
-    Ok(told)
-}
-
-fn status_of(rows: &[Row]) -> RunStatus {
-    for (_, reply) in rows {
-        if reply.as_bytes().starts_with(b"refused") {
-            return RunStatus::SomeRefused;
-        }
-    }
-    RunStatus::Done
-}
-
-// A script of these lines on a blank drive of so many blocks, where the calls of these numbers fail.
-struct Lines {
-    table: &'static str,
-    blocks: u64,
-    failing: &'static [u64],
-    rows: &'static [Row],
-}
-
-fn drive_of(alloc: Global, lines: &Lines) -> Result<MemShelf, AllocError> {
-    let mut shelf = MemShelf::new(alloc, &[lines.blocks])?;
-    for number in lines.failing {
-        shelf.fail_call(*number)?;
-    }
-    Ok(shelf)
-}
-
-fn are_answered(alloc: Global, lines: &Lines) -> Result<bool, AllocError> {
-    let mut shelf = drive_of(alloc, lines)?;
-    let script = script_of(alloc, lines.rows)?;
-    let told = replies_of(alloc, lines.rows)?;
-    let end = (status_of(lines.rows), told.as_str());
-    ends_so(alloc, lines.table, &mut shelf, script.as_str(), end)
-}
 
 // Each refusal of a creation in its place: E6, E12, then E7 where a database is open, else E13, E3 and E10.
 const CREATIONS: &[Row] = &[
@@ -245,6 +178,54 @@ const CONCATENATIONS: &[Row] = &[
     ),
 ];
 
+// Each refusal of a row more in its place: E2, E4, E6, E12, E25, E7, E10. The blocks that were there stay, those of the row come behind them, behind
+// a boot too.
+const ROWS: &[Row] = &[
+    ("metattach d0 c0t1d0s0 -i 15b", "refused E2 NoDatabase"),
+    ("metadb -a -f c0t0d0s7", "ok"),
+    (
+        "metattach d0 c0t1d0s0 c0t0d0s7 -i 15b",
+        "refused E4 NoSuchVolume",
+    ),
+    ("metainit d0 1 1 c0t0d0s0", "ok"),
+    ("write d0 999 ab", "ok"),
+    (
+        "metattach d0 c0t1d0s0 c0t0d0s7 -i 15b",
+        "refused E6 NoSuchSlice",
+    ),
+    (
+        "metattach d0 c0t0d0s7 c0t0d0s0 -i 15b",
+        "refused E12 WrongKind",
+    ),
+    (
+        "metattach -i 15b d0 c0t0d0s1 c0t0d0s0",
+        "refused E25 BadInterlace",
+    ),
+    ("metattach d0 c0t0d0s0", "refused E7 SliceInUse"),
+    ("metattach d0 c0t0d0s4", "refused E7 SliceInUse"),
+    (
+        "metattach d0 c0t0d0s1 c0t0d0s1 -i 1000b",
+        "refused E7 SliceInUse",
+    ),
+    (
+        "metattach d0 c0t0d0s1 c0t0d0s3 -i 1000b",
+        "refused E10 TooSmall",
+    ),
+    ("read d0 1000 1", "refused E22 OutOfRange"),
+    ("metattach d0 c0t0d0s1", "ok"),
+    ("read d0 999 2", "999 ab\n1000 -\nok"),
+    ("write d0 1989 cd", "ok"),
+    ("read d0 1989 1", "1989 cd\nok"),
+    ("read d0 1989 2", "refused E22 OutOfRange"),
+    ("metainit d1 1 1 c0t0d0s1", "refused E7 SliceInUse"),
+    ("boot", "ok"),
+    ("read d0 999 2", "999 ab\n1000 -\nok"),
+    ("metattach d0 c0t0d0s3", "ok"),
+    ("write d0 1990 ef", "ok"),
+    ("read d0 1989 2", "1989 cd\n1990 ef\nok"),
+    ("metastat -p", "d0 3 1 c0t0d0s0 1 c0t0d0s1 1 c0t0d0s3\nok"),
+];
+
 // Each refusal of a fill in its place: E1, E2, E4, E9, E22. Each block of it is written, and none beside.
 const FILLS: &[Row] = &[
     ("fill d0 0 0 ab", "refused E1 BadLine"),
@@ -313,7 +294,9 @@ const BAD: &[Row] = &[
     ("metadb", "refused E1 BadLine"),
     ("boot now", "refused E1 BadLine"),
     ("metadb -a c0t0d0s8", "refused E1 BadLine"),
-    ("metaclear d0", "refused E1 BadLine"),
+    ("metaclear", "refused E1 BadLine"),
+    ("metaclear -a d0", "refused E1 BadLine"),
+    ("metaclear -s blue d0", "refused E1 BadLine"),
     ("metainit d8192 1 1 c0t0d0s0", "refused E1 BadLine"),
     ("metainit d0 1 2 c0t0d0s0", "refused E1 BadLine"),
     ("read d0 0 0", "refused E1 BadLine"),
@@ -427,6 +410,12 @@ const ON_BLOCKS: &[Lines] = &[
         table: WIDE,
         blocks: WIDE_BLOCKS,
         failing: &[],
+        rows: ROWS,
+    },
+    Lines {
+        table: WIDE,
+        blocks: WIDE_BLOCKS,
+        failing: &[],
         rows: FILLS,
     },
     Lines {
@@ -468,16 +457,6 @@ const ON_BLOCKS: &[Lines] = &[
         rows: READ_AGAIN,
     },
 ];
-
-// The rows of the first of them that isn't answered so.
-fn first_wrong(alloc: Global, each: &[Lines]) -> Result<Option<&'static [Row]>, Fail> {
-    for lines in each {
-        if !are_answered(alloc, lines)? {
-            return Ok(Some(lines.rows));
-        }
-    }
-    Ok(None)
-}
 
 #[test]
 fn answers_lines_on_databases(rt: HostRuntime) -> Result<(), Fail> {

@@ -8,7 +8,7 @@ use crate::ground::Ground;
 use crate::script::Line;
 use crate::spots::{Spots, Value};
 use crate::trouble::Trouble;
-use crate::writes::{Broken, adopted, changed, made, newest, volume_in};
+use crate::writes::{Broken, adopted, changed, cleared, made, newest, volume_in};
 use crate::{Shown, ShownVolume};
 use mdv_base::Identity;
 use mdv_run_law::RunStatus;
@@ -201,6 +201,7 @@ impl Course {
         match (self.standing, line) {
             (_, Line::Boot) => self.boot_line(),
             (Standing::InUse, Line::Volume(number)) => self.change(number),
+            (Standing::InUse, Line::Clear(number)) => self.clear(number),
             (Standing::InUse, Line::Write(number, at, value)) => self.write(number, at, value),
             (Standing::InUse, Line::Read(number, at)) => self.read(number, at),
             _ => self.refuse("refused E2 NoDatabase\n"),
@@ -288,6 +289,23 @@ impl Course {
             if let Some(promised) = self.known.promised.volumes.get_mut(usize::from(number)) {
                 *promised = true;
             }
+        }
+        Ok(())
+    }
+
+    // A volume that was to go is promised no more.
+    fn clear(&mut self, number: u8) -> Result<(), AllocError> {
+        let Some(shown) = self.known.shown else {
+            return Ok(());
+        };
+        if self.volume(number).is_none() {
+            return self.refuse("refused E4 NoSuchVolume\n");
+        }
+        if let Some(promised) = self.known.promised.volumes.get_mut(usize::from(number)) {
+            *promised = false;
+        }
+        if self.write_table(6, cleared(&shown, u16::from(number))) {
+            self.tell(OK)?;
         }
         Ok(())
     }

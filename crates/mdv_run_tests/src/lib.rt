@@ -9,6 +9,8 @@ mod bench;
 #[cfg(test)]
 mod blocks;
 #[cfg(test)]
+mod clear_tests;
+#[cfg(test)]
 mod course;
 #[cfg(test)]
 mod drives_tests;
@@ -20,6 +22,8 @@ mod hosts_tests;
 mod life;
 #[cfg(test)]
 mod life_tests;
+#[cfg(test)]
+mod lines;
 #[cfg(test)]
 mod moves_tests;
 #[cfg(test)]

@@ -26,10 +26,11 @@ fn drawn_creation(state: u64) -> Line {
 fn drawn_line(state: u64) -> Line {
     let volume = ((state >> 48) % 3) as u8;
     let at = (state >> 52) % 9;
-    match (state >> 33) % 20 {
+    match (state >> 33) % 22 {
         0..=2 => drawn_creation(state),
         18 => Line::Elsewhere,
         19 => Line::Volume(volume),
+        20 => Line::Clear(volume),
         3..=5 => Line::Boot,
         6 | 7 => Line::Volume(volume),
         8..=11 => Line::Read(volume, at),

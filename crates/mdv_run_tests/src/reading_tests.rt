@@ -67,21 +67,22 @@ const MARK: Mark = Mark {
     count: 3,
 };
 
-const D0: ShownVolume = ShownVolume {
+// The least number that a volume may have, number 5, and the greatest one.
+const LEAST: ShownVolume = ShownVolume {
     number: 0,
     target: 0,
     slice: 3,
     blocks: 4000,
 };
 
-const D5: ShownVolume = ShownVolume {
+const FIFTH: ShownVolume = ShownVolume {
     number: 5,
     target: 0,
     slice: 0,
     blocks: 8,
 };
 
-const D8191: ShownVolume = ShownVolume {
+const GREATEST: ShownVolume = ShownVolume {
     number: 8191,
     target: 2,
     slice: 1,
@@ -90,11 +91,11 @@ const D8191: ShownVolume = ShownVolume {
 
 const EMPTY: &[ShownVolume] = &[];
 
-const WITH_ONE: &[ShownVolume] = &[D0];
+const WITH_ONE: &[ShownVolume] = &[LEAST];
 
-const WITH_TWO: &[ShownVolume] = &[D5, D8191];
+const WITH_TWO: &[ShownVolume] = &[FIFTH, GREATEST];
 
-const WITH_THREE: &[ShownVolume] = &[D0, D5, D8191];
+const WITH_THREE: &[ShownVolume] = &[LEAST, FIFTH, GREATEST];
 
 // The table of these volumes.
 fn table_of(volumes: &[ShownVolume]) -> ShownTable {

@@ -18,6 +18,7 @@ pub enum Request {
     /// `metadb -d`, likewise.
     Drop(Drives, bool),
     Volume(u8),
+    Clear(u8),
     Write(u8, Value),
     Read(u8),
     Print,
@@ -118,6 +119,9 @@ impl Request {
             }
             Request::Volume(n) => {
                 script.push_str(format!(in alloc; "metainit d{n} 1 1 c0t{n}d0s0\n")?.as_str())
+            }
+            Request::Clear(n) => {
+                script.push_str(format!(in alloc; "metaclear d{n}\n")?.as_str())
             }
             Request::Write(n, value) => {
                 let hex = value.written();
@@ -235,6 +239,7 @@ impl Roster {
             Request::Add(drives, force) => self.add(drives, force),
             Request::Drop(drives, force) => self.drop_from(drives, force),
             Request::Volume(n) => self.volume(n),
+            Request::Clear(n) => self.clear(n),
             Request::Write(n, value) => self.write(n, value),
             Request::Probe(n) => self.probe(n),
             Request::Read(n) => return self.read(alloc, n, told),
@@ -320,6 +325,20 @@ impl Roster {
             Some(open) => {
                 self.put(Table {
                     volumes: open.volumes | only(volume),
+                    ..open
+                });
+                OK
+            }
+        }
+    }
+
+    fn clear(&mut self, volume: u8) -> &'static str {
+        match self.open {
+            None => NO_DATABASE,
+            Some(open) if !has(open.volumes, volume) => NO_VOLUME,
+            Some(open) => {
+                self.put(Table {
+                    volumes: open.volumes & !only(volume),
                     ..open
                 });
                 OK

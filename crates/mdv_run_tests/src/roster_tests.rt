@@ -192,7 +192,7 @@ fn drawn_request(state: u64, away: Drives) -> Request {
     let drive = ((state >> 40) % 3) as u8;
     let drives = (((state >> 44) % 7) as u8).saturating_add(1);
     let force = (state >> 50) % 3 != 0;
-    match (state >> 33) % 16 {
+    match (state >> 33) % 17 {
         0..=2 if drives & away != 0 => Request::Add(drives & away, force),
         0..=2 => Request::Add(drives, force),
         3..=5 => Request::Drop(drives, force),
@@ -203,6 +203,7 @@ fn drawn_request(state: u64, away: Drives) -> Request {
         11 => Request::Write(drive, Value::Cd),
         12 | 13 => Request::Read(drive),
         14 => Request::Print,
+        15 => Request::Clear(drive),
         _ => Request::Boot,
     }
 }

@@ -16,6 +16,8 @@ pub enum Line {
     Boot,
     /// The volume of that number, 0 to 2, on the slice of that number.
     Volume(u8),
+    /// The volume of that number goes.
+    Clear(u8),
     /// A write of a block of the volume.
     Write(u8, u64, Value),
     /// A read of one.
@@ -51,6 +53,7 @@ impl Line {
                     "metainit d{n} 1 1 c0t{target}d0s{n}\n"
                 )?.as_str())
             }
+            Line::Clear(n) => script.push_str(format!(in alloc; "metaclear d{n}\n")?.as_str()),
             Line::Write(n, at, value) => {
                 let hex = value.written();
                 script.push_str(format!(in alloc; "write d{n} {at} {hex}\n")?.as_str())

@@ -213,6 +213,11 @@ impl Stripe {
     fn push_words(&self, alloc: Global, line: &mut String) -> Result<(), AllocError> {
         let width = self.parts.len();
         line.push_str(format!(in alloc; " {width}")?.as_str())?;
+        self.push_slices(alloc, line)
+    }
+
+    // Its slices, and its interlace.
+    fn push_slices(&self, alloc: Global, line: &mut String) -> Result<(), AllocError> {
         for Part(drive, slice, _, _) in self.parts.as_slice() {
             line.push_str(format!(in alloc; " c0t{drive}d0s{slice}")?.as_str())?;
         }
@@ -232,6 +237,14 @@ pub(crate) fn making(alloc: Global, stripes: &[Stripe]) -> Result<String, AllocE
     Ok(line)
 }
 
+/// The line that adds this one to d0.
+pub(crate) fn attaching(alloc: Global, stripe: &Stripe) -> Result<String, AllocError> {
+    let mut line = String::from_str(alloc, "metattach d0")?;
+    stripe.push_slices(alloc, &mut line)?;
+    line.push('\n')?;
+    Ok(line)
+}
+
 impl Volume {
     /// That of these stripes, one behind another.
     pub(crate) fn of(alloc: Global, stripes: &[Stripe]) -> Result<Volume, AllocError> {
@@ -241,6 +254,15 @@ impl Volume {
         }
         let values = vec![in alloc; Value::First; places.len()]?;
         Ok(Volume { places, values })
+    }
+
+    /// The same on these stripes, of which it has the first ones: each block more holds what it held at first.
+    pub(crate) fn longer(&self, alloc: Global, stripes: &[Stripe]) -> Result<Volume, AllocError> {
+        let mut longer = Volume::of(alloc, stripes)?;
+        for (slot, value) in longer.values.iter_mut().zip(self.values.iter()) {
+            *slot = *value;
+        }
+        Ok(longer)
     }
 
     pub(crate) fn blocks(&self) -> u64 {

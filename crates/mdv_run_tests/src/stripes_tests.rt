@@ -1,7 +1,7 @@
 // Volumes of several stripes on five drives, beside the plain program of `stripes`.
 use crate::life::{drawn, next};
 use crate::story::Story;
-use crate::stripes::{DRIVES, Stripe, Value, Volume, Writing, making};
+use crate::stripes::{DRIVES, Stripe, Value, Volume, Writing, attaching, making};
 use mdv_run_law::RunStatus;
 use std::alloc::{AllocError, Global};
 use std::process::Abort;
@@ -167,6 +167,189 @@ fn a_drive_is_lost_at_each_call_of_a_fill(rt: HostRuntime) -> Result<(), Fail> {
         }
         assert!(rt; is_told, "{drive}");
     }
+    Ok(())
+}
+
+// Blocks of the first stripe of two, which are written before the second one is added.
+const FRONT: Writing = Writing {
+    at: 12,
+    count: 40,
+    value: Value::All(0xb7),
+};
+
+// A run adds the second stripe, and is stopped behind so many calls, and then crashes: whether the line was told `ok`, and whether the volume
+// is read with both stripes, or, where it wasn't told, with the first one alone.
+fn attach(alloc: Global, calls: u64, choice: &[u32]) -> Result<(bool, bool), Fail> {
+    let stripes = stripes_of(alloc)?;
+    let first = stripes.get(..1).ok_or("no stripe")?;
+    let second = stripes.get(1).ok_or("no stripe")?;
+    let (mut story, mut volume) = begun(alloc, first, None)?.ok_or("no volume")?;
+    volume.longer(alloc, &stripes)?.lay(&mut story)?;
+    story.run("alpha", FRONT.line(alloc)?.as_str())?;
+    story.news()?;
+    volume.write(&FRONT);
+    story.shelf.stop_after(calls);
+    story.run("alpha", attaching(alloc, second)?.as_str())?;
+    let whole = story.news()?.as_str() == "ok\n";
+    story.shelf.crash(choice);
+    let mut longer = volume.longer(alloc, &stripes)?;
+    let is_long = reads_all(alloc, &mut story, &longer)?;
+    let kept = is_long || (!whole && reads_all(alloc, &mut story, &volume)?);
+    Ok((
+        whole,
+        kept && longer.first_wrong(&mut story, None)?.is_none(),
+    ))
+}
+
+#[test]
+fn a_metattach_is_stopped_at_each_call(rt: HostRuntime) -> Result<(), Fail> {
+    for calls in 0..201 {
+        let mut is_told = true;
+        for choice in CHOICES {
+            let (whole, kept) = attach(rt.alloc(), calls, choice)?;
+            assert!(rt; kept, "{calls} {choice:?}");
+            is_told = is_told && whole;
+        }
+        if is_told {
+            return Ok(());
+        }
+    }
+    Err(Fail::from("a line that isn't answered"))
+}
+
+// The volume of both stripes, as it is printed, and where it is gone.
+const THERE: &str = "d0 2 2 c0t0d0s0 c0t1d0s0 -i 16b 1 c0t3d0s0\nok\n";
+
+const GONE: &str = "ok\n";
+
+// Whether a run with these drives away finds the volume gone; none where it finds something else.
+fn finds_gone(story: &mut Story, away: &[u32]) -> Result<Option<bool>, Fail> {
+    story.lose(away)?;
+    story.run("alpha", "metastat -p\n")?;
+    let told = story.news()?;
+    story.bring_back(away)?;
+    Ok(if told.as_str() == GONE {
+        Some(true)
+    } else if told.as_str() == THERE {
+        Some(false)
+    } else {
+        None
+    })
+}
+
+// The volume of both stripes, with blocks that were written.
+fn written(alloc: Global) -> Result<(Story, Volume), Fail> {
+    let stripes = stripes_of(alloc)?;
+    let (mut story, mut volume) = begun(alloc, &stripes, None)?.ok_or("no volume")?;
+    story.run("alpha", FRONT.line(alloc)?.as_str())?;
+    story.news()?;
+    volume.write(&FRONT);
+    Ok((story, volume))
+}
+
+// Whether a run with these drives away finds the volume gone, or, where that wasn't told, there and as it was, and the next one too, with all drives;
+// and no block is touched.
+fn is_gone_or_as_it_was(
+    alloc: Global,
+    story: &mut Story,
+    volume: &mut Volume,
+    is_told: bool,
+    away: &[u32],
+) -> Result<bool, Fail> {
+    let found = finds_gone(story, away)?;
+    let is_so = match found {
+        Some(true) => true,
+        Some(false) => !is_told && reads_all(alloc, story, volume)?,
+        None => false,
+    };
+    let is_settled = finds_gone(story, &[])? == found;
+    Ok(is_so && is_settled && volume.first_wrong(story, None)?.is_none())
+}
+
+// A run clears the volume, and is stopped behind so many calls, and then crashes: whether the line was told `ok`, and whether runs behind that, of
+// which the first has these drives away, find what they may.
+fn clear(alloc: Global, calls: u64, choice: &[u32], away: &[u32]) -> Result<(bool, bool), Fail> {
+    let (mut story, mut volume) = written(alloc)?;
+    story.shelf.stop_after(calls);
+    story.run("alpha", "metaclear d0\n")?;
+    let whole = story.news()?.as_str() == "ok\n";
+    story.shelf.crash(choice);
+    let kept = is_gone_or_as_it_was(alloc, &mut story, &mut volume, whole, away)?;
+    Ok((whole, kept))
+}
+
+// The drives that are away behind the crash: none, or one with a replica.
+const AWAY: &[&[u32]] = &[&[], &[0], &[1], &[2]];
+
+#[test]
+fn a_metaclear_is_stopped_at_each_call(rt: HostRuntime) -> Result<(), Fail> {
+    for calls in 0..201 {
+        let mut is_told = true;
+        for choice in CHOICES {
+            for away in AWAY {
+                let (whole, kept) = clear(rt.alloc(), calls, choice, away)?;
+                assert!(rt; kept, "{calls} {choice:?} {away:?}");
+                is_told = is_told && whole;
+            }
+        }
+        if is_told {
+            return Ok(());
+        }
+    }
+    Err(Fail::from("a line that isn't answered"))
+}
+
+// Three drives, of which one has two slices for volumes.
+const LONG: (&str, &[u64]) = (
+    "host alpha
+drive c0t0d0 2038 alpha d0.img
+drive c0t1d0 1000 alpha d1.img
+drive c0t2d0 1000 alpha d2.img
+slice c0t0d0s0 0 1000
+slice c0t0d0s1 1000 990
+slice c0t0d0s7 1990 48 db
+slice c0t1d0s1 5 990
+slice c0t2d0s0 0 1000
+",
+    &[2038, 1000, 1000],
+);
+
+// A slice and a stripe behind it: 1000 blocks and 61 units of each of its slices. Block 1016 is the first one of c0t1d0s1.
+const LONGER: &str = "metadb -a -f -l 16 c0t0d0s7
+metainit d1 2 1 c0t0d0s0 2 c0t0d0s1 c0t1d0s1 -i 16b
+write d1 1016 ab
+read d1 2951 1
+read d1 2952 1
+metattach d1 c0t2d0s0
+metastat -p d1
+read d1 3951 1
+read d1 3952 1
+read d1 1016 1
+";
+
+const LONGER_TOLD: &str = "ok
+ok
+ok
+2951 -
+ok
+refused E22 OutOfRange
+ok
+d1 3 1 c0t0d0s0 2 c0t0d0s1 c0t1d0s1 -i 16b 1 c0t2d0s0
+ok
+3951 -
+ok
+refused E22 OutOfRange
+1016 ab
+ok
+";
+
+#[test]
+fn a_volume_gets_longer(rt: HostRuntime) -> Result<(), Fail> {
+    let mut story = Story::new(rt.alloc(), LONG.0, LONG.1)?;
+    story.run("alpha", LONGER)?;
+    let told = story.news()?;
+    assert!(rt; told.as_str() == LONGER_TOLD, "{told:?}");
+    assert!(rt; story.has_block(1, 5, &[0xab])?);
     Ok(())
 }
 

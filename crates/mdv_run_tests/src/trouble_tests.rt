@@ -117,7 +117,13 @@ const SHORT_CREATIONS: &[Line] = &[
 
 const SHORT_MADE: &[Line] = &[Line::Short(17), Line::Volume(0)];
 
-const SHORT_CHANGES: &[Line] = &[Line::Volume(1), Line::Boot, Line::Volume(2), Line::Forced];
+const SHORT_CHANGES: &[Line] = &[
+    Line::Volume(1),
+    Line::Clear(0),
+    Line::Boot,
+    Line::Volume(2),
+    Line::Forced,
+];
 
 fn expect_in_narrow<R: Abort + AllocGlobal>(
     rt: &R,
@@ -139,7 +145,7 @@ fn expect_in_narrow<R: Abort + AllocGlobal>(
 #[test]
 fn of_short_replicas(rt: HostRuntime) -> Result<(), Fail> {
     expect_in_narrow(&rt, &[], SHORT_CREATIONS, 32, &[Line::Short(24)])?;
-    expect_in_narrow(&rt, &[SHORT_MADE], SHORT_CHANGES, 42, &[Line::Short(24)])
+    expect_in_narrow(&rt, &[SHORT_MADE], SHORT_CHANGES, 49, &[Line::Short(24)])
 }
 
 const MADE: &[Line] = &[Line::Forced, Line::Volume(0)];

@@ -64,14 +64,26 @@ pub(crate) fn adopted(before: &Shown) -> Shown {
 
 /// What a change leaves: the newest table with one volume more, under the next count.
 pub(crate) fn changed(before: &Shown, volume: ShownVolume) -> Shown {
-    let Some(table) = newest(before) else {
-        return *before;
-    };
+    match newest(before) {
+        Some(table) => with_next(before, &table, with_volume(table.volumes, volume)),
+        None => *before,
+    }
+}
+
+/// What the clearing of a volume that is there leaves: the newest table without it, likewise.
+pub(crate) fn cleared(before: &Shown, number: u16) -> Shown {
+    match newest(before) {
+        Some(table) => with_next(before, &table, without_volume(table.volumes, number)),
+        None => *before,
+    }
+}
+
+// These volumes, under the count behind that of the newest table.
+fn with_next(before: &Shown, table: &ShownTable, volumes: [Option<ShownVolume>; 3]) -> Shown {
     let mark = Mark {
         count: table.mark.count.saturating_add(1),
         ..table.mark
     };
-    let volumes = with_volume(table.volumes, volume);
     with_spare(before, Some(ShownTable { mark, volumes }))
 }
 
@@ -84,6 +96,25 @@ fn with_volume(volumes: [Option<ShownVolume>; 3], volume: ShownVolume) -> [Optio
         [first, Some(volume), second]
     } else {
         [first, second, Some(volume)]
+    }
+}
+
+// The others, of which there are two at most.
+fn without_volume(volumes: [Option<ShownVolume>; 3], number: u16) -> [Option<ShownVolume>; 3] {
+    let [first, second, third] = volumes;
+    if has_number(first, number) {
+        [second, third, None]
+    } else if has_number(second, number) {
+        [first, third, None]
+    } else {
+        [first, second, None]
+    }
+}
+
+fn has_number(volume: Option<ShownVolume>, number: u16) -> bool {
+    match volume {
+        Some(volume) => volume.number == number,
+        None => false,
     }
 }
 

@@ -5,7 +5,7 @@ pub use Rattle.mdv_base.specs.declared.mark.Identity.{Identity}
 pub use Rattle.mdv_base.specs.declared.mark.Mark.{Mark}
 pub use Rattle.mdv_base.specs.declared.place.Place.{Place}
 pub use Rattle.mdv_change.specs.Change.{table_after as plan_changed}
-pub use Rattle.mdv_change.specs.declared.change.Change.TheVariants.{MakeStripe}
+pub use Rattle.mdv_change.specs.declared.change.Change.TheVariants.{AddRow, Clear, ClearAll, ClearBelow, MakeStripe}
 pub use Rattle.mdv_change.specs.declared.change.Change.{Change as PlanChange}
 pub use Rattle.mdv_config.specs.Lists.{last_of, settled}
 pub use Rattle.mdv_keeping.specs.Keeping.{IsStepOf}

@@ -1,7 +1,7 @@
 -- What a line may ask of a database's table: of its volumes, or of the places of its replicas; and the table that comes of it.
 use Rattle.std.specs.Prelude.{◌≡◌, ◌+◌, ◌*◌, ℕ, zero, suc, Bool, not, List, [], ◌∷◌, ◌++◌, filter, flat_map, take}
 use Rattle.std.specs.List.{list_any}
-use Rattle.mdv_store_law.specs.Below.{Geometry, IsStepOf, Lists, MakeStripe, Place, PlanChange, SliceName, Table, Two, last_of, plan_changed, same_slice}
+use Rattle.mdv_store_law.specs.Below.{AddRow, Clear, ClearAll, ClearBelow, Geometry, IsStepOf, Lists, MakeStripe, Place, PlanChange, SliceName, Table, Two, last_of, plan_changed, same_slice}
 
 pub data Change : Type 0 where
   OfPlan : PlanChange → Change
@@ -59,9 +59,13 @@ pub record HasAdded (old new : Table) : Type 0 where
   pub blocks : ℕ
   pub is : new ≡ moved (AddPlaces slices count blocks) old
 
--- what a line may ask of volumes yet: that one is made
+-- what a line may ask of volumes yet: that one is made, or has a row more, or that some go
 abbrev pub IsAsked : PlanChange → Type 0
 IsAsked (MakeStripe volume rows pool) = Unit {0}
+IsAsked (AddRow volume row) = Unit {0}
+IsAsked (Clear volumes pools) = Unit {0}
+IsAsked (ClearBelow volumes pools) = Unit {0}
+IsAsked ClearAll = Unit {0}
 IsAsked other = ⊥
 
 -- The change makes the one table of the other. One of volumes only where a line may ask it, and nothing refuses it; what a list of places must be is said of tables of a geometry.

@@ -34,13 +34,13 @@ use Rattle.mdv_volumes.specs.HistoryLaws.{KeepDatabase, new_history}
 use Rattle.mdv_volumes.proofs.Found.{AreLasting}
 use Rattle.mdv_volumes.proofs.Lists.{contains_first}
 use Rattle.mdv_theorem.specs.Exchanges.{Asks, Exchange, IsGranted, IsTold, MayHaveBegun, ShowsThere}
-use Rattle.mdv_theorem.specs.Words.{HasDatabase, IsMadeBy, IsMadeOn, IsThere, MayTakeDatabase, NeedsDatabase, spread}
+use Rattle.mdv_theorem.specs.Words.{HasDatabase, IsMadeBy, IsMadeOn, IsThere, MayTakeAway, MayTakeDatabase, NeedsDatabase, spread}
 use Rattle.mdv_theorem.proofs.Agreeing.{own_sound}
 use Rattle.mdv_theorem.proofs.Along.{line_lies, open_lies}
 use Rattle.mdv_theorem.proofs.Creating.{made_there}
-use Rattle.mdv_theorem.proofs.Ends.{taken_away}
+use Rattle.mdv_theorem.proofs.Ends.{begun_stays, none_stays, taken_away}
 use Rattle.mdv_theorem.proofs.Having.{HasCome, come_none, come_quiet}
-use Rattle.mdv_theorem.proofs.Leading.{IsIdled, IsLed, lasting_over}
+use Rattle.mdv_theorem.proofs.Leading.{IsIdled, IsLed, lasting_led, lasting_over}
 use Rattle.mdv_theorem.proofs.Lined.{AreInWork, AreOfReply, AreQuiet, AreReplied, alone, idle_quiet, line_replied, lined_lives}
 use Rattle.mdv_theorem.proofs.Lines.{MayBegin, begins_asked, the_only}
 use Rattle.mdv_theorem.proofs.Moves.{untold_lies}
@@ -49,7 +49,7 @@ use Rattle.mdv_theorem.proofs.Parting.{Parts, in_first, in_second, parts}
 use Rattle.mdv_theorem.proofs.Staying.{HasIt, has_carried}
 use Rattle.mdv_theorem.proofs.Steps.{Between, EachSo, Steps, no_step, one_step, skipped}
 use Rattle.mdv_theorem.proofs.Tabled.{come_line, come_work}
-use Rattle.mdv_theorem.proofs.Tables.{IsCarried, Keeps, keeps_line, keeps_open, shown_there}
+use Rattle.mdv_theorem.proofs.Tables.{Keeps, keeps_line, keeps_open, shown_there}
 use Rattle.mdv_theorem.proofs.Tells.{granted_open}
 use Rattle.mdv_theorem.proofs.Refused.{AreRefused, IsClosed}
 
@@ -79,9 +79,6 @@ ClosedAt lines kept = IsClosed lines kept.memory
 -- any table
 abbrev pub Any : Table → Type 0
 Any table = Unit {0}
-
-pub any_carried : (g : Geometry) → IsCarried g Any
-any_carried g asked old new made is = tt
 
 -- what none of the lines behind may have done the last one may not, nor those before it
 module _ {Does : Exchange → Type 0} (one : Exchange) (behind rest : List Exchange) (is : behind ≡ rest ++ one ∷ []) (stays : (other : Exchange) → Contains behind other → Does other → ⊥) where
@@ -125,7 +122,7 @@ module _ (drives : Geometry) (name : List ℕ) where
     -- and all of it
     pub accords_quiet : (lines : List Exchange) (h : History) (es : List Event) → machine.IsCourse history_after (Happening host) h es → AreQuiet es → Accords lines h → Accords lines (history_after_all h es)
     accords_quiet lines h es course quiet old = record {
-      there = λ volume is. lasting_over host (λ deed. ⊥) (HasIt host.drives volume) (λ asked a b may made has. has_carried host.drives volume asked a b made has) (λ none. none) h es course quiet (old.there volume is);
+      there = λ volume is. lasting_over host (λ deed. ⊥) (HasIt host.drives volume) (λ asked a b may made has. has_carried host.drives volume asked a b (none_stays host volume asked may) made has) (λ none. none) h es course quiet (old.there volume is);
       tables = come_quiet drives name (empty_table []) lines h es course quiet old.tables;
       firm = λ is. lasting_over host (λ deed. ⊥) Any (λ asked a b may made has. tt) (λ none. none) h es course quiet (old.firm is);
       lists = λ is. lists_quiet (spread is.count is.slices) is.behind h es course quiet (old.lists is);
@@ -154,8 +151,10 @@ module _ (drives : Geometry) (name : List ℕ) where
       begins : (deed : Deed) → Contains (issued_by es) deed → MayBegin (Local name) deed one
       begins deed has = begins_asked host one are.ask are.asks begun deed (part_contains (issued_by es) (deeds are.ask) deed are.begins has)
 
-      kept_work : (P : Table → Type 0) → IsCarried host.drives P → (MayTakeDatabase one → ⊥) → AreLasting host.drives P (own_log h) → AreLasting host.drives P (own_log (history_after_all h es))
-      kept_work P carried never was = lasting_over host (λ deed. MayBegin (Local name) deed one) P (λ asked a b may made has. carried asked a b made has) never h es course begins was
+      it_works : (volume : VolId) → (MayTakeAway volume one → ⊥) → AreLasting host.drives (HasIt host.drives volume) (own_log h) → AreLasting host.drives (HasIt host.drives volume) (own_log (history_after_all h es))
+      it_works volume never was =
+          lasting_over host (λ deed. MayBegin (Local name) deed one) (HasIt host.drives volume) (λ asked a b may made has. has_carried host.drives volume asked a b (begun_stays host volume one never asked may) made has)
+          (λ takes. never (taken_away volume one takes)) h es course begins was
 
       lists_work : (slices : List SliceName) (behind : List Exchange) → (MayTakeDatabase one → ⊥) → ListsLie drives name slices behind h → ListsLie drives name slices (behind ++ one ∷ []) (history_after_all h es)
       lists_work slices behind never lie =
@@ -167,7 +166,7 @@ module _ (drives : Geometry) (name : List ℕ) where
         | inl last ↦ absurd (let shows = subst (ShowsThere volume) last.0 is.shows in ungranted shows.command shows.granted)
         | inr before ↦
             let was = old.there volume (record { shown = is.shown; before = is.before; behind = before.0; parts = before.1; shows = is.shows; stays = rest_stays one is.behind before.0 before.2 is.stays }) in
-            kept_work (HasIt host.drives volume) (has_carried host.drives volume) (λ takes. last_stays one is.behind before.0 before.2 is.stays (taken_away volume one takes)) was
+            it_works volume (last_stays one is.behind before.0 before.2 is.stays) was
       ]
 
       firm_work : HasDatabase (lines ++ one ∷ []) → AreLasting host.drives Any (own_log (history_after_all h es))
@@ -175,7 +174,7 @@ module _ (drives : Geometry) (name : List ℕ) where
         | inl last ↦ absurd (ungranted is.command (subst (λ (e : Exchange). IsGranted e is.command) last.0 is.granted))
         | inr before ↦
             let was = old.firm (record { shown = is.shown; command = is.command; before = is.before; behind = before.0; parts = before.1; asks = is.asks; needs = is.needs; granted = is.granted; stays = rest_stays one is.behind before.0 before.2 is.stays }) in
-            kept_work Any (any_carried host.drives) (last_stays one is.behind before.0 before.2 is.stays) was
+            lasting_over host (λ deed. MayBegin (Local name) deed one) Any (λ asked a b may made has. tt) (last_stays one is.behind before.0 before.2 is.stays) h es course begins was
       ]
 
       lists_there : (is : IsMadeOn (lines ++ one ∷ [])) → ListsLie drives name (spread is.count is.slices) is.behind (history_after_all h es)
@@ -215,7 +214,7 @@ module _ (drives : Geometry) (name : List ℕ) where
             keeps_open host (HasIt host.drives volume) mid there.o there.opened (_, there.lies)
         | inr before ↦
             let was = old.there volume (record { shown = is.shown; before = is.before; behind = before.0; parts = before.1; shows = is.shows; stays = rest_stays one is.behind before.0 before.2 is.stays }) in
-            keeps_line host (HasIt host.drives volume) (has_carried host.drives volume) one from mid led (λ takes. last_stays one is.behind before.0 before.2 is.stays (taken_away volume one takes)) was
+            keeps_line host volume (HasIt host.drives volume) (has_carried host.drives volume) one from mid led (last_stays one is.behind before.0 before.2 is.stays) was
       ]
 
       firm_line : HasDatabase so_far → Keeps host Any mid
@@ -225,7 +224,7 @@ module _ (drives : Geometry) (name : List ℕ) where
             keeps_open host Any mid shows.0 shows.1 tt
         | inr before ↦
             let was = old.firm (record { shown = is.shown; command = is.command; before = is.before; behind = before.0; parts = before.1; asks = is.asks; needs = is.needs; granted = is.granted; stays = rest_stays one is.behind before.0 before.2 is.stays }) in
-            keeps_line host Any (any_carried host.drives) one from mid led (last_stays one is.behind before.0 before.2 is.stays) was
+            lasting_led host Any one (λ asked a b may made has. tt) (last_stays one is.behind before.0 before.2 is.stays) from.sure.history mid.sure.history led was
       ]
 
       -- the line that made the database, as those before it that ask one were refused

@@ -15,8 +15,7 @@ use Rattle.mdv_home.proofs.Viewing.{view_is_own}
 use Rattle.mdv_home.specs.View.{own_view}
 use Rattle.mdv_name.specs.declared.geometry.Geometry.{Geometry}
 use Rattle.mdv_port.specs.Script.{Script}
-use Rattle.mdv_run_law.specs.Lives as life
-use Rattle.mdv_run_law.specs.Lives.{IsLife, Ran, host_of}
+use Rattle.mdv_run_law.specs.Lives.{Ran, host_of}
 use Rattle.mdv_run_law.specs.Told.{RunToldBy}
 use Rattle.mdv_shelf.specs.Area.{KeptOutside}
 use Rattle.mdv_shelf.specs.Story.{Story, tale_of}
@@ -26,7 +25,6 @@ use Rattle.mdv_status.specs.Telling.{replies_in}
 use Rattle.mdv_status.specs.Values.{significant, values_reply}
 use Rattle.mdv_shown.specs.Site.{site_area}
 use Rattle.mdv_config.specs.Slices.{IsSound}
-use Rattle.mdv_plan.specs.declared.table.Table.{Table}
 use Rattle.mdv_volumes.proofs.Lists.{first_or_behind}
 use Rattle.mdv_words.proofs.Lines.{one_line}
 use Rattle.mdv_words.specs.Line.{Exec}
@@ -35,27 +33,27 @@ use Rattle.mdv_layout_law.specs.Laid.{plain_area}
 use Rattle.mdv_theorem.specs.Exchanges.{Exchange, IsSameBlock, MayBeWritten, TellsBlock, exchanges, exchanges_by, exchanges_of}
 use Rattle.mdv_theorem.specs.Observed.{Bears, RunsAgree}
 use Rattle.mdv_theorem.specs.Running.{HasAnswered, HaveMetNone, Running, Runs, WentOn, exchanges_now, ran_on}
-use Rattle.mdv_theorem.specs.Words.{IsOrWasWritten, MayTakeDatabase, TakesDatabase}
+use Rattle.mdv_theorem.specs.Words.{IsOrWasWritten, MayTakeAway, TakesAway}
 use Rattle.mdv_theorem.proofs.Contents.{IsToldOf, told_block}
 use Rattle.mdv_theorem.proofs.Given.{Given}
-use Rattle.mdv_theorem.proofs.Later.{Lasts, LastsNow, lasts_between, lasts_runs, lines_since, take_before, take_behind}
+use Rattle.mdv_theorem.proofs.Later.{IsLasting, Lasts, LastsNow, lasts_between, lines_since}
 use Rattle.mdv_theorem.proofs.Leaving.{Leaves, Written, leaves_more, own}
-use Rattle.mdv_theorem.proofs.Place.{Spot, one_spot, spot_own, spot_plain}
-use Rattle.mdv_theorem.proofs.Tail.{rest_told, tail_leaves}
-use Rattle.mdv_theorem.proofs.Until.{AtRead, ThePlace, all_left, into, its, lie, place, spot}
+use Rattle.mdv_theorem.proofs.Place.{Spot, front_spot, spot_own, spot_plain}
+use Rattle.mdv_theorem.proofs.Tail.{tail_leaves}
+use Rattle.mdv_theorem.proofs.Until.{LeftAtRead, ThePlace, all_left, its, lie, place, spot}
 use Rattle.mdv_theorem.proofs.Agreeing.{taken_or}
 use Rattle.mdv_theorem.proofs.Clean.{its_start, none_met, start}
-use Rattle.mdv_theorem.proofs.Ends.{TakeDatabase}
+use Rattle.mdv_theorem.proofs.Ends.{TakeVolume, take_before, take_behind}
 use Rattle.mdv_theorem.proofs.Lines.{the_only}
-use Rattle.mdv_theorem.proofs.Opened.{known_point, known_there, lasts_there}
+use Rattle.mdv_theorem.proofs.Opened.{known_point, known_there, lasts_there, open_there}
 use Rattle.mdv_theorem.proofs.Over.{found_leaves, since_are}
 use Rattle.mdv_theorem.proofs.Reread.{Came, came, settled_there}
-use Rattle.mdv_theorem.proofs.Living.{lived_life}
 use Rattle.mdv_theorem.proofs.Settled.{IsSettledAt}
 use Rattle.mdv_theorem.proofs.Staying.{its_sound}
 use Rattle.mdv_theorem.proofs.Steps.{unreplied}
 use Rattle.mdv_theorem.proofs.Sure.{IsSureAt}
-use Rattle.mdv_theorem.proofs.Tables.{Grows}
+use Rattle.mdv_map.specs.Maps.{Map}
+use Rattle.mdv_volumes.specs.History.{history_after_all}
 
 -- a read writes no block
 never_written : (read : Exchange) (volume other : VolId) (number at : ℕ) (old new : List ℕ) (tells : TellsBlock volume at old read) → MayBeWritten other number new read → ⊥
@@ -64,16 +62,16 @@ never_written read volume other number at old new tells may =
     let same : Exec (Read volume tells.at (length tells.blocks)) ≡ Exec (Write other its.at its.what) = one_line read.text (Exec (Read volume tells.at (length tells.blocks))) (Exec (Write other its.at its.what)) tells.asks its.asks in
     cc same
 
--- nor does it take the database away
-read_keeps : (read : Exchange) (volume : VolId) (number : ℕ) (block : List ℕ) → TellsBlock volume number block read → MayTakeDatabase read → ⊥
+-- nor does it take the volume away
+read_keeps : (read : Exchange) (volume : VolId) (number : ℕ) (block : List ℕ) → TellsBlock volume number block read → MayTakeAway volume read → ⊥
 read_keeps read volume number block tells takes =
     let same : Exec takes.command ≡ Exec (Read volume tells.at (length tells.blocks)) = one_line read.text (Exec takes.command) (Exec (Read volume tells.at (length tells.blocks))) takes.asks tells.asks in
     let both : takes.command ≡ Read volume tells.at (length tells.blocks) = cc (same) in
-    subst TakesDatabase both takes.takes
+    subst (TakesAway volume) both takes.takes
 
-taken_behind : (read : Exchange) (volume : VolId) (number : ℕ) (block : List ℕ) → TellsBlock volume number block read → (rest : List Exchange) → TakeDatabase (read ∷ rest) → TakeDatabase rest
+taken_behind : (read : Exchange) (volume : VolId) (number : ℕ) (block : List ℕ) → TellsBlock volume number block read → (rest : List Exchange) → TakeVolume volume (read ∷ rest) → TakeVolume volume rest
 taken_behind read volume number block tells rest takes = elim (first_or_behind read takes.0 rest takes.1) [
-  | inl here ↦ absurd (read_keeps read volume number block tells (subst MayTakeDatabase (sym here) takes.2))
+  | inl here ↦ absurd (read_keeps read volume number block tells (subst (MayTakeAway volume) (sym here) takes.2))
   | inr behind ↦ (takes.0, behind, takes.2)
 ]
 
@@ -110,38 +108,42 @@ module _ (given : Given) (drives : Geometry) (name : List ℕ) (before : List Ra
   same_run : told_run ≡ its_run
   same_run = λ i. record { host = name; fresh = run.fresh; script = script; bytes = bytes_are i }
 
-  pub lasts_next : TakeDatabase behind ⊎ Lasts drives name then_told.o.table (its_run ∷ before) next
-  lasts_next = elim (lasts_there given drives name before script sound of_table run here rest behind read reply tells.told went.m went.tells.bytes at now then_told.o then_told.opened went.tells.is_told) [
+  -- where the block lay
+  abbrev pub old_spot : Spot (own drives name).drives then_told.o.table volume number
+  old_spot = then_told.spot
+
+  abbrev old_map : Map
+  old_map = old_spot.map
+
+  lasts_here : IsLasting drives name volume old_map (history_after_all (start run of_table) known.come.es)
+  lasts_here = open_there given drives name before script sound of_table run here rest behind read reply tells.told went.m went.tells.bytes at now then_told.o then_told.opened volume old_map old_spot.lies
+
+  pub lasts_next : TakeVolume volume behind ⊎ Lasts drives name volume old_map (its_run ∷ before) next
+  lasts_next = elim (lasts_there given drives name before script sound of_table run here rest behind read reply tells.told went.m went.tells.bytes at now volume old_map lasts_here went.tells.is_told) [
     | inl takes ↦ inl (taken_behind read volume number old tells behind takes)
-    | inr lasts ↦ inr (lasts_between drives name then_told.o.table its_run before went.m.tale next went.found (subst (λ (one : Ran). LastsNow drives name then_told.o.table one before went.m.tale) same_run lasts))
+    | inr lasts ↦ inr (lasts_between drives name volume old_map its_run before went.m.tale next went.found (subst (λ (one : Ran). LastsNow drives name volume old_map one before went.m.tale) same_run lasts))
   ]
 
-  pub life_on : IsLife drives run.made (its_run ∷ before) next
-  life_on =
-      let base = lived_life drives run.made before run.t.tale run.life in
-      record { sound = base.sound; life = life.run_on before name run.fresh run.t.tale went.m.tale next script base.life of_table went.stands went.found; fair = (run.new_word, base.fair); clean = (base.clean, went.clean) }
+  abbrev pub AreLeft : List Exchange → Tale → Tale → Type 0
+  AreLeft es t u = Leaves volume number old_spot.at.drive old_spot.at.block es t u
 
   -- the lines from there on leave what was there, or what they may have written
-  module _ (Away : Type 0) (final : Table) (spot : Spot (own drives name).drives final volume number) (into : (table : Table) → LastsNow drives name table its_run before went.m.tale → Away ⊎ Grows (own drives name).drives table final) (takes : TakeDatabase behind → Away) where
-    pub behind_left : Away ⊎ Leaves volume number spot.at.drive spot.at.block (read ∷ behind) (tale_of known.story) next
-    behind_left =
-        let into_here : (table : Table) → LastsNow drives name table told_run before went.m.tale → Away ⊎ Grows (own drives name).drives table final = λ table lasts. into table (subst (λ (one : Ran). LastsNow drives name table one before went.m.tale) same_run lasts) in
-        let taking : TakeDatabase (exchanges_of at.place.at.script (at.place.left ++ at.by.lines.rest)) → Away = λ taken. takes (taken_behind read volume number old tells behind (subst TakeDatabase at.place.asked taken)) in
-        elim (tail_leaves drives name run.fresh before script run.t.tale run.made (its_start run of_table) went.m (none_met run of_table went.m.tale went.clean) went.tells.bytes went.tells.is_told sound of_table given Away final volume number spot into_here
-        run.stretch (0 + length at.place.front) at.place.at at.by.lines.at at.place.left at.by.lines.rest at.place.more known at.by.lines.work at.by.lines.front
-        (rest_told host run.stretch run.start run.t.tale script went.tells.bytes went.m at.by went.tells.is_told run.moment.begins.0 run.moment.begins.1 run.moment.begins.2) taking) [
-          | inl away ↦ inl away
-          | inr left ↦
-              let drive = spot.at.drive in
-              let block = spot.at.block in
-              let these = subst (λ (l : List Exchange). Leaves volume number drive block l (tale_of known.story) went.m.tale) at.place.asked left in
-              let all = leaves_more volume number drive block (read ∷ behind) [] (tale_of known.story) went.m.tale next these (found_leaves volume number drive block went.m.tale next went.found) in
-              inr (subst (λ (l : List Exchange). Leaves volume number drive block l (tale_of known.story) next) (append-nil (read ∷ behind)) all)
-        ]
+  pub behind_left : TakeVolume volume behind ⊎ AreLeft (read ∷ behind) (tale_of known.story) next
+  behind_left =
+      elim (tail_leaves drives name run.fresh before script run.t.tale run.made (its_start run of_table) went.m (none_met run of_table went.m.tale went.clean) went.tells.bytes went.tells.is_told sound of_table given then_told.o.table volume number old_spot
+      run.stretch (0 + length at.place.front) at.place.at at.by.lines.at at.place.left at.by.lines.rest at.place.more known at.by.lines.work at.by.lines.front lasts_here) [
+        | inl takes ↦ inl (taken_behind read volume number old tells behind (subst (TakeVolume volume) at.place.asked takes))
+        | inr left ↦
+            let drive = old_spot.at.drive in
+            let block = old_spot.at.block in
+            let these = subst (λ (l : List Exchange). AreLeft l (tale_of known.story) went.m.tale) at.place.asked left in
+            let all = leaves_more volume number drive block (read ∷ behind) [] (tale_of known.story) went.m.tale next these (found_leaves volume number drive block went.m.tale next went.found) in
+            inr (subst (λ (l : List Exchange). AreLeft l (tale_of known.story) next) (append-nil (read ∷ behind)) all)
+      ]
 
   -- it was read as it is there
-  pub there_old : (drive block : ℕ) → then_told.spot.at.drive ≡ drive → then_told.spot.at.block ≡ block → IsSameBlock (last (tale_of known.story) drive block) old
-  there_old drive block on from = ap significant (known.reads drive block ∙ sym (λ i. at.place.at.kept.content (on i) (from i))) ∙ sym then_told.same
+  pub there_old : IsSameBlock (last (tale_of known.story) old_spot.at.drive old_spot.at.block) old
+  there_old = ap significant (known.reads old_spot.at.drive old_spot.at.block) ∙ sym then_told.same
 
   -- where no call had failed on its drive, a crash would leave just that
   pub settled_so : (drive : DriveNo) → Contains host.site.drives drive → HasAnswered run drive → (b : ℕ) → plain_area host.drives drive.0 b ≡ true → IsSettledAt drive.0 b (tale_of known.story)
@@ -181,53 +183,47 @@ module _ (given : Given) (drives : Geometry) (name : List ℕ) (before more : Li
   abbrev pub between : List Exchange
   between = (behind ++ since) ++ its_here
 
-  by_behind : TakeDatabase behind → TakeDatabase between
-  by_behind takes = take_before (behind ++ since) its_here (take_before behind since takes)
+  by_behind : TakeVolume volume behind → TakeVolume volume between
+  by_behind takes = take_before volume (behind ++ since) its_here (take_before volume behind since takes)
 
-  by_since : TakeDatabase since → TakeDatabase between
-  by_since takes = take_before (behind ++ since) its_here (take_behind behind since takes)
+  by_later : TakeVolume volume (since ++ its_here) → TakeVolume volume between
+  by_later takes = subst (TakeVolume volume) (sym (append_assoc behind since its_here)) (take_behind volume behind (since ++ its_here) takes)
 
-  by_here : TakeDatabase its_here → TakeDatabase between
-  by_here takes = take_behind (behind ++ since) its_here takes
-
-  -- what lasts as the run before the others ended, what is read has
-  next_into : (table : Table) → Lasts drives name table (one ∷ before) next → TakeDatabase between ⊎ Grows (own drives name).drives table told_again.o.table
-  next_into table lasts = elim (lasts_runs drives name table (one ∷ before) next more later.t.tale runs clean lasts) [
-    | inl takes ↦ inl (by_since takes)
-    | inr still ↦ elim (into drives name more other sound of_table later given again its_here its_rest volume number block parts tells_again by table still) [ inl takes ↦ inl (by_here takes) | inr grows ↦ inr grows ]
-  ]
-
-  -- so it lies where it lay
-  module _ (grows : Grows (own drives name).drives told_first.o.table told_again.o.table) where
-    moved : (told_first.spot.at.drive ≡ its_spot.at.drive) × (told_first.spot.at.block ≡ its_spot.at.block)
-    moved =
-        one_spot (own drives name).drives (view_is_own.sound drives name sound) told_again.o.table its_spot.plan volume told_first.spot.map its_spot.map number
-        (grows volume told_first.spot.map told_first.spot.lies) its_spot.lies told_first.spot.at its_spot.at
+  abbrev first_spot : Spot (own drives name).drives told_first.o.table volume number
+  first_spot = told_first.spot
 
   abbrev known_then : IsSureAt (host_of drives name run.fresh) script (start run of_table) run.t.tale from.place.at
   known_then = known given drives name before script sound of_table run next went here rest behind read volume number old tells now so_went
 
-  abbrev End : Type 0
-  End = AtRead drives name more other sound of_table later given again its_here its_rest volume number block parts tells_again by
-
-  abbrev AreLeft : List Exchange → Tale → Tale → Type 0
-  AreLeft es t u = Leaves volume number its_spot.at.drive its_spot.at.block es t u
+  abbrev Later : List Exchange → Tale → Type 0
+  Later es t = LeftAtRead drives name more other sound of_table later given again its_here its_rest volume number block parts tells_again by told_first.o.table first_spot es t
 
   -- what is left from the one read to the other
-  left : TakeDatabase between ⊎ ((end : End) × AreLeft ((read ∷ behind) ++ (since ++ its_here)) (tale_of known_then.story) (tale_of end.story))
-  left = elim (behind_left given drives name before script sound of_table run next went here rest behind read volume number old tells now so_went (TakeDatabase between) told_again.o.table its_spot (λ table lasts. next_into table (lasts_between drives name table one before went.m.tale next went.found lasts)) by_behind) [
-    | inl takes ↦ inl takes
-    | inr first ↦ elim (all_left drives name more other sound of_table later given again its_here its_rest volume number block parts tells_again by (TakeDatabase between) by_here run.made (one ∷ before) next
-        (life_on given drives name before script sound of_table run next went here rest behind read volume number old tells now so_went) runs clean by_since) [
-          | inl takes ↦ inl takes
-          | inr (end, behind_it) ↦ inr (end, leaves_more volume number its_spot.at.drive its_spot.at.block (read ∷ behind) (since ++ its_here) (tale_of known_then.story) next (tale_of end.story) first behind_it)
-        ]
+  left : TakeVolume volume between ⊎ Later ((read ∷ behind) ++ (since ++ its_here)) (tale_of known_then.story)
+  left = elim (lasts_next given drives name before script sound of_table run next went here rest behind read volume number old tells now so_went) [
+    | inl takes ↦ inl (by_behind takes)
+    | inr lasts ↦ elim (behind_left given drives name before script sound of_table run next went here rest behind read volume number old tells now so_went) [
+      | inl takes ↦ inl (by_behind takes)
+      | inr first ↦ elim (all_left drives name more other sound of_table later given again its_here its_rest volume number block parts tells_again by told_first.o.table first_spot (one ∷ before) next runs clean lasts) [
+        | inl takes ↦ inl (by_later takes)
+        | inr end ↦ inr (record {
+          now = end.now;
+          reads = end.reads;
+          has = end.has;
+          left = leaves_more volume number first_spot.at.drive first_spot.at.block (read ∷ behind) (since ++ its_here) (tale_of known_then.story) next end.now first end.left;
+        })
+      ]
+    ]
   ]
 
-  module _ (bears : Bears run volume (exchanges_by name more ++ its_here) (number + 1)) where
+  module _ (bears : Bears run volume (exchanges_by name more ++ its_here) (number + 1)) (end : Later ((read ∷ behind) ++ (since ++ its_here)) (tale_of known_then.story)) where
+    -- it lies where it lay
+    moved : (its_spot.at.drive ≡ first_spot.at.drive) × (its_spot.at.block ≡ first_spot.at.block)
+    moved = front_spot (own drives name).drives (view_is_own.sound drives name sound) told_again.o.table its_spot.plan volume its_spot.map first_spot.map number its_spot.lies end.has its_spot.at first_spot.at
+
     -- no call had failed on its drive by the first read
-    settled : (x : List ℕ) → MayLeave (tale_of known_then.story) its_spot.at.drive its_spot.at.block x → x ≡ last (tale_of known_then.story) its_spot.at.drive its_spot.at.block
-    settled =
+    settled_then : IsSettledAt its_spot.at.drive its_spot.at.block (tale_of known_then.story)
+    settled_then =
         let map = its_spot.map in
         let place = its_spot.at in
         let within = place.within in
@@ -238,29 +234,33 @@ module _ (given : Given) (drives : Geometry) (name : List ℕ) (before more : Li
         settled_so given drives name before script sound of_table run next went here rest behind read volume number old tells now so_went (record { 0 = place.drive }) is_own calm place.block
         (spot_plain (own_view drives name) told_again.o.table volume number own_sound its_spot)
 
+    settled : (x : List ℕ) → MayLeave (tale_of known_then.story) first_spot.at.drive first_spot.at.block x → x ≡ last (tale_of known_then.story) first_spot.at.drive first_spot.at.block
+    settled =
+        let same = moved in
+        subst (λ (d : ℕ). IsSettledAt d first_spot.at.block (tale_of known_then.story)) same.0 (subst (λ (b : ℕ). IsSettledAt its_spot.at.drive b (tale_of known_then.story)) same.1 settled_then)
+
     -- so it has what the first read told, or what a line since may have written
-    by_value : (grows : Grows (own drives name).drives told_first.o.table told_again.o.table) (x : List ℕ) → IsSameBlock block x → MayLeave (tale_of known_then.story) its_spot.at.drive its_spot.at.block x ⊎ Written volume number ((read ∷ behind) ++ (since ++ its_here)) x → IsOrWasWritten volume number old between block
-    by_value grows x same (inl was) =
-        let same_place = moved grows in
-        inl (same ∙ ap significant (settled x was) ∙ there_old given drives name before script sound of_table run next went here rest behind read volume number old tells now so_went its_spot.at.drive its_spot.at.block same_place.0 same_place.1)
-    by_value grows x same (inr (writes, new, has, may, is)) = elim (Contains-append_cases (read ∷ []) (behind ++ (since ++ its_here)) writes has) [
+    by_value : (x : List ℕ) → IsSameBlock block x → MayLeave (tale_of known_then.story) first_spot.at.drive first_spot.at.block x ⊎ Written volume number ((read ∷ behind) ++ (since ++ its_here)) x → IsOrWasWritten volume number old between block
+    by_value x same (inl was) = inl (same ∙ ap significant (settled x was) ∙ there_old given drives name before script sound of_table run next went here rest behind read volume number old tells now so_went)
+    by_value x same (inr (writes, new, has, may, is)) = elim (Contains-append_cases (read ∷ []) (behind ++ (since ++ its_here)) writes has) [
       | inl first ↦ absurd (never_written read volume volume number number old new tells (subst (λ (e : Exchange). MayBeWritten volume number new e) (sym (the_only read writes first)) may))
       | inr after ↦ inr (inl (writes, new, subst (λ (l : List Exchange). Contains l writes) (sym (append_assoc behind since its_here)) after, may, same ∙ ap significant is))
     ]
 
-    pub agreed : IsOrWasWritten volume number old between block
-    agreed = elim (lasts_next given drives name before script sound of_table run next went here rest behind read volume number old tells now so_went) [
-      | inl takes ↦ taken_or volume number old between block (by_behind takes)
-      | inr lasts ↦ elim (next_into told_first.o.table lasts) [
-        | inl takes ↦ taken_or volume number old between block takes
-        | inr grows ↦ elim left [
-          | inl takes ↦ taken_or volume number old between block takes
-          | inr (end, leaves) ↦
-              let x = last (tale_of end.story) its_spot.at.drive its_spot.at.block in
-              by_value grows x (told_again.same ∙ ap significant (sym (end.reads its_spot.at.drive its_spot.at.block))) (leaves x (last_may_be_left (tale_of end.story) its_spot.at.drive its_spot.at.block))
-        ]
-      ]
-    ]
+    value : IsOrWasWritten volume number old between block
+    value =
+        let drive = first_spot.at.drive in
+        let at_block = first_spot.at.block in
+        let x = last end.now drive at_block in
+        let same_place = moved in
+        let read_there : IsSameBlock block x = told_again.same ∙ ap significant ((λ i. place_again.at.kept.content (same_place.0 i) (same_place.1 i)) ∙ sym (end.reads drive at_block)) in
+        by_value x read_there (end.left x (last_may_be_left end.now drive at_block))
+
+  pub agreed : Bears run volume (exchanges_by name more ++ its_here) (number + 1) → IsOrWasWritten volume number old between block
+  agreed bears = elim left [
+    | inl takes ↦ taken_or volume number old between block takes
+    | inr end ↦ value bears end
+  ]
 
 -- what stands behind the first read
 same_since : (before here behind since its_here lines : List Exchange) (read : Exchange) → ((before ++ (here ++ read ∷ behind)) ++ since) ++ its_here ≡ (before ++ here) ++ read ∷ lines → lines ≡ (behind ++ since) ++ its_here

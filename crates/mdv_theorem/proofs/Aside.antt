@@ -1,9 +1,7 @@
 -- What a line on a volume of the open table is refused for: neither that there is no database, nor that the volume isn't there.
 use Rattle.std.proofs.Common.{◌≡◌, inl, inr, ℕ, Bool, true, false, ◌||◌, if◌then◌else◌, nat_lt, List, [], ◌∷◌, ◌++◌, ◌+◌, length, Option, Some, None, All, refl, sym, ◌∙◌, ap, subst, arith}
 use Rattle.std.proofs.lemmas.Bool.{false≢true}
-use Rattle.std.proofs.lemmas.List.Elements.{All-append, All-cons, All-head, All-nil, All-tail}
-use Rattle.std.proofs.lemmas.List.Folds.{list_any-append}
-use Rattle.std.specs.List.{list_any}
+use Rattle.std.proofs.lemmas.List.Elements.{All-append, All-cons, All-nil}
 use Rattle.std.specs.Option.{is_none, option_map}
 use Rattle.mdv_base.specs.Order.{first_refusal, order, where_so}
 use Rattle.mdv_base.specs.Refusal.{number_of}
@@ -13,12 +11,9 @@ use Rattle.mdv_base.specs.declared.refusal.Refusal.TheVariants.{IoFault, NoSuchP
 use Rattle.mdv_base.proofs.Order.{first_holds}
 use Rattle.mdv_change.specs.Change.{carried, condition}
 use Rattle.mdv_change.specs.declared.change.Change.{Change as PlanChange}
-use Rattle.mdv_change.specs.declared.change.Change.TheVariants.{MakeStripe}
-use Rattle.mdv_components.specs.Bases.{is_missing, volume_of}
+use Rattle.mdv_components.specs.Bases.{volume_of}
 use Rattle.mdv_components.specs.Causes.{first_of, told}
 use Rattle.mdv_components.specs.Causes.{order as causes_order}
-use Rattle.mdv_components.specs.Stripes.{all_bases}
-use Rattle.mdv_components.specs.declared.asked.RowAsked.{RowAsked}
 use Rattle.mdv_components.specs.declared.cause.Carried.{Carried}
 use Rattle.mdv_components.specs.declared.cause.Cause.{Cause}
 use Rattle.mdv_components.specs.declared.cause.Cause.TheVariants as reason
@@ -31,12 +26,9 @@ use Rattle.mdv_engine_law.specs.Refusals.{Case, bytes_after, held, held_of_alter
 use Rattle.mdv_engine_law.specs.Replies.{refusal_line, text_of}
 use Rattle.mdv_engine_law.specs.declared.answer.Answer.{Answer}
 use Rattle.mdv_engine_law.specs.declared.answer.Answer.TheVariants.{Over}
-use Rattle.mdv_keeping.specs.Built.{IsOfSlices, IsSlice, names_db}
+use Rattle.mdv_keeping.specs.Built.{names_db}
 use Rattle.mdv_keeping.specs.Refused.{cause_with}
 use Rattle.mdv_map.specs.Maps.{Map}
-use Rattle.mdv_plan.specs.declared.plan.Plan.{Plan}
-use Rattle.mdv_plan.specs.declared.volume.Base.{Base}
-use Rattle.mdv_plan.specs.declared.volume.Base.TheVariants.{Slice, Volume}
 use Rattle.mdv_run_law.specs.Below.{Command, AddListed, AddPlaces, Alter, DropPlaces, Entry, Host, meant, Line, OutOfMemory, OutOfRange, Print, Read, Refusal, ReplicaFull, VolId, Write}
 use Rattle.mdv_run_law.specs.Run.{IsAnswered, IsSaid}
 use Rattle.mdv_volumes.specs.Tables.{IsMapOf, map_of}
@@ -44,8 +36,8 @@ use Rattle.mdv_volumes.proofs.Maps.{found_as}
 use Rattle.mdv_words.proofs.Lines.{one_line}
 use Rattle.mdv_words.specs.Line.{Exec, IsLine, blocks_of}
 use Rattle.mdv_words.specs.declared.command.Alteration.{Alteration}
-use Rattle.mdv_theorem.specs.Exchanges.{Asks, Exchange, IsAbout}
-use Rattle.mdv_theorem.proofs.Altered.{asks_built}
+use Rattle.mdv_theorem.specs.Exchanges.{Asks, Exchange, IsAbout, IsOf}
+use Rattle.mdv_theorem.proofs.Altered.{asked_found, asks_built}
 use Rattle.mdv_theorem.proofs.Telling.{ok_is_none, one_number, values_are_none, listing_is_none}
 use Rattle.mdv_store.specs.Opened.{Opened}
 
@@ -80,20 +72,41 @@ told_aside_of its reason.SpareInUse other = omega arith
 told_aside_of its reason.TooSmall other = omega arith
 told_aside_of its reason.NoSpace other = omega arith
 
-one_aside : (r : Refusal) → IsAside r → All IsAside (r ∷ [])
-one_aside r is = All-cons IsAside r [] is (All-nil IsAside)
+-- and no cause that there is no database
+pub told_some : (its : Carried) (cause : Cause) → number_of (told its cause) ≡ 2 → ⊥
+told_some its reason.NoSuchVolume = omega arith
+told_some its reason.NoSuchPool = omega arith
+told_some its reason.NoSuchSlice = omega arith
+told_some its reason.NameTaken = omega arith
+told_some its reason.WrongKind = omega arith
+told_some its reason.WrongState = omega arith
+told_some its reason.LastCopy = omega arith
+told_some its reason.TooFew = omega arith
+told_some its reason.TooMany = omega arith
+told_some its reason.BadInterlace = omega arith
+told_some its reason.SliceInUse = omega arith
+told_some its reason.HasParent = omega arith
+told_some its reason.Nested = omega arith
+told_some its reason.SpareInUse = omega arith
+told_some its reason.TooSmall = omega arith
+told_some its reason.NoSpace = omega arith
 
-listed_first : (causes : List Refusal) → All IsAside causes → (first : Option Refusal) → first_refusal causes ≡ first → All IsAside (listed first)
-listed_first causes all None is = All-nil IsAside
-listed_first causes all (Some r) is = one_aside r (first_holds IsAside order causes r all is)
+-- what is so of what the causes tell that hold, and of a component on a slice for replicas, is so of what a table says against a change
+module _ (P : Refusal → Type 0) (of_kind : P WrongKind) where
+  one_all : (r : Refusal) → P r → All P (r ∷ [])
+  one_all r is = All-cons P r [] is (All-nil P)
 
-cause_aside : (its : Carried) (found : Option Cause) (is_db : Bool) → ((cause : Cause) → found ≡ Some cause → cause ≡ reason.NoSuchVolume → ⊥) → All IsAside (listed (cause_with (option_map (told its) found) is_db))
-cause_aside its None false other = All-nil IsAside
-cause_aside its None true other = one_aside WrongKind (omega arith)
-cause_aside its (Some cause) false other = one_aside (told its cause) (told_aside_of its cause (other cause refl))
-cause_aside its (Some cause) true other =
-    let causes : List Refusal = told its cause ∷ WrongKind ∷ [] in
-    listed_first causes (All-cons IsAside (told its cause) (WrongKind ∷ []) (told_aside_of its cause (other cause refl)) (one_aside WrongKind (omega arith))) (first_refusal causes) refl
+  listed_first : (causes : List Refusal) → All P causes → (first : Option Refusal) → first_refusal causes ≡ first → All P (listed first)
+  listed_first causes all None is = All-nil P
+  listed_first causes all (Some r) is = one_all r (first_holds P order causes r all is)
+
+  cause_all : (its : Carried) (found : Option Cause) (is_db : Bool) → ((cause : Cause) → found ≡ Some cause → P (told its cause)) → All P (listed (cause_with (option_map (told its) found) is_db))
+  cause_all its None false tells = All-nil P
+  cause_all its None true tells = one_all WrongKind of_kind
+  cause_all its (Some cause) false tells = one_all (told its cause) (tells cause refl)
+  cause_all its (Some cause) true tells =
+      let causes : List Refusal = told its cause ∷ WrongKind ∷ [] in
+      listed_first causes (All-cons P (told its cause) (WrongKind ∷ []) (tells cause refl) (one_all WrongKind of_kind)) (first_refusal causes) refl
 
 -- the first cause holds
 first_so : (holds : Cause → Bool) (causes : List Cause) (cause : Cause) → first_of holds causes ≡ Some cause → holds cause ≡ true
@@ -103,31 +116,29 @@ first_so holds (c ∷ causes) cause is = by (holds c) refl (first_so holds cause
   by true so rest same = (let both : Some c ≡ Some cause = same in let one : c ≡ cause = cc both in subst (λ (x : Cause). holds x ≡ true) one so)
   by false so rest same = rest same
 
--- slices are no volumes that may be missing
-none_missing : (p : Plan) (bases : List Base) → All IsSlice bases → list_any (is_missing p) bases ≡ false
-none_missing p [] are = refl
-none_missing p (Slice slice ∷ bases) are = none_missing p bases (All-tail IsSlice (Slice slice) bases are)
-none_missing p (Volume volume ∷ bases) are = absurd (All-head IsSlice (Volume volume) bases are)
-
-rows_there : (p : Plan) (rows : List RowAsked) → All IsOfSlices rows → list_any (is_missing p) (all_bases rows) ≡ false
-rows_there p [] are = refl
-rows_there p (row ∷ rows) are =
-    list_any-append (is_missing p) row.components (all_bases rows)
-    ∙ (λ i. none_missing p row.components (All-head IsOfSlices row rows are) i || rows_there p rows (All-tail IsOfSlices row rows are) i)
-
-pub alteration_aside : (host : Host) (o : Opened) (one : Exchange) (alteration : Alteration) → Asks one (Alter alteration) → All IsAside (held_of_alteration host (Some o) (change_of alteration))
-alteration_aside host o one alteration asks =
+-- and so of all that is told of an alteration
+pub alteration_all : (P : Refusal → Type 0) → P WrongKind → ((bytes room : ℕ) → P (ReplicaFull bytes room)) → (host : Host) (o : Opened) (one : Exchange) (alteration : Alteration) (asks : Asks one (Alter alteration))
+    → ((its : Carried) (cause : Cause) → condition host.drives host.site.drives o.table (asks_built one alteration asks).change cause ≡ true → P (told its cause)) → All P (held_of_alteration host (Some o) (change_of alteration))
+alteration_all P of_kind of_full host o one alteration asks tells =
     let asked = asks_built one alteration asks in
-    let change : PlanChange = MakeStripe asked.volume asked.rows None in
+    let change : PlanChange = asked.change in
     let size = bytes_after host o change in
     let full : Refusal = ReplicaFull size (record_room o) in
     let holds = condition host.drives host.site.drives o.table change in
-    let named : (cause : Cause) → first_of holds causes_order ≡ Some cause → cause ≡ reason.NoSuchVolume → ⊥ = λ cause found same.
-    false≢true (sym (rows_there o.table.plan asked.rows asked.built.2) ∙ subst (λ (c : Cause). holds c ≡ true) same (first_so holds causes_order cause found)) in
-    subst (λ (c : Option PlanChange). All IsAside (held_of_alteration host (Some o) c)) (sym asked.alters)
-    (All-append IsAside (listed (told_by_table host o change)) (where_so (nat_lt (record_room o) size) full)
-    (cause_aside (carried host.drives o.table change) (first_of holds causes_order) (names_db host.drives change) named)
-    (where_all IsAside (nat_lt (record_room o) size) full (omega arith)))
+    let its = carried host.drives o.table change in
+    subst (λ (c : Option PlanChange). All P (held_of_alteration host (Some o) c)) (sym asked.alters)
+    (All-append P (listed (told_by_table host o change)) (where_so (nat_lt (record_room o) size) full)
+    (cause_all P of_kind its (first_of holds causes_order) (names_db host.drives change) (λ cause found. tells its cause (first_so holds causes_order cause found)))
+    (where_all P (nat_lt (record_room o) size) full (of_full size (record_room o))))
+
+-- of a volume that is there, which it makes, or to which it adds a row, or which it clears alone, no cause is that it isn't
+pub alteration_aside : (host : Host) (o : Opened) (volume : VolId) (v : Map) → IsMapOf host.drives o.table volume v → (one : Exchange) (alteration : Alteration) → Asks one (Alter alteration) → IsOf volume alteration → All IsAside (held_of_alteration host (Some o) (change_of alteration))
+alteration_aside host o volume v lies one alteration asks makes =
+    let found = found_as host.drives o.table volume v lies in
+    let change = (asks_built one alteration asks).change in
+    let there : condition host.drives host.site.drives o.table change reason.NoSuchVolume ≡ false = asked_found host.drives host.site.drives o.table volume found.of found.found one alteration asks makes in
+    alteration_all IsAside (omega arith) (λ bytes room. omega arith) host o one alteration asks
+    (λ its cause holds. told_aside_of its cause (λ same. false≢true (sym there ∙ subst (λ (c : Cause). condition host.drives host.site.drives o.table change c ≡ true) same holds)))
 
 -- of a volume that is there
 past_aside : (found : Option Map) (v : Map) (end : ℕ) → found ≡ Some v → All IsAside (held_past found end)
@@ -157,7 +168,7 @@ module _ (case : Case) (o : Opened) (opened : case.memory.opened ≡ Some o) (vo
   held_aside one (AddPlaces slices force count blocks) asks on = absurd on
   held_aside one (AddListed number force) asks on = absurd on
   held_aside one (DropPlaces slices force) asks on = absurd on
-  held_aside one (Alter alteration) asks on = by_opened (λ p. held_of_alteration case.host p (change_of alteration)) (alteration_aside case.host o one alteration asks)
+  held_aside one (Alter alteration) asks on = by_opened (λ p. held_of_alteration case.host p (change_of alteration)) (alteration_aside case.host o volume v lies one alteration asks on)
   held_aside one (Read other at count) asks on = by_opened (λ p. held_of_transfer case.host p other at count) (transfer_aside other at count on)
   held_aside one (Write other at what) asks on = by_opened (λ p. held_of_transfer case.host p other at (length (blocks_of what))) (transfer_aside other at (length (blocks_of what)) on)
   held_aside one (Print names) asks alone = by_opened (λ p. held_of_print p names) (print_aside names alone)

@@ -1,5 +1,5 @@
 -- A write of an earlier run that was acknowledged: the block is there at the start, and has its value, or one that was issued later.
-use Rattle.std.proofs.Common.{◌≡◌, ◌⊎◌, inl, inr, ⊎_elim, ℕ, ◌+◌, ◌-◌, ◌<◌, true, Option, List, [], ◌∷◌, ◌++◌, length, slice_index_or, Contains, sym, ◌∙◌, ap, subst, arith}
+use Rattle.std.proofs.Common.{◌≡◌, ◌⊎◌, inl, inr, ⊎_elim, ℕ, ◌+◌, ◌-◌, ◌<◌, true, Option, List, [], ◌∷◌, ◌++◌, length, map, slice_index_or, Contains, sym, ◌∙◌, ap, subst, arith}
 use Rattle.std.proofs.lemmas.List.Elements.{Contains-append_cases, Contains-append_left, Contains-append_right}
 use Rattle.mdv_base.specs.declared.name.Key.{Key}
 use Rattle.mdv_base.specs.declared.name.VolId.{VolId}
@@ -7,7 +7,7 @@ use Rattle.mdv_engine_law.specs.Line.{Ask, deeds}
 use Rattle.mdv_engine_law.specs.declared.host.Host.{Host}
 use Rattle.mdv_engine_law.specs.Replies.{issuable, ok_line}
 use Rattle.mdv_map.specs.Logs.{is_among}
-use Rattle.mdv_map.specs.Maps.{Map, readings}
+use Rattle.mdv_map.specs.Maps.{DriveBlock, Map, held, readings}
 use Rattle.mdv_map.proofs.Copies.{among_at}
 use Rattle.mdv_name.specs.declared.geometry.Geometry.{Geometry}
 use Rattle.mdv_run_law.specs.Lives.{Ran, IsLife}
@@ -16,26 +16,28 @@ use Rattle.mdv_shelf.specs.Everywhere.{Image}
 use Rattle.mdv_shelf.specs.Tale.{Among, Tale, last}
 use Rattle.mdv_shelf.proofs.Blocks.{both_ways}
 use Rattle.mdv_status.specs.Values.{significant}
+use Rattle.mdv_store_law.specs.Log.{Version}
 use Rattle.mdv_store_law.proofs.Machine.{all_more}
 use Rattle.mdv_config.specs.Slices.{IsSound}
 use Rattle.mdv_plan.specs.declared.table.Table.{Table}
 use Rattle.mdv_volumes.specs.Databases.{is_volume, log_of}
 use Rattle.mdv_volumes.specs.Events.{Answers, Begins, Flushes, Issues, VolumeEvent, Woke, issued_to}
 use Rattle.mdv_volumes.specs.Events as lives
-use Rattle.mdv_volumes.specs.Happening.{HasRange, IsNamed, begins, begun_of, issued_by}
+use Rattle.mdv_volumes.specs.Happening.{HasRange, IsNamed, MayBeFound, begins, begun_of, issued_by}
 use Rattle.mdv_volumes.specs.History.{Acknowledges, Boots, Changed, Crashes, Created, Creation, Deed, Deleted, Deletes, Event, OfDatabase, OfVolume, Reads, Saw, Shows, Stops, Unsettles, Wrote, events_at, events_of, history_after_all}
-use Rattle.mdv_volumes.specs.HistoryLaws.{KeepDatabase, new_history}
+use Rattle.mdv_store_law.specs.Changes.{OfPlan}
+use Rattle.mdv_volumes.specs.HistoryLaws.{KeepDatabase, KeepVolume, new_history}
 use Rattle.mdv_volumes.specs.LogLaws.{MayBe}
-use Rattle.mdv_volumes.specs.Tables.{IsMapOf}
 use Rattle.mdv_volumes.proofs.Databases.{volume_key, volume_number}
 use Rattle.mdv_volumes.proofs.Found.{AreLasting, some_lasts}
 use Rattle.mdv_volumes.proofs.Lists.{contains_first}
+use Rattle.mdv_volumes.proofs.Made.{HasFront}
 use Rattle.mdv_words.specs.Line.{blocks_of}
 use Rattle.mdv_words.specs.declared.command.Command.TheVariants.{Write}
 use Rattle.mdv_theorem.specs.Exchanges.{Exchange, IsAcknowledged, MayBeWritten, Writes, exchanges_by}
 use Rattle.mdv_theorem.specs.Words.{IsOrWasWritten}
 use Rattle.mdv_theorem.proofs.Found.{asked_at, deed_told, es, its, its_course, lined, ok_sated, range_found}
-use Rattle.mdv_theorem.proofs.Ends.{TakeDatabase, lined_ends}
+use Rattle.mdv_theorem.proofs.Ends.{TakeVolume, lined_keeps}
 use Rattle.mdv_theorem.proofs.Lined.{AreLined, AreOfReply, AreReplied, IsLinedAt, host, lined_at, lined_begins}
 use Rattle.mdv_theorem.proofs.Lines.{lets, the_only}
 use Rattle.mdv_theorem.proofs.Places.{IsToldAt, at_among, may_at, told_at}
@@ -177,7 +179,7 @@ module _ (drives : Geometry) (name : List ℕ) (made : Image) (before : List Ran
     its_map = its_range.map
 
     abbrev Lies : Table → Type 0
-    Lies table = IsMapOf own.drives table volume its_map
+    Lies table = HasFront own.drives volume its_map table
 
     -- what its own line issued behind that is the same
     own_issue : (issue : Deed) → Contains (issued_by its_told.at.later) issue → deed ≡ issue
@@ -190,22 +192,28 @@ module _ (drives : Geometry) (name : List ℕ) (made : Image) (before : List Ran
         let asked = asked_at drives name made before t sound of_table life write ok_line (Write volume writes.at writes.what) line.own writes.asks (ok_sated drives name made before t sound of_table life) replied in
         the_only deed issue (subst (λ (a : Ask). Contains (deeds a) issue) asked may.asked)
 
-    -- a line behind it may have taken the database away, or no end of it began
-    keep_or_takes : TakeDatabase between ⊎ KeepDatabase its_key rest
-    keep_or_takes = elim (lined_ends drives name between line.later line.of_between) [
+    -- what was issued behind it is that, or was issued by a line behind its own
+    rest_issue : (issue : Deed) → Contains (issued_by rest) issue → (deed ≡ issue) ⊎ Contains (issued_by line.later) issue
+    rest_issue issue has = elim (Contains-append_cases (issued_by its_told.at.later) (issued_by line.later) issue (subst (λ (l : List Deed). Contains l issue) (all_more begins its_told.at.later line.later) has)) [
+      | inl own ↦ inl (own_issue issue own)
+      | inr later ↦ inr later
+    ]
+
+    -- a line behind it may have taken the volume away, or no end of its database began, and no change by which it goes
+    keep_or_takes : TakeVolume volume between ⊎ (KeepDatabase its_key rest × KeepVolume its_key volume rest)
+    keep_or_takes = elim (lined_keeps drives name volume between line.later line.of_between) [
       | inl takes ↦ inl takes
-      | inr keep ↦ inr (λ has. elim (Contains-append_cases (issued_by its_told.at.later) (issued_by line.later) (Deleted its_key) (subst (λ (l : List Deed). Contains l (Deleted its_key)) (all_more begins its_told.at.later line.later) has)) [
-        | inl own ↦ absurd (let never = own_issue (Deleted its_key) own in cc (never))
-        | inr later ↦ keep later
-      ])
+      | inr (lives, stays) ↦ inr (
+        λ has. elim (rest_issue (Deleted its_key) has) [ inl own ↦ absurd (cc own) | inr later ↦ lives later ],
+        λ change has clears. elim (rest_issue (Changed its_key (OfPlan change)) has) [ inl own ↦ absurd (cc own) | inr later ↦ stays change later clears ],
+      )
     ]
 
     later_value : (x : List ℕ) → IsIssued its_key volume number x (issued_by rest) → IsOrWasWritten volume number old between x
     later_value x is =
         let issue = Wrote its_key volume is.at is.blocks in
-        elim (Contains-append_cases (issued_by its_told.at.later) (issued_by line.later) issue (subst (λ (l : List Deed). Contains l issue) (all_more begins its_told.at.later line.later) is.deed)) [
-          | inl now ↦
-              let same = own_issue issue now in
+        elim (rest_issue issue is.deed) [
+          | inl same ↦
               let parts : (writes.at, blocks) ≡ (is.at, is.blocks) = ap written_at same in
               let one = one_issue its_key volume number x is.at is.blocks is.among is.value in
               let numbered = one.numbered in
@@ -222,14 +230,14 @@ module _ (drives : Geometry) (name : List ℕ) (made : Image) (before : List Ran
         ]
 
     -- where none did
-    module _ (keep : KeepDatabase its_key rest) where
+    module _ (keep : KeepDatabase its_key rest) (stay : KeepVolume its_key volume rest) where
       its_tables : AreLasting own.drives Lies (log_of (history_after_all new_history all).databases its_key)
-      its_tables = range_found drives name made before t sound of_table life front (event ∷ rest) volume writes.at (length blocks) stands_so its_range keep
+      its_tables = range_found drives name made before t sound of_table life front (event ∷ rest) volume writes.at (length blocks) stands_so its_range keep stay
 
       -- the values that its block may have
       log_value : (x : List ℕ) → MayBe ((history_after_all new_history all).volumes its_key volume) number x → IsOrWasWritten volume number old between x
       log_value x may =
-          let lasts = (its drives name made before t sound of_table life).lasts front rest its_told.place its_key volume writes.at blocks stands_so keep in
+          let lasts = (its drives name made before t sound of_table life).lasts front rest its_told.place its_key volume writes.at blocks stands_so keep stay in
           let so : MayBe ((history_after_all new_history (front ++ event ∷ rest)).volumes its_key volume) (writes.at + writes.place) x =
           subst (λ (l : List Event). MayBe ((history_after_all new_history l).volumes its_key volume) (writes.at + writes.place) x) stands_so (subst (λ (n : ℕ). MayBe ((history_after_all new_history all).volumes its_key volume) n x) writes.numbered may) in
           elim (lasts.lasts writes.place x writes.within so) [
@@ -244,29 +252,36 @@ module _ (drives : Geometry) (name : List ℕ) (made : Image) (before : List Ran
           let numbered = writes.numbered in
           omega (arith, within, below, numbered)
 
-      -- a table that a boot may find has it
-      its_named : IsNamed own.drives (history_after_all new_history all).databases its_key volume its_map
-      its_named =
-          let some = some_lasts own.drives Lies (log_of (history_after_all new_history all).databases its_key) its_tables in
-          record { version = some.0; found = some.1; map = some.2 }
+      -- a table that a boot may find has it, with more blocks behind or none
+      its_table : (version : Version) × MayBeFound (log_of (history_after_all new_history all).databases its_key).family version × Lies version.table
+      its_table = some_lasts own.drives Lies (log_of (history_after_all new_history all).databases its_key) its_tables
+
+      its_named : IsNamed own.drives (history_after_all new_history all).databases its_key volume its_table.2.0
+      its_named = record { version = its_table.0; found = its_table.1; map = its_table.2.1 }
 
       read_value : (x : List ℕ) → Among (readings its_map (last t) number) x → IsOrWasWritten volume number old between x
-      read_value x among = log_value x (inl ((its drives name made before t sound of_table life).reads volume its_map its_named number x its_blocks among))
+      read_value x among =
+          let w = its_table.2.0 in
+          let front = its_table.2.2 in
+          let more = front.blocks in
+          let below = its_blocks in
+          log_value x (inl ((its drives name made before t sound of_table life).reads volume w its_named number x (omega (arith, more, below))
+          (subst (λ (ss : List DriveBlock). Among (map (held (last t)) ss) x) (sym (front.copies number its_blocks)) among)))
 
-  -- An acknowledged write of an earlier run: each table that a boot may find has the volume with the block, which has the write's value, or one that a line behind it may have written; or one may have taken the database away.
+  -- An acknowledged write of an earlier run: each table that a boot may find has the volume with the block, which has the write's value, or one that a line behind it may have written; or one may have taken the volume away.
   pub record WriteLeft (between : List Exchange) (volume : VolId) (number : ℕ) (old : List ℕ) : Type 0 where
     pub map : Map
-    pub lasts : AreLasting own.drives (λ table. IsMapOf own.drives table volume map) (log_of (history_after_all new_history all).databases its_key)
+    pub lasts : AreLasting own.drives (λ table. HasFront own.drives volume map table) (log_of (history_after_all new_history all).databases its_key)
     pub within : number < map.blocks
     pub values : (x : List ℕ) → Among (readings map (last t) number) x → IsOrWasWritten volume number old between x
 
-  pub write_left : (first between : List Exchange) (write : Exchange) (volume : VolId) (number : ℕ) (old : List ℕ) → exchanges_by name before ≡ first ++ write ∷ between → IsAcknowledged volume number old write → TakeDatabase between ⊎ WriteLeft between volume number old
+  pub write_left : (first between : List Exchange) (write : Exchange) (volume : VolId) (number : ℕ) (old : List ℕ) → exchanges_by name before ≡ first ++ write ∷ between → IsAcknowledged volume number old write → TakeVolume volume between ⊎ WriteLeft between volume number old
   write_left first between write volume number old stood acknowledged = elim (keep_or_takes first between write volume number old stood acknowledged) [
     | inl takes ↦ inl takes
-    | inr keep ↦ inr (record {
+    | inr (keep, stay) ↦ inr (record {
       map = its_map first between write volume number old stood acknowledged;
-      lasts = its_tables first between write volume number old stood acknowledged keep;
-      within = its_blocks first between write volume number old stood acknowledged keep;
-      values = read_value first between write volume number old stood acknowledged keep;
+      lasts = its_tables first between write volume number old stood acknowledged keep stay;
+      within = its_blocks first between write volume number old stood acknowledged keep stay;
+      values = read_value first between write volume number old stood acknowledged keep stay;
     })
   ]

@@ -19,17 +19,16 @@ use Rattle.mdv_status.specs.Values.{significant, values_reply}
 use Rattle.mdv_status.proofs.Apart.{values_are_told}
 use Rattle.mdv_config.specs.Slices.{IsSound}
 use Rattle.mdv_plan.specs.declared.table.Table.{Table}
-use Rattle.mdv_volumes.specs.Tables.{IsMapOf}
 use Rattle.mdv_volumes.proofs.Lists.{contains_behind, contains_first}
 use Rattle.mdv_words.specs.Line as words
 use Rattle.mdv_words.proofs.Lines.{one_line}
 use Rattle.mdv_words.specs.Line.{IsLine, Line, blocks_of}
 use Rattle.mdv_words.specs.declared.command.Command.TheVariants.{Read, Write}
 use Rattle.mdv_words.specs.declared.written.Written.{Written}
-use Rattle.mdv_volumes.proofs.Made.{map_stays}
+use Rattle.mdv_volumes.proofs.Made.{HasFront, front_stays}
 use Rattle.mdv_theorem.specs.Exchanges.{Exchange, IsAcknowledged, IsSameBlock, IsTold, MayBeWritten, MayHaveBegun, TellsBlock, Writes}
 use Rattle.mdv_theorem.proofs.Steps.{Between, Steps, no_step, one_step, skipped, told_once}
-use Rattle.mdv_theorem.proofs.Ends.{TakeDatabase}
+use Rattle.mdv_theorem.proofs.Ends.{TakeVolume}
 use Rattle.mdv_theorem.proofs.Kept.{keeps_or_takes}
 use Rattle.mdv_theorem.proofs.Tables.{IsCarried, Keeps, WroteThere, granted_done, keeps_idle, open_keeps, text_kept}
 use Rattle.mdv_theorem.proofs.Telling.{is_fault, ok_is_none, one_number}
@@ -38,7 +37,7 @@ use Rattle.mdv_shelf.specs.Tale.{Among}
 use Rattle.mdv_store.specs.Booting.{boot_area, has_written}
 use Rattle.mdv_store.specs.Opened.{Opened}
 use Rattle.mdv_shown.specs.Site.{site_area}
-use Rattle.mdv_theorem.proofs.Place.{BlockAt, Spot, at_place, block_at, same_block}
+use Rattle.mdv_theorem.proofs.Place.{BlockAt, Spot, at_place, block_at, block_longer, same_block}
 use Rattle.mdv_theorem.proofs.Sure.{IsSure, sure_table}
 
 -- a write that was told ok, or that a call failed, may have begun
@@ -59,12 +58,12 @@ may_be_put v at blocks old new places put = record {
 }
 
 module _ (host : Host) (sound : IsSound host.drives) (sees : SeesOwn host) (volume : VolId) (v : Map) (b : ℕ) (at_it : BlockAt v b) (out : site_area host.site at_it.drive at_it.block ≡ false) where
-  -- the volume lies there
+  -- the volume lies there, and may have more blocks behind
   abbrev Lies : Table → Type 0
-  Lies t = IsMapOf host.drives t volume v
+  Lies t = HasFront host.drives volume v t
 
-  carried : IsCarried host.drives Lies
-  carried = map_stays host.drives volume v
+  carried : IsCarried host.drives volume Lies
+  carried = front_stays host.drives volume v
 
   abbrev drive : ℕ
   drive = at_it.drive
@@ -93,7 +92,8 @@ module _ (host : Host) (sound : IsSound host.drives) (sees : SeesOwn host) (volu
         let plan = sure_table host from.kept there.o from.sure there.opened in
         let lies = open_keeps host Lies from there.o keeps there.opened in
         let bound = there.within in
-        let same = same_block host.drives sound there.o.table plan volume other v w b (at + k) drive spot lies there.lies at_it.within (omega (arith, below, bound)) (at_place v b at_it) has in
+        let its = block_longer v lies.0 b lies.2 at_it in
+        let same = same_block host.drives sound there.o.table plan volume other lies.0 w b (at + k) drive spot lies.1 there.lies its.within (omega (arith, below, bound)) (at_place lies.0 b its) has in
         let asks = subst (λ (x : VolId). IsLine one.text (words.Exec (Write x at what))) same.0 spelled in
         elim (put.here k drive spot below has) [
           | inl old ↦ inl old
@@ -151,15 +151,15 @@ module _ (host : Host) (sound : IsSound host.drives) (sees : SeesOwn host) (volu
   line_more one rest from mid last (inl here) (inl kept_on) = inl (kept_on ∙ here)
   line_more one rest from mid last (inr here) (inl kept_on) = inr (one, here.new, contains_first one rest, here.may, kept_on ∙ here.reads)
 
-  -- The block reads as it did, or as one of the lines may have written it, unless one of them may have taken the database away.
-  pub content_steps : (Failed : ℕ → Type 0) (from last : Between host) (es : List Exchange) → Keeps host Lies from → Steps host Failed from es last → TakeDatabase es ⊎ IsStill es from.kept last.kept
+  -- The block reads as it did, or as one of the lines may have written it, unless one of them may have taken the volume away.
+  pub content_steps : (Failed : ℕ → Type 0) (from last : Between host) (es : List Exchange) → Keeps host Lies from → Steps host Failed from es last → TakeVolume volume es ⊎ IsStill es from.kept last.kept
   content_steps Failed from last es keeps (no_step at) = inr (inl refl)
-  content_steps Failed from last es keeps (skipped at mid end rest same idled steps) = elim (content_steps Failed mid last es (keeps_idle host Lies carried from mid idled keeps) steps) [
+  content_steps Failed from last es keeps (skipped at mid end rest same idled steps) = elim (content_steps Failed mid last es (keeps_idle host volume Lies carried from mid idled keeps) steps) [
     | inl takes ↦ inl takes
     | inr (inl kept_on) ↦ inr (inl (kept_on ∙ same.content drive spot))
     | inr (inr written) ↦ inr (inr written)
   ]
-  content_steps Failed from last es keeps (one_step calls at mid end one answer rest unfailed comes said told writes led steps) = elim (keeps_or_takes host Lies carried one from mid led keeps) [
+  content_steps Failed from last es keeps (one_step calls at mid end one answer rest unfailed comes said told writes led steps) = elim (keeps_or_takes host volume Lies carried one from mid led keeps) [
     | inl takes ↦ inl (one, contains_first one rest, takes)
     | inr now ↦ elim (content_steps Failed mid last rest now steps) [
       | inl takes ↦ inl (takes.0, contains_behind one takes.0 rest takes.1, takes.2)

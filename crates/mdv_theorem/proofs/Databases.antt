@@ -27,7 +27,7 @@ use Rattle.mdv_words.specs.declared.command.Alteration.{Alteration}
 use Rattle.mdv_theorem.specs.Exchanges.{Asks, Exchange}
 use Rattle.mdv_theorem.specs.Observed.{DatabasesStay, HaveAnswered}
 use Rattle.mdv_theorem.specs.Words.{HasDatabase, MakesDatabase}
-use Rattle.mdv_theorem.proofs.Aside.{IsAside, alteration_aside, commanded, told_as, where_all}
+use Rattle.mdv_theorem.proofs.Aside.{alteration_all, commanded, told_as, told_some, where_all}
 use Rattle.mdv_theorem.proofs.Enduring.{database_open}
 use Rattle.mdv_theorem.proofs.Refused.{replicas_all}
 use Rattle.mdv_theorem.proofs.Starting.{starts}
@@ -150,8 +150,9 @@ module _ (case : Case) (o : Opened) (opened : case.memory.opened ≡ Some o) whe
   refused_else one (AddListed number force) asks r is = listed_refused 2 refl case o opened number force r is
   refused_else one (DropPlaces slices force) asks r is = first_holds IsElse order (held_of_drop case case.memory.opened slices force) r (subst (λ (p : Option Opened). All IsElse (held_of_drop case p slices force)) (sym opened) (drop_else case o slices force)) is
   refused_else one (Alter alteration) asks r is =
-      (first_holds IsAside order (held_of_alteration case.host case.memory.opened (change_of alteration)) r
-      (subst (λ (p : Option Opened). All IsAside (held_of_alteration case.host p (change_of alteration))) (sym opened) (alteration_aside case.host o one alteration (asks alteration refl))) is).0
+      first_holds IsElse order (held_of_alteration case.host case.memory.opened (change_of alteration)) r
+      (subst (λ (p : Option Opened). All IsElse (held_of_alteration case.host p (change_of alteration))) (sym opened)
+      (alteration_all IsElse (omega arith) (λ bytes room. omega arith) case.host o one alteration (asks alteration refl) (λ its cause holds. told_some its cause))) is
   refused_else one (Read volume at count) asks r is = transfer_refused volume at count r is
   refused_else one (Write volume at what) asks r is = transfer_refused volume at (length (blocks_of what)) r is
   refused_else one (Print names) asks r is = first_holds IsElse order (held_of_print case.memory.opened names) r (subst (λ (p : Option Opened). All IsElse (held_of_print p names)) (sym opened) (print_else names)) is

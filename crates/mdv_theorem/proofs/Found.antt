@@ -22,8 +22,8 @@ use Rattle.mdv_config.specs.Slices.{IsSound}
 use Rattle.mdv_volumes.specs.Databases.{log_of}
 use Rattle.mdv_volumes.specs.Happening.{HasRange, IsCourse, MayHappen, told_by}
 use Rattle.mdv_volumes.specs.History.{Deed, Event, History, history_after, history_after_all}
-use Rattle.mdv_volumes.specs.HistoryLaws.{KeepDatabase, new_history}
-use Rattle.mdv_volumes.specs.Tables.{IsMapOf}
+use Rattle.mdv_volumes.specs.HistoryLaws.{KeepDatabase, KeepVolume, new_history}
+use Rattle.mdv_volumes.proofs.Made.{HasFront}
 use Rattle.mdv_volumes.proofs.Databases.{is_log_of}
 use Rattle.mdv_volumes.proofs.Found.{AreLasting}
 use Rattle.mdv_volumes.proofs.Lasting.{still_logs}
@@ -65,15 +65,15 @@ module _ (drives : Geometry) (name : List ℕ) (made : Image) (before : List Ran
   is_log = is_log_of own.drives now.databases t its.history.stands.databases own_key
 
   -- a volume that was there at some event, where it lay then
-  pub range_found : (first later : List Event) (volume : VolId) (at count : ℕ) → es ≡ first ++ later → (range : HasRange own.drives (history_after_all new_history first).databases own_key volume at count) → KeepDatabase own_key later
-      → AreLasting own.drives (λ table. IsMapOf own.drives table volume range.map) database
-  range_found first later volume at count is range keep =
+  pub range_found : (first later : List Event) (volume : VolId) (at count : ℕ) → es ≡ first ++ later → (range : HasRange own.drives (history_after_all new_history first).databases own_key volume at count) → KeepDatabase own_key later → KeepVolume own_key volume later
+      → AreLasting own.drives (λ table. HasFront own.drives volume range.map table) database
+  range_found first later volume at count is range keep stay =
       let course = subst (IsCourse own.drives new_history) is its_course in
       let there = history_after_all new_history first in
       let logs = still_logs own.drives new_history first (course_front history_after (MayHappen own.drives) new_history first later course) (λ k. empty_is_log own.drives) in
       let same : now ≡ history_after_all there later = ap (history_after_all new_history) is ∙ after_more history_after new_history first later in
-      subst (λ (h : History). AreLasting own.drives (λ table. IsMapOf own.drives table volume range.map) (log_of h.databases own_key)) (sym same)
-      (range_lasts own.drives own_key there later volume at count logs range (course_rest history_after (MayHappen own.drives) new_history first later course) keep)
+      subst (λ (h : History). AreLasting own.drives (λ table. HasFront own.drives volume range.map table) (log_of h.databases own_key)) (sym same)
+      (range_lasts own.drives own_key there later volume at count logs range (course_rest history_after (MayHappen own.drives) new_history first later course) keep stay)
 
   -- A line that was answered, with its events, where neither it nor a line behind it can have taken the database away.
   module _ (front behind : List Exchange) (one : Exchange) (parts : exchanges_by name before ≡ front ++ one ∷ behind) (reply : List ℕ) (told : IsTold one reply) where

@@ -1,9 +1,9 @@
--- What a host had open at any line stays found: over what the run did since, and over any runs of any hosts, each table that a boot may find has its volumes where they lay, unless a line since may have taken the database away.
+-- A volume that a host had open at any line stays found: over what the run did since, and over any runs of any hosts, each table that a boot may find has it where it lay, with more blocks behind or none, unless a line since may have taken it away.
 use Rattle.std.proofs.Common.{◌≡◌, ◌⊎◌, inl, inr, ℕ, List, [], ◌∷◌, ◌++◌, Bool, if◌then◌else◌, Some, refl, sym, ◌∙◌, subst}
-use Rattle.std.proofs.lemmas.List.Elements.{Contains-append_left, Contains-append_right}
 use Rattle.std.proofs.lemmas.Slice.Eq.{bytes_eq-Decides}
 use Rattle.std.specs.Str.{bytes_eq}
 use Rattle.mdv_base.specs.declared.name.Key.TheVariants.{Local}
+use Rattle.mdv_base.specs.declared.name.VolId.{VolId}
 use Rattle.mdv_engine_law.specs.Awake.{Happening}
 use Rattle.mdv_engine_law.specs.Line.{Memory}
 use Rattle.mdv_engine_law.specs.Standing.{IsKnown, Reached, StandsAt}
@@ -11,33 +11,33 @@ use Rattle.mdv_engine_law.specs.declared.host.Host.{Host}
 use Rattle.mdv_engine_law.proofs.Going.{both_courses, may_course}
 use Rattle.mdv_name.specs.declared.geometry.Geometry.{Geometry}
 use Rattle.mdv_run_law.specs.Lives.{HasMetNone, IsBetween, IsHistoryOf, IsNewWord, MayBeFound, OfHost, Ran, as_it_was, crashed, host_of}
-use Rattle.mdv_run_law.specs.Standing.{AreOfRun, Goes, HasMetInRun, RunMoment}
+use Rattle.mdv_run_law.specs.Standing.{AreIdle, AreOfRun, Goes, HasMetInRun, RunMoment}
 use Rattle.mdv_run_law.proofs.Elsewhere.{stands_elsewhere}
 use Rattle.mdv_run_law.proofs.Owning.{none_own}
 use Rattle.mdv_shelf.specs.Everywhere.{Image}
 use Rattle.mdv_shelf.specs.Tale.{Tale}
 use Rattle.mdv_shelf.proofs.Blocks.{both_ways}
 use Rattle.mdv_store.specs.Opened.{Opened}
-use Rattle.mdv_store_law.specs.Log.{IsRising, Log, Version}
+use Rattle.mdv_map.specs.Maps.{Map}
+use Rattle.mdv_store_law.specs.Changes.{OfPlan}
+use Rattle.mdv_store_law.specs.Log.{IsRising, Version}
 use Rattle.mdv_store_law.specs.Machine as machine
 use Rattle.mdv_store_law.proofs.Machine.{after_more, course_more}
 use Rattle.mdv_plan.specs.declared.table.Table.{Table}
 use Rattle.mdv_volumes.specs.Databases.{log_of}
 use Rattle.mdv_volumes.specs.Happening as happening
-use Rattle.mdv_volumes.specs.History.{Crashes, Event, History, Stops, history_after, history_after_all}
-use Rattle.mdv_volumes.specs.HistoryLaws.{KeepDatabase, log_events_of, new_history}
+use Rattle.mdv_volumes.specs.History.{Changed, Crashes, Deleted, Event, History, Stops, history_after, history_after_all}
+use Rattle.mdv_volumes.specs.HistoryLaws.{KeepDatabase, KeepVolume, new_history}
 use Rattle.mdv_volumes.specs.Tables.{IsMapOf}
-use Rattle.mdv_volumes.proofs.Ending.{none_begins}
-use Rattle.mdv_volumes.proofs.Found.{AreLasting, lasting_all, newest_found}
-use Rattle.mdv_volumes.proofs.Keys.{databases_live}
-use Rattle.mdv_volumes.proofs.Made.{map_stays}
+use Rattle.mdv_volumes.proofs.Found.{AreLasting, newest_found}
+use Rattle.mdv_volumes.proofs.Lasting.{lasts_over, volume_kept}
+use Rattle.mdv_volumes.proofs.Made.{HasFront, VolumeStays, front_stays, has_itself}
 use Rattle.mdv_volumes.proofs.Restarts.{restarts_go}
 use Rattle.mdv_theorem.specs.Exchanges.{Exchange, exchanges_of}
-use Rattle.mdv_theorem.specs.Running.{HaveMetNone, Runs, no_run, run_on}
-use Rattle.mdv_theorem.proofs.Ends.{TakeDatabase, lined_ends}
-use Rattle.mdv_theorem.proofs.Lined.{run_lined}
+use Rattle.mdv_theorem.specs.Running.{Runs, no_run, run_on}
+use Rattle.mdv_theorem.proofs.Ends.{TakeVolume, lined_keeps}
+use Rattle.mdv_theorem.proofs.Lined.{idle_quiet, run_lined}
 use Rattle.mdv_theorem.proofs.Sure.{open_lasting, open_newest}
-use Rattle.mdv_theorem.proofs.Tables.{Grows}
 
 -- the lines of a run that are the host's
 abbrev pub run_lines : List ℕ → Ran → List Exchange
@@ -49,22 +49,15 @@ lines_since drives name first from ran t no_run = []
 lines_since drives name first from ran t (run_on before other fresh stretch start old m next script runs of_table new_word stands tells moment found) =
     lines_since drives name first from before old.tale runs ++ run_lines name (record { host = other; fresh = fresh; script = script; bytes = stands.bytes })
 
--- one of more lines
-pub take_before : (lines more : List Exchange) → TakeDatabase lines → TakeDatabase (lines ++ more)
-take_before lines more takes = (takes.0, Contains-append_left lines more takes.0 takes.1, takes.2)
-
-pub take_behind : (lines more : List Exchange) → TakeDatabase more → TakeDatabase (lines ++ more)
-take_behind lines more takes = (takes.0, Contains-append_right lines more takes.0 takes.1, takes.2)
-
-module _ (drives : Geometry) (name : List ℕ) (table : Table) where
+module _ (drives : Geometry) (name : List ℕ) (volume : VolId) (v : Map) where
   abbrev own : Host
   own = host_of drives name 0
 
-  -- it has its volumes
+  -- the table has the volume, whose map begins with that one
   abbrev pub Has : Table → Type 0
-  Has other = Grows own.drives table other
+  Has table = HasFront own.drives volume v table
 
-  -- each table that a boot may find by the history has its volumes
+  -- so has each table that a boot may find by the history
   abbrev pub IsLasting : History → Type 0
   IsLasting h = AreLasting own.drives Has (log_of h.databases (Local name))
 
@@ -85,19 +78,22 @@ module _ (drives : Geometry) (name : List ℕ) (table : Table) where
     pub stands : StandsAt own (history_after_all (history_after_all new_history of.es) run) m
     pub lasting : IsLasting (history_after_all (history_after_all new_history of.es) run)
 
-  -- as long as no end of the database begins
-  pub lasting_on : (h : History) (es : List Event) → machine.IsCourse history_after (Happening own) h es → KeepDatabase (Local name) es → IsLasting h → IsLasting (history_after_all h es)
-  lasting_on h es course keep are =
-      let may = may_course own h es course in
-      subst (λ (lg : Log). AreLasting own.drives Has lg) (sym (databases_live.is (Local name) own.drives h es may))
-      (lasting_all own.drives Has (λ asked old next made has volume v lies. map_stays own.drives volume v asked old next made (has volume v lies)) (log_of h.databases (Local name)) (log_events_of (Local name) es)
-      (databases_live.may (Local name) own.drives h es may) (none_begins (Local name) es keep) are)
+  -- as long as no end of the database begins, and no change by which the volume goes
+  pub lasting_on : (h : History) (es : List Event) → machine.IsCourse history_after (Happening own) h es → KeepDatabase (Local name) es × KeepVolume (Local name) volume es → IsLasting h → IsLasting (history_after_all h es)
+  lasting_on h es course keeps are =
+      lasts_over own.drives (Local name) Has (VolumeStays volume) (front_stays own.drives volume v) h es (may_course own h es course) keeps.0 (volume_kept (Local name) volume es keeps.1) are
+
+  -- events that begin nothing leave it
+  pub idle_lasts : (fresh : ℕ) (h : History) (es : List Event) → machine.IsCourse history_after (Happening own) h es → AreIdle (host_of drives name fresh) es → IsLasting h → IsLasting (history_after_all h es)
+  idle_lasts fresh h es course idle are =
+      let quiet = idle_quiet (host_of drives name fresh) es idle in
+      lasting_on h es course (λ has. quiet (Deleted (Local name)) has, λ change has clears. quiet (Changed (Local name) (OfPlan change)) has) are
 
   -- what is open is the newest table, whose write was answered
-  pub open_lasts : (fresh : ℕ) (memory : Memory) (h : History) (t : Tale) (o : Opened) → IsKnown (host_of drives name fresh) memory h t → memory.opened ≡ Some o → o.table ≡ table → IsLasting h
-  open_lasts fresh memory h t o known opened same = open_lasting (host_of drives name fresh) memory h t o known opened Has (λ volume v lies. subst (λ (b : Table). IsMapOf own.drives b volume v) (sym same) lies)
+  pub open_lasts : (fresh : ℕ) (memory : Memory) (h : History) (t : Tale) (o : Opened) → IsKnown (host_of drives name fresh) memory h t → memory.opened ≡ Some o → IsMapOf own.drives o.table volume v → IsLasting h
+  open_lasts fresh memory h t o known opened lies = open_lasting (host_of drives name fresh) memory h t o known opened Has (has_itself own.drives volume v o.table lies)
 
-  -- so what is open then has the volumes
+  -- so what is open then has the volume
   pub open_has : (fresh : ℕ) (memory : Memory) (h : History) (t : Tale) (o : Opened) → IsKnown (host_of drives name fresh) memory h t → IsLasting h → memory.opened ≡ Some o → Has o.table
   open_has fresh memory h t o known is opened =
       let there = (open_newest (host_of drives name fresh) memory h t o known opened).newest in
@@ -161,27 +157,27 @@ module _ (drives : Geometry) (name : List ℕ) (table : Table) where
 
   -- a run of the host, or of another one
   lasts_own : (one : Ran) (before : List Ran) (t m : Tale) → one.host ≡ name → IsNewWord name one.fresh before → (moment : RunMoment (host_of drives name one.fresh) one.script t m) → moment.bytes ≡ one.bytes → HasMetNone drives name before one.fresh one.script t m → Lasts before t
-      → TakeDatabase (exchanges_of one.script one.bytes) ⊎ LastsNow one before m
+      → TakeVolume volume (exchanges_of one.script one.bytes) ⊎ LastsNow one before m
   lasts_own one before t m host_is new_word moment same none is = by (moment.stands (history_after_all new_history is.of.es) is.of.stands (none_own drives name before one.fresh is.of.es new_word is.of.come)) where
-    by : HasMetInRun (host_of drives name one.fresh) one.script t m (history_after_all new_history is.of.es) ⊎ Goes (host_of drives name one.fresh) (AreOfRun (host_of drives name one.fresh) one.script moment.bytes) Reached m (history_after_all new_history is.of.es) → TakeDatabase (exchanges_of one.script one.bytes) ⊎ LastsNow one before m
+    by : HasMetInRun (host_of drives name one.fresh) one.script t m (history_after_all new_history is.of.es) ⊎ Goes (host_of drives name one.fresh) (AreOfRun (host_of drives name one.fresh) one.script moment.bytes) Reached m (history_after_all new_history is.of.es) → TakeVolume volume (exchanges_of one.script one.bytes) ⊎ LastsNow one before m
     by (inl met) = absurd (none is.held is.of met)
     by (inr went) =
         let host = host_of drives name one.fresh in
         let there = history_after_all new_history is.of.es in
         let come : AreOfRun host one.script one.bytes went.es = subst (λ (l : List ℕ). AreOfRun host one.script l went.es) same went.come in
-        elim (lined_ends drives name (exchanges_of one.script one.bytes) went.es (run_lined drives name one.fresh one.script one.bytes went.es come)) [
+        elim (lined_keeps drives name volume (exchanges_of one.script one.bytes) went.es (run_lined drives name one.fresh one.script one.bytes went.es come)) [
           | inl takes ↦ inl takes
           | inr keeps ↦ inr (run_lasts before one.fresh t m is.held is.of one host_is refl went.es went.course come went.stands (lasting_on there went.es went.course keeps is.lasting))
         ]
 
   pub lasts_run : (one : Ran) (before : List Ran) (t m : Tale) → IsNewWord one.host one.fresh before → (moment : RunMoment (host_of drives one.host one.fresh) one.script t m) → moment.bytes ≡ one.bytes → HasMetNone drives one.host before one.fresh one.script t m → Lasts before t
-      → TakeDatabase (run_lines name one) ⊎ LastsNow one before m
+      → TakeVolume volume (run_lines name one) ⊎ LastsNow one before m
   lasts_run one before t m new_word moment told none is = elim (both_ways (bytes_eq one.host name)) [
     | inl does ↦
         let same : one.host ≡ name = (bytes_eq-Decides one.host name).0 does in
-        let its = subst (λ (h : List ℕ). IsNewWord h one.fresh before → (moment : RunMoment (host_of drives h one.fresh) one.script t m) → moment.bytes ≡ one.bytes → HasMetNone drives h before one.fresh one.script t m → TakeDatabase (exchanges_of one.script one.bytes) ⊎ LastsNow one before m)
+        let its = subst (λ (h : List ℕ). IsNewWord h one.fresh before → (moment : RunMoment (host_of drives h one.fresh) one.script t m) → moment.bytes ≡ one.bytes → HasMetNone drives h before one.fresh one.script t m → TakeVolume volume (exchanges_of one.script one.bytes) ⊎ LastsNow one before m)
         (sym same) (λ new_word moment told none. lasts_own one before t m same new_word moment told none is) in
-        subst (λ (b : Bool). TakeDatabase (if b then exchanges_of one.script one.bytes else []) ⊎ LastsNow one before m) (sym does) (its new_word moment told none)
+        subst (λ (b : Bool). TakeVolume volume (if b then exchanges_of one.script one.bytes else []) ⊎ LastsNow one before m) (sym does) (its new_word moment told none)
     | inr never ↦
         let differ : one.host ≡ name → ⊥ = λ same. (let does = (bytes_eq-Decides one.host name).1 same in cc (does, never)) in
         inr (record {
@@ -195,17 +191,3 @@ module _ (drives : Geometry) (name : List ℕ) (table : Table) where
           lasting = is.lasting;
         })
   ]
-
-  -- and any runs
-  pub lasts_runs : (first : List Ran) (from : Tale) (ran : List Ran) (t : Tale) (runs : Runs drives first from ran t) → HaveMetNone runs → Lasts first from → TakeDatabase (lines_since drives name first from ran t runs) ⊎ Lasts ran t
-  lasts_runs first from ran t no_run none is = inr is
-  lasts_runs first from ran t (run_on before other fresh stretch start old m next script runs of_table new_word stands tells moment found) none is =
-      let one : Ran = record { host = other; fresh = fresh; script = script; bytes = stands.bytes } in
-      let since = lines_since drives name first from before old.tale runs in
-      elim (lasts_runs first from before old.tale runs none.0 is) [
-        | inl takes ↦ inl (take_before since (run_lines name one) takes)
-        | inr lasts ↦ elim (lasts_run one before old.tale m.tale new_word stands refl none.1 lasts) [
-          | inl takes ↦ inl (take_behind since (run_lines name one) takes)
-          | inr now ↦ inr (lasts_between one before m.tale next found now)
-        ]
-      ]

@@ -1,18 +1,14 @@
 -- What a line leaves in a block of a volume, behind a crash too: what was left there before, or what the line may have written.
-use Rattle.std.proofs.Common.{◌≡◌, ◌⊎◌, ⊎_elim, inl, inr, ℕ, ◌+◌, false, List, [], ◌∷◌, ◌++◌, length, slice_index_or, Contains, Some, refl, sym, ◌∙◌, subst, arith}
+use Rattle.std.proofs.Common.{◌≡◌, ◌⊎◌, ⊎_elim, inl, inr, ℕ, ◌+◌, false, List, [], ◌∷◌, ◌++◌, length, slice_index_or, Contains, refl, sym, ◌∙◌, subst, arith}
 use Rattle.std.proofs.lemmas.List.Elements.{Contains-append_left, Contains-append_right}
 use Rattle.mdv_base.specs.declared.name.VolId.{VolId}
 use Rattle.mdv_base.specs.declared.refusal.Refusal.{Refusal}
 use Rattle.mdv_base.specs.declared.refusal.Refusal.TheVariants.{IoFault}
-use Rattle.mdv_engine_law.specs.Altering.{change_of}
-use Rattle.mdv_engine_law.specs.Line.{HasBlocks, Memory, asked_by}
 use Rattle.mdv_engine_law.specs.Replies.{IsPlainAnswer, ok_line, refusal_line, text_of}
-use Rattle.mdv_engine_law.specs.Standing.{ArePutBy, LineWrites, WritesOnly}
 use Rattle.mdv_engine_law.specs.declared.answer.Answer.{Answer}
 use Rattle.mdv_engine_law.specs.declared.answer.Answer.TheVariants.{Said, Over}
 use Rattle.mdv_engine_law.specs.declared.answer.Outcome.TheVariants as outcome
 use Rattle.mdv_engine_law.specs.declared.host.Host.{Host}
-use Rattle.mdv_map.specs.Maps.{Map}
 use Rattle.mdv_name.specs.declared.geometry.Geometry.{Geometry}
 use Rattle.mdv_run_law.specs.Lives.{host_of}
 use Rattle.mdv_run_law.specs.Run.{IsMereRefusal, IsSaid, TextWrites}
@@ -22,21 +18,16 @@ use Rattle.mdv_shelf.specs.Tale.{MayLeave, Tale}
 use Rattle.mdv_config.specs.Slices.{IsSound}
 use Rattle.mdv_plan.specs.declared.table.Table.{Table}
 use Rattle.mdv_volumes.proofs.Lists.{contains_first}
-use Rattle.mdv_words.specs.Line as words
-use Rattle.mdv_words.specs.Line.{IsLine, Line, blocks_of}
-use Rattle.mdv_words.specs.declared.command.Command.{Command}
-use Rattle.mdv_words.specs.declared.command.Command.TheVariants.{AddListed, AddPlaces, DropPlaces, Print, Read, Write}
-use Rattle.mdv_words.specs.declared.command.Command.TheVariants as command
-use Rattle.mdv_words.specs.declared.written.Written.{Written as WrittenBlocks}
+use Rattle.mdv_volumes.proofs.Made.{HasFront}
+use Rattle.mdv_words.specs.Line.{blocks_of}
+use Rattle.mdv_words.specs.declared.command.Command.TheVariants.{Write}
 use Rattle.mdv_theorem.specs.Exchanges.{Asks, Exchange, IsTold, MayBeWritten, MayHaveBegun}
 use Rattle.mdv_theorem.proofs.Agreeing.{own_sound}
-use Rattle.mdv_theorem.proofs.Altered.{altered_outside}
-use Rattle.mdv_theorem.proofs.Place.{Spot, at_place, same_block, spot_beside}
-use Rattle.mdv_theorem.proofs.Steps.{told_once}
-use Rattle.mdv_theorem.proofs.Tables.{Grows}
+use Rattle.mdv_theorem.proofs.Place.{Spot, at_place, block_longer, same_block, spot_beside}
+use Rattle.mdv_theorem.proofs.Steps.{Between, told_once}
+use Rattle.mdv_theorem.proofs.Sure.{sure_table}
+use Rattle.mdv_theorem.proofs.Tables.{Keeps, WroteThere, open_keeps, text_kept}
 use Rattle.mdv_theorem.proofs.Telling.{entries_are_none, is_fault, ok_is_none, one_number, quiet_is_none, values_are_none}
-use Rattle.mdv_store.specs.Opened.{Opened}
-use Rattle.mdv_engine_law.specs.Hosts.{opened_area}
 use Rattle.mdv_shown.specs.Site.{site_area}
 
 -- a refusal for another cause than a failed call, or that one
@@ -78,10 +69,6 @@ module _ (drives : Geometry) (name : List ℕ) where
   abbrev pub own : Host
   own = host_of drives name 0
 
-  -- what is open has no volume but those of the table, and its places lie where a boot looks
-  abbrev pub IsInto : Table → Memory → Type 0
-  IsInto final memory = ((o : Opened) → memory.opened ≡ Some o → Grows own.drives o.table final) × ((drive block : ℕ) → site_area own.site drive block ≡ false → opened_area memory.opened drive block ≡ false)
-
   module _ (sound : IsSound drives) (of_table : Contains drives.hosts name) (final : Table) (volume : VolId) (number : ℕ) (spot : Spot own.drives final volume number) where
     abbrev drive : ℕ
     drive = spot.at.drive
@@ -105,41 +92,31 @@ module _ (drives : Geometry) (name : List ℕ) where
     pub none_leaves : (es : List Exchange) (t u : Tale) → KeptOutside nowhere t u → AreLeft es t u
     none_leaves es t u kept = kept_leaves volume number drive block es t u (kept drive block refl)
 
-    -- the table that is open has no volume but those of that one
-    module _ (fresh : ℕ) (memory : Memory) (into : IsInto final memory) (one : Exchange) (t u : Tale) where
+    -- At a place between two lines, where each table that a boot may find has the volume, and so the open one.
+    module _ (fresh : ℕ) (at : Between (host_of drives name fresh)) (keeps : Keeps (host_of drives name fresh) (HasFront own.drives volume spot.map) at) (one : Exchange) (t u : Tale) (begun : MayHaveBegun one) where
       abbrev its_host : Host
       its_host = host_of drives name fresh
 
-      put_leaves : (other : VolId) (at : ℕ) (what : WrittenBlocks) → Asks one (Write other at what) → MayHaveBegun one → (w : Map) → HasBlocks its_host memory other at (length (blocks_of what)) w → ArePutBy w at (blocks_of what) t u → AreLeft (one ∷ []) t u
-      put_leaves other at what asks begun w there put = elim (off_or_there w at (length (blocks_of what)) drive block) [
-        | inl off ↦ kept_leaves volume number drive block (one ∷ []) t u (put.outside drive block off)
+      put_leaves : WroteThere its_host at.kept.memory one.text t u → AreLeft (one ∷ []) t u
+      put_leaves wrote = elim (off_or_there wrote.map wrote.at (length (blocks_of wrote.what)) drive block) [
+        | inl off ↦ kept_leaves volume number drive block (one ∷ []) t u (wrote.put.outside drive block off)
         | inr (k, below, has) ↦
+            let there = wrote.there in
             let bound = there.within in
-            let its = into.0 there.o there.opened other w there.lies in
-            let same = same_block own.drives its_sound final spot.plan volume other spot.map w number (at + k) drive block spot.lies its spot.at.within (omega (arith, below, bound)) (at_place spot.map number spot.at) has in
-            let new = slice_index_or (blocks_of what) k [] in
+            let lies = open_keeps its_host (HasFront own.drives volume spot.map) at there.o keeps there.opened in
+            let its = block_longer spot.map lies.0 number lies.2 spot.at in
+            let plan = sure_table its_host at.kept there.o at.sure there.opened in
+            let same = same_block own.drives its_sound there.o.table plan volume wrote.volume lies.0 wrote.map number (wrote.at + k) drive block lies.1 there.lies its.within (omega (arith, below, bound)) (at_place lies.0 number its) has in
+            let new = slice_index_or (blocks_of wrote.what) k [] in
             let may : MayBeWritten volume number new one = record {
-              writes = record { at = at; what = what; asks = subst (λ (v : VolId). Asks one (Write v at what)) same.0 asks; place = k; within = below; numbered = sym same.1; value = refl };
+              writes = record { at = wrote.at; what = wrote.what; asks = subst (λ (v : VolId). Asks one (Write v wrote.at wrote.what)) same.0 wrote.spelled; place = k; within = below; numbered = sym same.1; value = refl };
               begun = begun;
             } in
-            λ x left. ⊎_elim (λ before. inl before) (λ wrote. inr (one, new, contains_first one [], may, wrote)) ((put.inside k drive block below has).left x left)
+            λ x left. ⊎_elim (λ before. inl before) (λ is. inr (one, new, contains_first one [], may, is)) ((wrote.put.inside k drive block below has).left x left)
       ]
 
-      pub command_leaves : (spelled : Command) → Asks one spelled → MayHaveBegun one → WritesOnly its_host (asked_by its_host spelled) memory t u → AreLeft (one ∷ []) t u
-      command_leaves (AddPlaces slices force count blocks) asks begun wrote = site_leaves (one ∷ []) t u wrote.0
-      command_leaves (AddListed number force) asks begun wrote = site_leaves (one ∷ []) t u wrote.0
-      command_leaves (DropPlaces slices force) asks begun wrote = site_leaves (one ∷ []) t u wrote.0
-      command_leaves (command.Alter alteration) asks begun wrote = site_leaves (one ∷ []) t u (λ d b out. altered_outside its_host memory (change_of alteration) t u wrote d b (into.1 d b out))
-      command_leaves (Read other at count) asks begun wrote = none_leaves (one ∷ []) t u wrote
-      command_leaves (Write other at what) asks begun (inl kept) = none_leaves (one ∷ []) t u kept
-      command_leaves (Write other at what) asks begun (inr (w, there, put)) = put_leaves other at what asks begun w there put
-      command_leaves (Print names) asks begun wrote = none_leaves (one ∷ []) t u wrote
-
-      spelled_leaves : (spelled : Line) → IsLine one.text spelled → MayHaveBegun one → LineWrites its_host spelled memory t u → AreLeft (one ∷ []) t u
-      spelled_leaves words.Boot is begun wrote = site_leaves (one ∷ []) t u wrote
-      spelled_leaves (words.Tab lines) is begun wrote = none_leaves (one ∷ []) t u wrote
-      spelled_leaves (words.Exec asked) is begun wrote = command_leaves asked is begun wrote
-
-      pub text_leaves : MayHaveBegun one → TextWrites its_host memory one.text t u → AreLeft (one ∷ []) t u
-      text_leaves begun (inl kept) = none_leaves (one ∷ []) t u kept
-      text_leaves begun (inr (spelled, is, wrote)) = spelled_leaves spelled is begun wrote
+      pub text_leaves : TextWrites its_host at.kept.memory one.text t u → AreLeft (one ∷ []) t u
+      text_leaves writes = elim (text_kept its_host refl at.kept at.sure one.text t u drive block spot_out writes) [
+        | inl kept ↦ kept_leaves volume number drive block (one ∷ []) t u kept
+        | inr wrote ↦ put_leaves wrote
+      ]

@@ -1,12 +1,10 @@
 -- What a run leaves in a block of a volume, up to one of its moments: what was there as it began, or what one of its lines may have written.
-use Rattle.std.proofs.Common.{◌≡◌, ◌⊎◌, inl, inr, ℕ, ◌+◌, List, [], ◌∷◌, ◌++◌, length, take, Option, Some, None, false, refl, sym, ◌∙◌, ap, subst, append_assoc, Contains}
+use Rattle.std.proofs.Common.{◌≡◌, ◌⊎◌, inl, inr, ℕ, ◌+◌, List, [], ◌∷◌, ◌++◌, length, take, Some, None, refl, sym, ◌∙◌, ap, subst, append_assoc, Contains}
 use Rattle.std.proofs.lemmas.List.{append-nil, append_cancel_left}
 use Rattle.mdv_base.specs.declared.name.VolId.{VolId}
-use Rattle.mdv_engine_law.specs.Line.{Kept, Memory, asked_by}
+use Rattle.mdv_engine_law.specs.Line.{Kept}
 use Rattle.mdv_engine_law.specs.Replies.{IsReply, text_of}
-use Rattle.mdv_engine_law.specs.Standing.{WritesOnly}
 use Rattle.mdv_engine_law.specs.Awake.{Happening}
-use Rattle.mdv_engine_law.specs.Hosts.{opened_area}
 use Rattle.mdv_engine_law.specs.declared.answer.Answer.{Answer}
 use Rattle.mdv_engine_law.specs.declared.answer.Answer.TheVariants.{Said, Over}
 use Rattle.mdv_engine_law.specs.declared.host.Host.{Host}
@@ -16,39 +14,33 @@ use Rattle.mdv_name.specs.declared.geometry.Geometry.{Geometry}
 use Rattle.mdv_port.specs.Script.{Script, at_end, line, spent, too_long}
 use Rattle.mdv_run_law.specs.Lives.{host_of}
 use Rattle.mdv_run_law.specs.Standing.{ComeOf, NothingLeft, context_of}
-use Rattle.mdv_run_law.specs.Run.{At, Counts, IsNextFront, IsMereRefusal, IsSaid, LineTold, LinesTold, NextFront, NextLine, NextWrites, Stretch, drive_failures, no_line, one_more}
+use Rattle.mdv_run_law.specs.Run.{At, Counts, IsNextFront, IsMereRefusal, IsSaid, LineTold, LinesTold, NextFront, NextLine, NextWrites, Stretch, TextWrites, drive_failures, no_line, one_more}
 use Rattle.mdv_run_law.specs.Told.{WorkWrites}
-use Rattle.mdv_run_law.proofs.Placing.{never_shut, opened_twice}
 use Rattle.mdv_run_law.proofs.Course.{answer_plain, refused_plain, said_reply}
 use Rattle.mdv_engine_law.specs.Replies.{IsPlainAnswer}
 use Rattle.mdv_shelf.specs.Area.{KeptOutside, nowhere}
 use Rattle.mdv_shelf.specs.Story.{Moment, Story, tale_of}
 use Rattle.mdv_shelf.specs.Moments.{IsSince}
 use Rattle.mdv_shelf.specs.Tale.{Tale, told}
-use Rattle.mdv_shown.specs.Site.{site_area}
-use Rattle.mdv_store.specs.Opened.{Opened}
+use Rattle.mdv_map.specs.Maps.{Map}
 use Rattle.mdv_store_law.specs.Machine as machine
 use Rattle.mdv_store_law.proofs.Machine.{after_more, course_more}
 use Rattle.mdv_status.specs.Telling.{Said as SaidBytes, replies_in}
 use Rattle.mdv_config.specs.Slices.{IsSound}
 use Rattle.mdv_plan.specs.declared.table.Table.{Table}
 use Rattle.mdv_volumes.specs.History.{Event, History, history_after, history_after_all}
-use Rattle.mdv_words.specs.Line as words
-use Rattle.mdv_words.specs.Line.{Exec, IsLine}
-use Rattle.mdv_words.specs.declared.command.Command.{Command}
 use Rattle.mdv_theorem.specs.Exchanges.{Exchange, MayHaveBegun, exchanges, exchanges_of}
 use Rattle.mdv_theorem.proofs.Given.{Given}
 use Rattle.mdv_theorem.proofs.Lined.{AreLined, AreQuiet, AreReplied, alone, idle_quiet, line_replied, lined_more, said_of}
 use Rattle.mdv_theorem.proofs.Lines.{never_in}
 use Rattle.mdv_theorem.proofs.Come.{HasCome, HasMetNothing}
-use Rattle.mdv_theorem.proofs.Ends.{TakeDatabase, lined_ends}
-use Rattle.mdv_theorem.proofs.Later.{IsLasting, lasting_on, open_lasts, take_before, take_behind}
+use Rattle.mdv_theorem.proofs.Ends.{TakeVolume, lined_keeps, take_before, take_behind}
+use Rattle.mdv_theorem.proofs.Later.{IsLasting, lasting_on}
 use Rattle.mdv_theorem.proofs.Place.{Spot}
-use Rattle.mdv_theorem.proofs.Leaving.{Leaves, begun_or_quiet, command_leaves, site_leaves, leaves_more, none_leaves, own, text_leaves, IsInto}
+use Rattle.mdv_theorem.proofs.Leaving.{Leaves, begun_or_quiet, leaves_more, none_leaves, own, text_leaves}
 use Rattle.mdv_theorem.proofs.Replying.{none_or_whole}
-use Rattle.mdv_theorem.proofs.Steps.{take_none}
-use Rattle.mdv_theorem.proofs.Tables.{Grows}
-use Rattle.mdv_theorem.proofs.Sure.{IsSureAt, SureOn, opened_outside, since_last, sure_on}
+use Rattle.mdv_theorem.proofs.Steps.{known_at, take_none}
+use Rattle.mdv_theorem.proofs.Sure.{IsSure, IsSureAt, SureOn, since_last, sure_on}
 
 -- the answer is told, or nothing is
 pub said_or_over : (answer : Answer) → IsSaid answer ⊎ (text_of answer ≡ [])
@@ -102,9 +94,9 @@ module _ (drives : Geometry) (name : List ℕ) (sound : IsSound drives) (of_tabl
     abbrev pub CameBefore : At → Type 0
     CameBefore at = (u : Story) → at.story ≡ Some u → IsSince (tale_of u) m
 
-    -- each table that a boot may find there has the volumes of that one
-    abbrev pub LastsAt : Table → (at : At) → KnownAt at → Type 0
-    LastsAt table at sure = IsLasting drives name table (history_after_all h sure.come.es)
+    -- each table that a boot may find there has the volume, where it lay
+    abbrev pub LastsAt : VolId → Map → (at : At) → KnownAt at → Type 0
+    LastsAt volume v at sure = IsLasting drives name volume v (history_after_all h sure.come.es)
 
     -- where lines led from a place between two: the history went on by their events
     pub record Gone (now last : At) (sure : KnownAt now) (lines : List Exchange) : Type 0 where
@@ -114,11 +106,11 @@ module _ (drives : Geometry) (name : List ℕ) (sound : IsSound drives) (of_tabl
       pub lined : AreLined drives name lines fs
       pub is : history_after_all h next.come.es ≡ history_after_all (history_after_all h sure.come.es) fs
 
-    -- so what lasted lasts, or one of them may have taken the database away
-    pub gone_lasts : (now last : At) (sure : KnownAt now) (lines : List Exchange) (gone : Gone now last sure lines) (table : Table) → LastsAt table now sure → TakeDatabase lines ⊎ LastsAt table last gone.next
-    gone_lasts now last sure lines gone table lasts = elim (lined_ends drives name lines gone.fs gone.lined) [
+    -- so what lasted lasts, or one of them may have taken it away
+    pub gone_lasts : (now last : At) (sure : KnownAt now) (lines : List Exchange) (gone : Gone now last sure lines) (volume : VolId) (v : Map) → LastsAt volume v now sure → TakeVolume volume lines ⊎ LastsAt volume v last gone.next
+    gone_lasts now last sure lines gone volume v lasts = elim (lined_keeps drives name volume lines gone.fs gone.lined) [
       | inl takes ↦ inl takes
-      | inr keeps ↦ inr (subst (IsLasting drives name table) (sym gone.is) (lasting_on drives name table (history_after_all h sure.come.es) gone.fs gone.course keeps lasts))
+      | inr keeps ↦ inr (subst (IsLasting drives name volume v) (sym gone.is) (lasting_on drives name volume v (history_after_all h sure.come.es) gone.fs gone.course keeps lasts))
     ]
 
     -- a line leads on
@@ -178,49 +170,57 @@ module _ (drives : Geometry) (name : List ℕ) (sound : IsSound drives) (of_tabl
     abbrev AreLeft : List Exchange → Tale → Tale → Type 0
     AreLeft es t u = Leaves volume number spot.at.drive spot.at.block es t u
 
-    abbrev Into : Memory → Type 0
-    Into = IsInto drives name final
+    abbrev its_map : Map
+    its_map = spot.map
+
+    -- a place between two lines, by a history by which each table that a boot may find has the volume
+    pub record Lasting (kept : Kept) : Type 0 where
+      pub sure : IsSure host kept
+      pub lasts : IsLasting drives name volume spot.map sure.history
+
+    -- by one of these lines
+    module _ (kept : Kept) (place : Lasting kept) (one : Exchange) (t u : Tale) (begun : MayHaveBegun one) where
+      line_left : TextWrites host kept.memory one.text t u → AreLeft (one ∷ []) t u
+      line_left wrote = text_leaves drives name sound of_table final volume number spot fresh (record { kept = kept; sure = place.sure }) place.lasts one t u begun wrote
 
     script_leaves : (now later : Counts) (kept next : Kept) (script more : Script) (answer : Answer) (t u : Tale) → NextLine host now kept script answer later next more → IsSaid answer → NextWrites host kept.memory script t u
-        → (IsMereRefusal answer → KeptOutside nowhere t u) → Into kept.memory → AreLeft (said_of script (text_of answer)) t u
-    script_leaves now later kept next at_end more answer t u is said wrote quiet into = absurd is
-    script_leaves now later kept next (spent lines bytes) more answer t u is said wrote quiet into = absurd is
-    script_leaves now later kept next (too_long left) more answer t u is said wrote quiet into = none_leaves drives name sound of_table final volume number spot [] t u wrote
-    script_leaves now later kept next (line text left) more answer t u is said wrote quiet into = elim (begun_or_quiet one answer (answer_plain (drive_failures now later) host kept next answer text is.2) said refl) [
-      | inl begun ↦ text_leaves drives name sound of_table final volume number spot fresh kept.memory into one t u begun wrote
+        → (IsMereRefusal answer → KeptOutside nowhere t u) → Lasting kept → AreLeft (said_of script (text_of answer)) t u
+    script_leaves now later kept next at_end more answer t u is said wrote quiet place = absurd is
+    script_leaves now later kept next (spent lines bytes) more answer t u is said wrote quiet place = absurd is
+    script_leaves now later kept next (too_long left) more answer t u is said wrote quiet place = none_leaves drives name sound of_table final volume number spot [] t u wrote
+    script_leaves now later kept next (line text left) more answer t u is said wrote quiet place = elim (begun_or_quiet one answer (answer_plain (drive_failures now later) host kept next answer text is.2) said refl) [
+      | inl begun ↦ line_left kept place one t u begun wrote
       | inr none ↦ none_leaves drives name sound of_table final volume number spot (one ∷ []) t u (quiet none)
     ] where
       one : Exchange
       one = record { text = text; reply = Some (text_of answer) }
 
-    -- What is open before it is what lasts behind it.
-    pub line_leaves : (now mid : At) (piece : List ℕ) (line_told : LineTold host now piece mid) (s v : Story) → now.story ≡ Some s → mid.story ≡ Some v → Into now.kept.memory → AreLeft (said_of now.script (text_of line_told.answer)) (tale_of s) (tale_of v)
-    line_leaves now mid piece line_told s v is is_v into =
-        script_leaves now.counts mid.counts now.kept mid.kept now.script mid.script line_told.answer (tale_of s) (tale_of v) line_told.comes line_told.said (line_told.writes s v is is_v) (λ quiet. line_told.unwritten (inl quiet) s v is is_v) into
+    pub line_leaves : (now mid : At) (piece : List ℕ) (line_told : LineTold host now piece mid) (s v : Story) → now.story ≡ Some s → mid.story ≡ Some v → Lasting now.kept → AreLeft (said_of now.script (text_of line_told.answer)) (tale_of s) (tale_of v)
+    line_leaves now mid piece line_told s v is is_v place =
+        script_leaves now.counts mid.counts now.kept mid.kept now.script mid.script line_told.answer (tale_of s) (tale_of v) line_told.comes line_told.said (line_told.writes s v is is_v) (λ quiet. line_told.unwritten (inl quiet) s v is is_v) place
 
     -- the line in work, which was told nothing, or its whole reply
-    module _ (text : List ℕ) (more : Script) (spelled : Command) (is : IsLine text (Exec spelled)) (memory : Memory) (into : Into memory) (s m : Tale) (wrote : WritesOnly host (asked_by host spelled) memory s m) where
+    module _ (text : List ℕ) (more : Script) (kept : Kept) (place : Lasting kept) (s m : Tale) (wrote : TextWrites host kept.memory text s m) where
       untold_leaves : AreLeft (exchanges (line text more) []) s m
-      untold_leaves =
-          command_leaves drives name sound of_table final volume number spot fresh memory into (record { text = text; reply = None }) s m spelled is (λ refusal told. absurd (cc (told))) wrote
+      untold_leaves = line_left kept place (record { text = text; reply = None }) s m (λ refusal told. absurd (cc (told))) wrote
 
       told_leaves : (reply : List ℕ) → MayHaveBegun (record { text = text; reply = Some reply }) → AreLeft (exchanges (line text more) (reply ∷ [])) s m
       told_leaves reply begun =
           let one : Exchange = record { text = text; reply = Some reply } in
-          leaves_more volume number spot.at.drive spot.at.block (one ∷ []) (exchanges more []) s m m (command_leaves drives name sound of_table final volume number spot fresh memory into one s m spelled is begun wrote) (λ x may. inl may)
+          leaves_more volume number spot.at.drive spot.at.block (one ∷ []) (exchanges more []) s m m (line_left kept place one s m begun wrote) (λ x may. inl may)
 
-    module _ (at : At) (s : Story) (m : Moment) (is : at.story ≡ Some s) (rest : List ℕ) (front : IsNextFront host at rest m) (into : Into at.kept.memory) where
-      -- what was told of the command
-      module _ (text : List ℕ) (more : Script) (same : at.script ≡ line text more) (spelled : Command) (asks : IsLine text (Exec spelled)) (wrote : WritesOnly host (asked_by host spelled) at.kept.memory (tale_of s) m.tale) where
+    module _ (at : At) (s : Story) (m : Moment) (is : at.story ≡ Some s) (rest : List ℕ) (front : IsNextFront host at rest m) (place : Lasting at.kept) where
+      -- what was told of the line
+      module _ (text : List ℕ) (more : Script) (same : at.script ≡ line text more) (wrote : TextWrites host at.kept.memory text (tale_of s) m.tale) where
         quiet_leaves : replies_in rest ≡ [] → AreLeft (exchanges_of at.script rest) (tale_of s) m.tale
-        quiet_leaves none = subst (λ (l : List Exchange). AreLeft l (tale_of s) m.tale) (sym (ap (exchanges at.script) none ∙ ap (λ (c : Script). exchanges c []) same)) (untold_leaves text more spelled asks at.kept.memory into (tale_of s) m.tale wrote)
+        quiet_leaves none = subst (λ (l : List Exchange). AreLeft l (tale_of s) m.tale) (sym (ap (exchanges at.script) none ∙ ap (λ (c : Script). exchanges c []) same)) (untold_leaves text more at.kept place (tale_of s) m.tale wrote)
 
         whole_leaves : (told : NextFront host at rest m) → IsSaid told.answer → IsPlainAnswer told.answer → rest ≡ text_of told.answer → replies_in rest ≡ text_of told.answer ∷ [] → AreLeft (exchanges_of at.script rest) (tale_of s) m.tale
         whole_leaves told said plain whole alone =
             let one : Exchange = record { text = text; reply = Some (text_of told.answer) } in
             elim (begun_or_quiet one told.answer plain said refl) [
               | inl begun ↦ subst (λ (l : List Exchange). AreLeft l (tale_of s) m.tale) (sym (ap (exchanges at.script) alone ∙ ap (λ (c : Script). exchanges c (text_of told.answer ∷ [])) same))
-                  (told_leaves text more spelled asks at.kept.memory into (tale_of s) m.tale wrote (text_of told.answer) begun)
+                  (told_leaves text more at.kept place (tale_of s) m.tale wrote (text_of told.answer) begun)
               | inr none ↦ none_leaves drives name sound of_table final volume number spot (exchanges_of at.script rest) (tale_of s) m.tale (given.unwritten host at rest m told whole none s is)
             ]
 
@@ -242,57 +242,35 @@ module _ (drives : Geometry) (name : List ℕ) (sound : IsSound drives) (of_tabl
 
       pub work_leaves : WorkWrites host at.kept.memory at.script (tale_of s) m.tale → AreLeft (exchanges_of at.script rest) (tale_of s) m.tale
       work_leaves (inl kept) = none_leaves drives name sound of_table final volume number spot (exchanges_of at.script rest) (tale_of s) m.tale kept
-      work_leaves (inr (text, more, same, words.Boot, is, wrote)) = site_leaves drives name sound of_table final volume number spot (exchanges_of at.script rest) (tale_of s) m.tale wrote
-      work_leaves (inr (text, more, same, words.Tab lines, is, wrote)) = none_leaves drives name sound of_table final volume number spot (exchanges_of at.script rest) (tale_of s) m.tale wrote
-      work_leaves (inr (text, more, same, Exec spelled, asks, wrote)) = work_told text more same spelled asks wrote front
+      work_leaves (inr (text, more, same, spelled, asks, wrote)) = work_told text more same (inr (spelled, asks, wrote)) front
 
-    -- Unless a line took the database away: all that lasts from a place on has no volume but those of that table.
-    module _ (Away : Type 0) (script : Script) (h : History) (t m : Tale) (none : HasMetNothing host script h t m) where
+    -- Where the volume lasts it lasts over lines, which leave no other values than these; unless one of them may have taken it away.
+    module _ (script : Script) (h : History) (t m : Tale) (none : HasMetNothing host script h t m) where
       abbrev Sure : At → Type 0
       Sure = KnownAt script h t m none
 
-      abbrev pub AreInto : (at : At) → Sure at → Type 0
-      AreInto at sure = (table : Table) → LastsAt script h t m none table at sure → Away ⊎ Grows (own drives name).drives table final
+      abbrev pub Lasts : (at : At) → Sure at → Type 0
+      Lasts at sure = LastsAt script h t m none volume its_map at sure
 
-      into_or_away : (memory : Memory) → ((o : Opened) → memory.opened ≡ Some o → Away ⊎ Grows (own drives name).drives o.table final) → ((drive block : ℕ) → site_area (own drives name).site drive block ≡ false → opened_area memory.opened drive block ≡ false) → Away ⊎ Into memory
-      into_or_away memory into outside = by memory.opened refl where
-        by : (x : Option Opened) → memory.opened ≡ x → Away ⊎ Into memory
-        by None shut = inr ((λ o opened. absurd (never_shut memory.opened o shut opened)), outside)
-        by (Some o) opened = elim (into o opened) [
-          | inl away ↦ inl away
-          | inr grows ↦ inr ((λ other also. subst (λ (p : Opened). Grows (own drives name).drives p.table final) (sym (opened_twice memory.opened o other opened also)) grows), outside)
-        ]
-
-      pub open_into : (at : At) (sure : Sure at) → AreInto at sure → Away ⊎ Into at.kept.memory
-      open_into at sure into =
-          let there = history_after_all h sure.come.es in
-          into_or_away at.kept.memory (λ o opened. into o.table (open_lasts drives name o.table fresh at.kept.memory there (tale_of sure.story) o sure.come.known opened refl))
-          (opened_outside host refl at.kept.memory there (tale_of sure.story) sure.come.known)
-
-      -- from before lines that led on
-      pub into_before : (now last : At) (sure : Sure now) (lines : List Exchange) (gone : Gone script h t m none now last sure lines) → (TakeDatabase lines → Away) → AreInto last gone.next → AreInto now sure
-      into_before now last sure lines gone takes into table lasts = elim (gone_lasts script h t m none now last sure lines gone table lasts) [ inl taken ↦ inl (takes taken) | inr still ↦ into table still ]
+      pub lasting_at : (at : At) (sure : Sure at) → Lasts at sure → Lasting at.kept
+      lasting_at at sure lasts = record { sure = known_at host script h t at sure; lasts = lasts }
 
       -- what lines leave, one behind the other
-      abbrev LinesLeave : (now last : At) → Sure now → List Exchange → Type 0
-      LinesLeave now last sure lines = (end : Sure last) × AreLeft lines (tale_of sure.story) (tale_of end.story)
+      abbrev pub LinesLeave : (now last : At) → Sure now → List Exchange → Type 0
+      LinesLeave now last sure lines = (end : Sure last) × Lasts last end × AreLeft lines (tale_of sure.story) (tale_of end.story)
 
-      pub lines_leave : (stretch : Stretch) (n : ℕ) (now last : At) (front : List ℕ) (lines : LinesTold host stretch n now front last) (sure : Sure now) → CameBefore script h t m none last → (TakeDatabase (lines_here host stretch n now last front lines) → Away)
-          → ((end : Sure last) → AreInto last end) → Away ⊎ LinesLeave now last sure (lines_here host stretch n now last front lines)
-      lines_leave stretch n now last front (no_line bytes at) sure since takes into = inr (sure, λ x may. inl may)
-      lines_leave stretch n now last front (one_more bytes at mid end piece left some line_told shown lines) sure since takes into =
+      pub lines_leave : (stretch : Stretch) (n : ℕ) (now last : At) (front : List ℕ) (lines : LinesTold host stretch n now front last) (sure : Sure now) → CameBefore script h t m none last → Lasts now sure
+          → TakeVolume volume (lines_here host stretch n now last front lines) ⊎ LinesLeave now last sure (lines_here host stretch n now last front lines)
+      lines_leave stretch n now last front (no_line bytes at) sure since lasts = inr (sure, lasts, λ x may. inl may)
+      lines_leave stretch n now last front (one_more bytes at mid end piece left some line_told shown lines) sure since lasts =
           let said = said_of now.script (text_of line_told.answer) in
           let more = lines_here host stretch (n + length piece) mid last left lines in
           let first = line_goes script h t m none now mid piece line_told sure (since_last host stretch (n + length piece) mid last left m lines since) in
-          let behind = lines_go script h t m none stretch (n + length piece) mid last left lines first.next since in
-          let into_mid : AreInto mid first.next = into_before mid last first.next more behind (λ taken. takes (take_behind said more taken)) (into behind.next) in
-          let into_now : AreInto now sure = into_before now mid sure said first (λ taken. takes (take_before said more taken)) into_mid in
-          elim (open_into now sure into_now) [
-            | inl away ↦ inl away
-            | inr its ↦ elim (lines_leave stretch (n + length piece) mid last left lines first.next since (λ taken. takes (take_behind said more taken)) into) [
-              | inl away ↦ inl away
-              | inr rest ↦
-                  let here = line_leaves now mid piece line_told sure.story first.next.story sure.is first.next.is its in
-                  inr (rest.0, leaves_more volume number spot.at.drive spot.at.block said more (tale_of sure.story) (tale_of first.next.story) (tale_of rest.0.story) here rest.1)
+          let here = line_leaves now mid piece line_told sure.story first.next.story sure.is first.next.is (lasting_at now sure lasts) in
+          elim (gone_lasts script h t m none now mid sure said first volume its_map lasts) [
+            | inl takes ↦ inl (take_before volume said more takes)
+            | inr still ↦ elim (lines_leave stretch (n + length piece) mid last left lines first.next since still) [
+              | inl takes ↦ inl (take_behind volume said more takes)
+              | inr (end, on, rest) ↦ inr (end, on, leaves_more volume number spot.at.drive spot.at.block said more (tale_of sure.story) (tale_of first.next.story) (tale_of end.story) here rest)
             ]
           ]

@@ -4,6 +4,7 @@ mod Zeros
 mod Lines
 mod Slices
 mod Place
+mod Spots
 mod Come
 mod Lined
 mod Lists
@@ -27,6 +28,7 @@ mod Replying
 mod Leading
 mod Reaching
 mod Having
+mod Levels
 mod Altered
 mod Steps
 mod Tables
@@ -61,6 +63,8 @@ mod Tail
 mod Over
 mod Carried
 mod Until
+mod Put
+mod Held
 mod Sited
 mod Losing
 mod Rising

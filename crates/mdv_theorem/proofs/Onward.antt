@@ -14,7 +14,7 @@ use Rattle.mdv_home.specs.View.{own_view}
 use Rattle.mdv_name.specs.declared.geometry.Geometry.{Geometry}
 use Rattle.mdv_port.specs.Script.{Script, at_end, line, spent, too_long}
 use Rattle.mdv_run_law.specs.Lives.{HasMetNone, IsHistoryOf, IsNewWord, MayBeFound, OfHost, Ran, host_of}
-use Rattle.mdv_run_law.specs.Run.{At, Counts, IsAnswered, IsSaid, LinesTold, NextLine, Stretch, behind_boot, drive_failures, no_line, one_more}
+use Rattle.mdv_run_law.specs.Run.{At, Counts, IsAnswered, IsSaid, LineTold, LinesTold, NextLine, Stretch, behind_boot, drive_failures, no_line, one_more}
 use Rattle.mdv_run_law.specs.Standing.{AreOfRun, ComeOf, NothingLeft, RunMoment, context_of}
 use Rattle.mdv_run_law.specs.Told.{IsToldBy, RunToldBy}
 use Rattle.mdv_run_law.proofs.Coming.{in_work_none}
@@ -108,18 +108,24 @@ module _ (drives : Geometry) (name : List ℕ) (Says : List Exchange → Memory 
         EachSays n now last left lines =
             (front : List ℕ) (place : At) (upto : LinesTold host stretch n now front place) (k : ℕ) (rest : List ℕ) → LinesTold host stretch k place rest last → Says (lines ++ lines_here host stretch n now place front upto) place.kept.memory
 
+        -- over the next line
+        pub line_on : (now mid : At) (piece : List ℕ) (line_told : LineTold host now piece mid) → ((u : Story) → mid.story ≡ Some u → IsSince (tale_of u) m) → (lines : List Exchange) → Says lines now.kept.memory → IsSoAt lines now → IsSoAt (lines ++ said_of now.script (text_of line_told.answer)) mid
+        line_on now mid piece line_told since lines says so =
+            let on = sure_on host script h t m none now mid piece line_told so.sure since in
+            record { sure = on.next; is = script_on now.counts mid.counts (between now so.sure) (between mid on.next) line_told.answer mid.script line_told.said now.script line_told.comes (line_led host script h t m none now mid piece line_told so.sure on) lines so.is says }
+
+        -- and over lines, one behind the other
         pub lines_on : (n : ℕ) (now last : At) (left : List ℕ) (these : LinesTold host stretch n now left last) → ((u : Story) → last.story ≡ Some u → IsSince (tale_of u) m) → (lines : List Exchange) → EachSays n now last left lines → IsSoAt lines now
             → IsSoAt (lines ++ lines_here host stretch n now last left these) last
         lines_on n now last left (no_line bytes at) since lines each so = record { sure = so.sure; is = subst (λ (l : List Exchange). P l (history_after_all h so.sure.come.es)) (sym (append-nil lines)) so.is }
         lines_on n now last left (one_more bytes at mid end piece behind some line_told shown more) since lines each so =
-            let on = sure_on host script h t m none now mid piece line_told so.sure (λ v is. since_last host stretch (n + length piece) mid last behind m more since v is) in
             let here = said_of now.script (text_of line_told.answer) in
             let rest = lines_here host stretch (n + length piece) mid last behind more in
             let says : Says lines now.kept.memory = subst (λ (l : List Exchange). Says l now.kept.memory) (append-nil lines) (each [] now (no_line n now) n left (one_more n now mid last piece behind some line_told shown more)) in
-            let first = script_on now.counts mid.counts (between now so.sure) (between mid on.next) line_told.answer mid.script line_told.said now.script line_told.comes (line_led host script h t m none now mid piece line_told so.sure on) lines so.is says in
+            let first = line_on now mid piece line_told (λ v is. since_last host stretch (n + length piece) mid last behind m more since v is) lines says so in
             let behind_says : EachSays (n + length piece) mid last behind (lines ++ here) = λ front place upto k others these.
             subst (λ (l : List Exchange). Says l place.kept.memory) (sym (append_assoc lines here (lines_here host stretch (n + length piece) mid place front upto))) (each (piece ++ front) place (one_more n now mid place piece front some line_told shown upto) k others these) in
-            subst (λ (l : List Exchange). IsSoAt l last) (append_assoc lines here rest) (lines_on (n + length piece) mid last behind more since (lines ++ here) behind_says (record { sure = on.next; is = first }))
+            subst (λ (l : List Exchange). IsSoAt l last) (append_assoc lines here rest) (lines_on (n + length piece) mid last behind more since (lines ++ here) behind_says first)
 
   -- what a run leaves of a history
   pub record RunOn (P : List Exchange → History → Type 0) (fresh : ℕ) (script : Script) (bytes : List ℕ) (h : History) (lines : List Exchange) (m : Tale) : Type 0 where

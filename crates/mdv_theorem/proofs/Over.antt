@@ -1,20 +1,16 @@
--- What runs of any hosts leave in a block of a volume, one behind the other.
+-- What runs of any hosts leave in a block of a volume, one behind the other, as long as the volume lasts.
 use Rattle.std.proofs.Common.{◌≡◌, ◌⊎◌, inl, inr, ℕ, Bool, true, List, [], ◌++◌, if◌then◌else◌, sym, ◌∙◌, ap, subst, append_assoc, refl, Contains}
 use Rattle.std.proofs.lemmas.List.{append-nil, append_cancel_left}
 use Rattle.std.proofs.lemmas.Slice.Eq.{bytes_eq-Decides}
 use Rattle.std.specs.Str.{bytes_eq}
 use Rattle.mdv_base.specs.declared.name.VolId.{VolId}
-use Rattle.mdv_engine_law.specs.Hosts.{host_area}
 use Rattle.mdv_name.specs.declared.geometry.Geometry.{Geometry}
 use Rattle.mdv_port.specs.Script.{Script}
-use Rattle.mdv_run_law.specs.Lives.{HasMetNone, IsHistoryOf, MayBeFound, Ran, as_it_was, crashed, host_of, IsLife, IsNewWord}
+use Rattle.mdv_run_law.specs.Lives.{HasMetNone, MayBeFound, Ran, as_it_was, crashed, host_of, IsNewWord}
 use Rattle.mdv_run_law.specs.Run.{Counts, Stretch}
 use Rattle.mdv_run_law.specs.Standing.{RunMoment}
 use Rattle.mdv_run_law.specs.Told.{IsToldBy, RunToldBy}
-use Rattle.mdv_run_law.proofs.Elsewhere.{table_elsewhere}
-use Rattle.mdv_run_law.proofs.Living.{lives_stand}
 use Rattle.mdv_shelf.specs.Area.{KeptOutside}
-use Rattle.mdv_shelf.specs.Everywhere.{Image}
 use Rattle.mdv_shelf.specs.Story.{Moment}
 use Rattle.mdv_shelf.specs.Tale.{Tale, told}
 use Rattle.mdv_shelf.proofs.Blocks.{both_ways}
@@ -25,16 +21,14 @@ use Rattle.mdv_volumes.specs.History.{history_after_all}
 use Rattle.mdv_volumes.specs.HistoryLaws.{new_history}
 use Rattle.mdv_theorem.specs.Exchanges.{Exchange, exchanges_by, exchanges_of}
 use Rattle.mdv_theorem.specs.Running.{HaveMetNone, IsMomentOf, Runs, no_run, run_on}
-use Rattle.mdv_theorem.proofs.Agreeing.{own_sound}
 use Rattle.mdv_theorem.proofs.Come.{HasMetNothing}
-use Rattle.mdv_theorem.proofs.Ends.{TakeDatabase}
+use Rattle.mdv_theorem.proofs.Ends.{TakeVolume, take_before, take_behind}
 use Rattle.mdv_theorem.proofs.Given.{Given}
-use Rattle.mdv_theorem.proofs.Later.{Lasts, LastsNow, lasts_between, lasts_run, lines_since, run_lines, take_before, take_behind}
-use Rattle.mdv_theorem.proofs.Place.{Spot, laid, spot_area}
+use Rattle.mdv_theorem.proofs.Later.{Lasts, lasts_between, lasts_run, lines_since, run_lines}
+use Rattle.mdv_theorem.proofs.Place.{Spot}
 use Rattle.mdv_theorem.proofs.Leaving.{Leaves, kept_leaves, leaves_more, own}
 use Rattle.mdv_theorem.proofs.Tail.{told_leave}
-use Rattle.mdv_theorem.proofs.Living.{runs_live}
-use Rattle.mdv_theorem.proofs.Tables.{Grows}
+use Rattle.mdv_theorem.proofs.Spots.{spot_elsewhere}
 
 -- what is found of a moment holds no more than it did
 pub found_leaves : (volume : VolId) (number drive block : ℕ) (m next : Tale) → MayBeFound m next → Leaves volume number drive block [] m next
@@ -57,66 +51,61 @@ module _ (drives : Geometry) (name : List ℕ) (sound : IsSound drives) (of_tabl
       let one : Ran = record { host = other; fresh = fresh; script = script; bytes = stands.bytes } in
       ap (λ (l : List Exchange). l ++ run_lines name one) (since_are first from before old.tale runs) ∙ append_assoc (exchanges_by name first) (lines_since drives name first from before old.tale runs) (run_lines name one)
 
-  -- Unless one of the lines took the database away: what lasts there has no volume but those of that table.
-  module _ (Away : Type 0) (final : Table) (volume : VolId) (number : ℕ) (spot : Spot (own drives name).drives final volume number) where
+  -- Of a block of a volume, where it lasts.
+  module _ (final : Table) (volume : VolId) (number : ℕ) (spot : Spot (own drives name).drives final volume number) where
     abbrev AreLeft : List Exchange → Tale → Tale → Type 0
     AreLeft es t u = Leaves volume number spot.at.drive spot.at.block es t u
 
-    abbrev pub AllInto : List Ran → Tale → Type 0
-    AllInto ran t = (table : Table) → Lasts drives name table ran t → Away ⊎ Grows (own drives name).drives table final
-
-    abbrev pub NowInto : Ran → List Ran → Tale → Type 0
-    NowInto one before m = (table : Table) → LastsNow drives name table one before m → Away ⊎ Grows (own drives name).drives table final
+    abbrev StillLasts : List Ran → Tale → Type 0
+    StillLasts ran t = Lasts drives name volume spot.map ran t
 
     -- what another host's run leaves
     other_leaves : (other : List ℕ) (fresh : ℕ) (script : Script) (t m : Tale) → (other ≡ name → ⊥) → RunMoment (host_of drives other fresh) script t m → AreLeft [] t m
-    other_leaves other fresh script t m differ moment = elim (both_ways (host_area (host_of drives other fresh) spot.at.drive spot.at.block)) [
-      | inl does ↦ absurd (table_elsewhere drives name other 0 fresh differ final (laid (own drives name).drives (own_sound drives name 0 sound) final spot.plan) volume spot.map spot.lies spot.at.drive spot.at.block does (spot_area (own drives name).drives final volume number spot))
-      | inr never ↦ kept_leaves volume number spot.at.drive spot.at.block [] t m (moment.home spot.at.drive spot.at.block never)
-    ]
+    other_leaves other fresh script t m differ moment =
+        kept_leaves volume number spot.at.drive spot.at.block [] t m (moment.home spot.at.drive spot.at.block (spot_elsewhere drives name sound final volume number spot other fresh differ))
 
     -- a run of whichever host
     any_leaves : (before : List Ran) (other : List ℕ) (fresh : ℕ) (stretch : Stretch) (start : Counts) (script : Script) (t m : Moment) → IsNewWord other fresh before → (stands : RunMoment (host_of drives other fresh) script t.tale m.tale)
-        → IsToldBy (host_of drives other fresh) stretch start script t m → IsMomentOf stretch t m → HasMetNone drives other before fresh script t.tale m.tale → NowInto (record { host = other; fresh = fresh; script = script; bytes = stands.bytes }) before m.tale
-        → (held : Image) → IsHistoryOf drives name held before t.tale → (TakeDatabase (run_lines name (record { host = other; fresh = fresh; script = script; bytes = stands.bytes })) → Away)
-        → Away ⊎ AreLeft (run_lines name (record { host = other; fresh = fresh; script = script; bytes = stands.bytes })) t.tale m.tale
-    any_leaves before other fresh stretch start script t m new_word stands tells moment clean into held of takes = elim (both_ways (bytes_eq other name)) [
+        → IsToldBy (host_of drives other fresh) stretch start script t m → IsMomentOf stretch t m → HasMetNone drives other before fresh script t.tale m.tale → StillLasts before t.tale
+        → TakeVolume volume (run_lines name (record { host = other; fresh = fresh; script = script; bytes = stands.bytes })) ⊎ AreLeft (run_lines name (record { host = other; fresh = fresh; script = script; bytes = stands.bytes })) t.tale m.tale
+    any_leaves before other fresh stretch start script t m new_word stands tells moment clean lasts = elim (both_ways (bytes_eq other name)) [
       | inl does ↦
           let same = (bytes_eq-Decides other name).0 does in
           let its = own_told other fresh stretch start script t m does stands tells in
           let bytes = stands.bytes in
           let told_so : told m.tale ≡ told t.tale ++ bytes = stands.is_told in
-          let now_into : NowInto (record { host = name; fresh = fresh; script = script; bytes = bytes }) before m.tale = subst (λ (n : List ℕ). NowInto (record { host = n; fresh = fresh; script = script; bytes = bytes }) before m.tale) same into in
-          let none : HasMetNothing (host_of drives name fresh) script (history_after_all new_history of.es) t.tale m.tale = subst (λ (n : List ℕ). HasMetNone drives n before fresh script t.tale m.tale) same clean held of in
-          let taking : TakeDatabase (exchanges_of script bytes) → Away = subst (λ (b : Bool). TakeDatabase (if b then exchanges_of script bytes else []) → Away) does takes in
+          let none : HasMetNothing (host_of drives name fresh) script (history_after_all new_history lasts.of.es) t.tale m.tale = subst (λ (n : List ℕ). HasMetNone drives n before fresh script t.tale m.tale) same clean lasts.held lasts.of in
           let begins = moment.begins in
           let tells_by = subst (λ (l : List ℕ). ((l ≡ []) × KeptOutside (site_area (host_of drives name fresh).site) t.tale m.tale) ⊎ RunToldBy (host_of drives name fresh) stretch start t.tale script l m) its.1 its.0.tells in
-          let left = told_leave drives name fresh before script t.tale held of m none bytes told_so sound of_table given Away final volume number spot now_into (subst (λ (n : List ℕ). IsNewWord n fresh before) same new_word) taking stretch start begins.0 begins.1 begins.2 tells_by in
-          subst (λ (b : Bool). Away ⊎ AreLeft (if b then exchanges_of script bytes else []) t.tale m.tale) (sym does) left
+          let left = told_leave drives name fresh before script t.tale lasts.held lasts.of m none bytes told_so sound of_table given final volume number spot (subst (λ (n : List ℕ). IsNewWord n fresh before) same new_word) lasts.lasting stretch start begins.0 begins.1 begins.2 tells_by in
+          subst (λ (b : Bool). TakeVolume volume (if b then exchanges_of script bytes else []) ⊎ AreLeft (if b then exchanges_of script bytes else []) t.tale m.tale) (sym does) left
       | inr never ↦
           inr (subst (λ (b : Bool). AreLeft (if b then exchanges_of script stands.bytes else []) t.tale m.tale) (sym never)
           (other_leaves other fresh script t.tale m.tale (λ same. (let does = (bytes_eq-Decides other name).1 same in cc (does, never))) stands))
     ]
 
     -- what these runs leave
-    pub runs_leave : (made : Image) (first : List Ran) (from : Tale) → IsLife drives made first from → (ran : List Ran) (t : Tale) (runs : Runs drives first from ran t) → HaveMetNone runs → (TakeDatabase (lines_since drives name first from ran t runs) → Away) → AllInto ran t
-        → Away ⊎ AreLeft (lines_since drives name first from ran t runs) from t
-    runs_leave made first from life ran t no_run none takes into = inr (λ x may. inl may)
-    runs_leave made first from life ran t (run_on before other fresh stretch start old m next script runs other_of new_word stands tells moment found) none takes into =
+    pub runs_leave : (first : List Ran) (from : Tale) (ran : List Ran) (t : Tale) (runs : Runs drives first from ran t) → HaveMetNone runs → StillLasts first from
+        → TakeVolume volume (lines_since drives name first from ran t runs) ⊎ (StillLasts ran t × AreLeft (lines_since drives name first from ran t runs) from t)
+    runs_leave first from ran t no_run none lasts = inr (lasts, λ x may. inl may)
+    runs_leave first from ran t (run_on before other fresh stretch start old m next script runs other_of new_word stands tells moment found) none lasts =
         let here : Ran = record { host = other; fresh = fresh; script = script; bytes = stands.bytes } in
         let since = lines_since drives name first from before old.tale runs in
         let more = run_lines name here in
-        let at_end : NowInto here before m.tale = λ table lasts. into table (lasts_between drives name table here before m.tale next found lasts) in
-        let at_start : AllInto before old.tale = λ table lasts. elim (lasts_run drives name table here before old.tale m.tale new_word stands refl none.1 lasts) [ inl taken ↦ inl (takes (take_behind since more taken)) | inr now ↦ at_end table now ] in
-        let history = lives_stand drives name made before old.tale of_table (runs_live drives made first from before old.tale life runs none.0) in
-        elim (runs_leave made first from life before old.tale runs none.0 (λ taken. takes (take_before since more taken)) at_start) [
-          | inl away ↦ inl away
-          | inr done ↦ elim (any_leaves before other fresh stretch start script old m new_word stands tells moment none.1 at_end made history (λ taken. takes (take_behind since more taken))) [
-            | inl away ↦ inl away
-            | inr left ↦
-                let drive = spot.at.drive in
-                let block = spot.at.block in
-                let all = leaves_more volume number drive block more [] old.tale m.tale next left (found_leaves volume number drive block m.tale next found) in
-                inr (leaves_more volume number drive block since more from old.tale next done (subst (λ (l : List Exchange). AreLeft l old.tale next) (append-nil more) all))
+        elim (runs_leave first from before old.tale runs none.0 lasts) [
+          | inl takes ↦ inl (take_before volume since more takes)
+          | inr (still, done) ↦ elim (any_leaves before other fresh stretch start script old m new_word stands tells moment none.1 still) [
+            | inl takes ↦ inl (take_behind volume since more takes)
+            | inr left ↦ elim (lasts_run drives name volume spot.map here before old.tale m.tale new_word stands refl none.1 still) [
+              | inl takes ↦ inl (take_behind volume since more takes)
+              | inr now ↦
+                  let drive = spot.at.drive in
+                  let block = spot.at.block in
+                  let all = leaves_more volume number drive block more [] old.tale m.tale next left (found_leaves volume number drive block m.tale next found) in
+                  inr (
+                    lasts_between drives name volume spot.map here before m.tale next found now,
+                    leaves_more volume number drive block since more from old.tale next done (subst (λ (l : List Exchange). AreLeft l old.tale next) (append-nil more) all),
+                  )
+            ]
           ]
         ]

@@ -10,6 +10,7 @@ use Rattle.mdv_engine_law.specs.declared.host.Host.{Host}
 use Rattle.mdv_home.proofs.Viewing.{view_is_own}
 use Rattle.mdv_home.specs.Drives.{own_drives}
 use Rattle.mdv_home.specs.View.{own_view}
+use Rattle.mdv_layout_law.specs.Chained.{IsFrontOf}
 use Rattle.mdv_layout_law.specs.Laid.{plain_area, takes_volumes}
 use Rattle.mdv_map.specs.Maps.{HasDriveBlock, Map, area_of_map}
 use Rattle.mdv_map.proofs.Covering.{one_of}
@@ -23,6 +24,7 @@ use Rattle.mdv_config.specs.Slices.{IsSound}
 use Rattle.mdv_config.specs.Table.{IsOfGeometry}
 use Rattle.mdv_plan.specs.declared.table.Table.{Table}
 use Rattle.mdv_volumes.specs.Tables.{AreLaid, IsMapOf}
+use Rattle.mdv_volumes.proofs.Made.{HasFront}
 use Rattle.mdv_volumes.proofs.Maps.{in_area, same_map}
 use Rattle.mdv_volumes.proofs.Tables.{blocks_plain, tables_lie}
 
@@ -48,6 +50,26 @@ drive_among v at (suc n) drive is = elim (one_of (drive_of (v.copies (at + n)) =
   | inl here ↦ (n, omega arith, same_number (drive_of (v.copies (at + n))) drive here)
   | inr earlier ↦ let found = drive_among v at n drive earlier in (found.0, (let below = found.1 in omega (arith, below)), found.2)
 ]
+
+-- it lies there in a map that begins with this one, and in each of those that this one begins with and that has it
+abbrev pub block_longer : (v w : Map) (number : ℕ) → IsFrontOf v w → BlockAt v number → BlockAt w number
+block_longer v w number front at =
+    let below = at.within in
+    let more = front.blocks in
+    record {
+      within = omega (arith, below, more);
+      drive = at.drive;
+      block = at.block;
+      lies = record { copies = front.copies number at.within ∙ at.lies.copies; places = front.places number at.within ∙ at.lies.places };
+    }
+
+abbrev pub block_shorter : (v w : Map) (number : ℕ) → IsFrontOf v w → number < v.blocks → BlockAt w number → BlockAt v number
+block_shorter v w number front below at = record {
+  within = below;
+  drive = at.drive;
+  block = at.block;
+  lies = record { copies = sym (front.copies number below) ∙ at.lies.copies; places = sym (front.places number below) ∙ at.lies.places };
+}
 
 module _ (v : Map) (number : ℕ) (at : BlockAt v number) where
   -- that block of the drive belongs to it
@@ -75,6 +97,10 @@ module _ (g : Geometry) (sound : IsSound g) (table : Table) (plan : IsOfGeometry
   one_spot volume v w number lies other a b =
       one_place w number b.drive b.block b.lies a.drive a.block
       (subst (λ (x : Map). HasDriveBlock (x.places number) a.drive a.block) (same_map g table volume v w lies other) (at_place v number a))
+
+  -- also where it is known of a map that begins its own
+  pub front_spot : (volume : VolId) (w v : Map) (number : ℕ) → IsMapOf g table volume w → HasFront g volume v table → (a : BlockAt w number) (b : BlockAt v number) → (a.drive ≡ b.drive) × (a.block ≡ b.block)
+  front_spot volume w v number lies (u, map, front) a b = one_spot volume w u number lies map a (block_longer v u number front b)
 
   module _ (volume other : VolId) (v w : Map) (a b drive block : ℕ) (lies : IsMapOf g table volume v) (beside : IsMapOf g table other w) (below : a < v.blocks) (within : b < w.blocks) (here : HasDriveBlock (v.places a) drive block) (there : HasDriveBlock (w.places b) drive block) where
     same_volume : other ≡ volume

@@ -16,6 +16,7 @@ use Rattle.mdv_theorem.specs.Exchanges.{Exchange}
 use Rattle.mdv_theorem.specs.Running.{Running}
 use Rattle.mdv_theorem.proofs.Agreeing.{own_sound}
 use Rattle.mdv_theorem.proofs.Clean.{start_by}
+use Rattle.mdv_theorem.proofs.Ends.{none_stays}
 use Rattle.mdv_theorem.proofs.Leading.{lasting_idle}
 use Rattle.mdv_theorem.proofs.Steps.{Between, Failed, Reached, Stepped, Steps, stepped, steps_cut}
 use Rattle.mdv_theorem.proofs.Tables.{IsCarried, Keeps}
@@ -24,8 +25,8 @@ use Rattle.mdv_theorem.proofs.Tables.{IsCarried, Keeps}
 abbrev pub HasIt : Geometry → VolId → Table → Type 0
 HasIt g volume table = (v : Map) × IsMapOf g table volume v
 
-pub has_carried : (g : Geometry) (volume : VolId) → IsCarried g (HasIt g volume)
-has_carried g volume asked old new made has = (has.0, map_stays g volume has.0 asked old new made has.1)
+pub has_carried : (g : Geometry) (volume : VolId) → IsCarried g volume (HasIt g volume)
+has_carried g volume asked old new stays made has = (let later = map_stays g volume has.0 asked old new stays made has.1 in (later.0, later.1))
 
 -- the open database, whose table is one of these
 pub record IsOpenWith (host : Host) (P : Table → Type 0) (kept : Kept) : Type 0 where
@@ -64,7 +65,7 @@ module _ (drives : Geometry) (name : List ℕ) (before : List Ran) (script : Scr
         let parts = steps_cut host (Failed run) front (shown ∷ rest) first last (subst (λ (l : List Exchange). Steps host (Failed run) first l last) is at.steps) in
         record { is = is; to = parts.0; upto = parts.1; step = stepped host (Failed run) parts.0 last shown rest parts.2 }
 
-    module _ (P : Table → Type 0) (carried : IsCarried host.drives P) where
+    module _ (volume : VolId) (P : Table → Type 0) (carried : IsCarried host.drives volume P) where
       -- each table that a boot may find is one of these from the run's start on
       pub first_keeps : KeepsAtFirst of P → Keeps host P first
-      first_keeps are = lasting_idle host P (λ asked old next may made has. carried asked old next made has) (start_by run of) at.first_sure.history at.begun are
+      first_keeps are = lasting_idle host P (λ asked old next may made has. carried asked old next (none_stays host volume asked may) made has) (start_by run of) at.first_sure.history at.begun are

@@ -6,7 +6,6 @@ use Rattle.std.specs.Str.{bytes_eq}
 use Rattle.mdv_base.specs.Order.{first_refusal}
 use Rattle.mdv_base.specs.declared.name.VolId.{VolId}
 use Rattle.mdv_base.specs.declared.refusal.Refusal.TheVariants.{IoFault}
-use Rattle.mdv_change.specs.declared.change.Change.TheVariants.{MakeStripe}
 use Rattle.mdv_engine_law.specs.Altering.{change_of}
 use Rattle.mdv_engine_law.specs.Awake.{Happening}
 use Rattle.mdv_engine_law.specs.Commands.{Effect, IsAllowed, case_of}
@@ -128,7 +127,7 @@ module _ (drives : Geometry) (name : List ℕ) (base : Table) where
           let was : MayCome g lines base (bare o.table) =
           subst (Bare (MayCome g lines base)) there.same (are.each there.version (subst (λ (f : List Version). MayBeFound f there.version) (sym there.family) found)) in
           let asked = asks_built one alteration asks in
-          let change = may_change g one (MakeStripe asked.volume asked.rows None) o.table made.opened.table (record { alteration = alteration; asks = asks; alters = asked.alters; begun = begun }) step in
+          let change = may_change g one asked.change o.table made.opened.table (record { alteration = alteration; asks = asks; alters = asked.alters; begun = begun }) step in
           come_open fresh more mid made.opened now (come_more g lines one base (bare o.table) (bare made.opened.table) was change)
 
       line_altered : From more mid.sure.history

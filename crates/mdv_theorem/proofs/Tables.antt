@@ -23,7 +23,6 @@ use Rattle.mdv_engine_law.specs.Standing.{ArePutBy, LineWrites}
 use Rattle.mdv_engine_law.specs.declared.answer.Answer.{Answer}
 use Rattle.mdv_engine_law.specs.declared.host.Host.{Host}
 use Rattle.mdv_engine_law.proofs.Allowed.{dropped_forced}
-use Rattle.mdv_growing_law.proofs.Going.{maps_go}
 use Rattle.mdv_map.specs.Maps.{Map}
 use Rattle.mdv_name.specs.declared.geometry.Geometry.{Geometry}
 use Rattle.mdv_places.specs.Asked.{Adds, Asks as AsksPlaces, Drops}
@@ -38,7 +37,7 @@ use Rattle.mdv_store.specs.Opened.{Opened}
 use Rattle.mdv_store.specs.declared.booting.BootEnd.TheVariants as ending
 use Rattle.mdv_store.specs.declared.booting.BootEnd.{BootEnd}
 use Rattle.mdv_store_law.specs.Changes.{Change}
-use Rattle.mdv_store_law.specs.Log.{IsMade, IsRising}
+use Rattle.mdv_store_law.specs.Log.{IsAskable, IsMade, IsRising}
 use Rattle.mdv_survey.specs.declared.replica.Survey.{Survey}
 use Rattle.mdv_plan.specs.declared.table.Table.{Table}
 use Rattle.mdv_volumes.specs.Databases.{log_of}
@@ -51,29 +50,26 @@ use Rattle.mdv_words.proofs.Lines.{one_line}
 use Rattle.mdv_words.specs.Line as words
 use Rattle.mdv_words.specs.Line.{IsLine, Line, blocks_of}
 use Rattle.mdv_words.specs.declared.command.Alteration.{Alteration}
-use Rattle.mdv_words.specs.declared.command.Alteration.TheVariants.{Make}
 use Rattle.mdv_words.specs.declared.command.Command.{Command}
 use Rattle.mdv_words.specs.declared.command.Command.TheVariants.{Print, Read, Write}
 use Rattle.mdv_words.specs.declared.command.Command.TheVariants as command
 use Rattle.mdv_words.specs.declared.written.Written.{Written}
 use Rattle.mdv_run_law.proofs.Extents.{SeesOwn}
 use Rattle.mdv_theorem.specs.Exchanges.{Asks, Exchange, IsGranted, IsOn, IsTold, Makes, ShowsThere}
-use Rattle.mdv_theorem.specs.Words.{KeepsDatabase, MayTakeDatabase}
+use Rattle.mdv_theorem.specs.Words.{KeepsDatabase, MayTakeAway, MayTakeDatabase}
 use Rattle.mdv_theorem.proofs.Adopted.{IsBlind, blind_boot, firm_shows}
-use Rattle.mdv_theorem.proofs.Altered.{altered_outside, altered_step, asks_built}
+use Rattle.mdv_theorem.proofs.Altered.{altered_outside, altered_step, made_there}
+use Rattle.mdv_theorem.proofs.Ends.{begun_stays, none_stays, taken_away}
 use Rattle.mdv_theorem.proofs.Leading.{IsIdled, IsLed, lasting_idle, lasting_led}
 use Rattle.mdv_theorem.proofs.Steps.{Between, Steps, no_step, one_step, skipped, told_once}
 use Rattle.mdv_theorem.proofs.Sure.{IsSure, open_lasting, open_newest, opened_outside, sure_table}
 use Rattle.mdv_theorem.proofs.Telling.{is_fault, ok_is_none, one_number, values_are_none}
+use Rattle.mdv_volumes.proofs.Made.{VolumeStays}
 use Rattle.mdv_volumes.proofs.Lists.{contains_behind, contains_first}
 
--- the table has each volume of the other, with the same map
-abbrev pub Grows : Geometry → Table → Table → Type 0
-Grows g old new = (volume : VolId) (v : Map) → IsMapOf g old volume v → IsMapOf g new volume v
-
--- what is so of a table is so of that which a change makes of it, of its volumes or of its places, or the end of a change of its places
-abbrev pub IsCarried : Geometry → (Table → Type 0) → Type 0
-IsCarried g P = (asked : Option Change) (old new : Table) → IsMade g asked old new → P old → P new
+-- What is so of a table is so of that which a change makes of it, of its volumes or of its places, or the end of a change of its places, unless it takes the volume away.
+abbrev pub IsCarried : Geometry → VolId → (Table → Type 0) → Type 0
+IsCarried g volume P = (asked : Option Change) (old new : Table) → IsAskable (VolumeStays volume) asked → IsMade g asked old new → P old → P new
 
 -- each table that a boot may find by the history that is known there is one of these
 abbrev pub Keeps : (host : Host) → (Table → Type 0) → Between host → Type 0
@@ -94,19 +90,14 @@ keeps_open host P at o opened has = open_lasting host at.kept.memory at.sure.his
 pub keeps_shown : (host : Host) (P : Table → Type 0) (at : Between host) → Keeps host P at → HasNoTableOn host.drives (key_of host) at.kept.content → ⊥
 keeps_shown host P at are = firm_shows host at.sure.history at.sure.tale at.sure.known.stands are.lives are.firm at.kept.content at.sure.reads
 
-module _ (host : Host) (P : Table → Type 0) (carried : IsCarried host.drives P) where
-  -- a line that can't have taken the database away leaves it so
-  pub keeps_line : (one : Exchange) (from mid : Between host) → IsLed host one from.sure.history mid.sure.history → (MayTakeDatabase one → ⊥) → Keeps host P from → Keeps host P mid
-  keeps_line one from mid led never are = lasting_led host P one (λ asked old new may made has. carried asked old new made has) never from.sure.history mid.sure.history led are
+module _ (host : Host) (volume : VolId) (P : Table → Type 0) (carried : IsCarried host.drives volume P) where
+  -- a line that can't have taken the volume away leaves it so
+  pub keeps_line : (one : Exchange) (from mid : Between host) → IsLed host one from.sure.history mid.sure.history → (MayTakeAway volume one → ⊥) → Keeps host P from → Keeps host P mid
+  keeps_line one from mid led never are =
+      lasting_led host P one (λ asked old new may made has. carried asked old new (begun_stays host volume one never asked may) made has) (λ takes. never (taken_away volume one takes)) from.sure.history mid.sure.history led are
 
   pub keeps_idle : (from mid : Between host) → IsIdled host from.sure.history mid.sure.history → Keeps host P from → Keeps host P mid
-  keeps_idle from mid idled are = lasting_idle host P (λ asked old new may made has. carried asked old new made has) from.sure.history mid.sure.history idled are
-
-  pub keeps_steps : (Failed : ℕ → Type 0) (from last : Between host) (es : List Exchange) → KeepsDatabase es → Keeps host P from → Steps host Failed from es last → Keeps host P last
-  keeps_steps Failed from last es keeps are (no_step at) = are
-  keeps_steps Failed from last es keeps are (skipped at mid end rest same idled steps) = keeps_steps Failed mid last es keeps (keeps_idle from mid idled are) steps
-  keeps_steps Failed from last es keeps are (one_step calls at mid end one answer rest unfailed comes said told writes led steps) =
-      keeps_steps Failed mid last rest (λ other has. keeps other (contains_behind one other rest has)) (keeps_line one from mid led (keeps one (contains_first one rest)) are) steps
+  keeps_idle from mid idled are = lasting_idle host P (λ asked old new may made has. carried asked old new (none_stays host volume asked may) made has) from.sure.history mid.sure.history idled are
 
 -- What a line leaves of the blocks beside the replicas: each is kept, or it was written to that one.
 pub record WroteThere (host : Host) (memory : Memory) (text : List ℕ) (t u : Tale) : Type 0 where
@@ -308,10 +299,6 @@ pub record HasThere (host : Host) (volume : VolId) (kept : Kept) : Type 0 where
   pub map : Map
   pub lies : IsMapOf host.drives o.table volume map
 
--- an alteration makes one volume
-one_named : (alteration : Alteration) (a b : VolId) → Makes a alteration → Makes b alteration → Some a ≡ Some b
-one_named (Make its) a b one other = sym one ∙ other
-
 -- what was told of a command that was granted is no refusal
 pub granted_is_none : (one : Exchange) (cmd : Command) (r : Refusal) → IsGranted one cmd → IsTold one (refusal_line r) → ⊥
 granted_is_none one (command.AddPlaces slices force count blocks) r granted told = ok_is_none r (told_once one ok_line (refusal_line r) granted told)
@@ -347,19 +334,16 @@ module _ (host : Host) (calls : Outcomes) (kept next : Kept) (one : Exchange) (a
     same_there other at count v same memory there =
         record { o = there.o; opened = ap (λ (m : Memory). m.opened) memory ∙ there.opened; map = v; lies = subst (λ (w : VolId). IsMapOf host.drives there.o.table w v) same there.lies }
 
-    -- or it was made
+    -- or it was made, or has a row more
     altered_there : (alteration : Alteration) → Asks one (command.Alter alteration) → Makes volume alteration → (its : Opened) → IsAllowed (case_of host kept) (command.Alter alteration) → kept.memory.opened ≡ Some its
         → IsCommitted calls host its (table_by host.drives alteration its.table) kept next → HasThere host volume next
     altered_there alteration asks makes its free opened made =
-        let asked = asks_built one alteration asks in
         let table_is : made.opened.table ≡ table_by host.drives alteration its.table = ap (λ (x : Opened). x.table) made.committed.is in
         let unheld = subst (λ (x : Option Opened). first_refusal (held_of_alteration host x (change_of alteration)) ≡ None) opened free in
         let now : next.memory.opened ≡ Some made.opened = ap (λ (m : Memory). m.opened) made.memory in
         let step = altered_step host its one alteration made.opened.table asks unheld (sure_table host kept its before opened) (sure_table host next made.opened after now) table_is in
-        let anew = maps_go.made host.drives asked.volume asked.rows None its.table made.opened.table step in
-        let both : Some asked.volume ≡ Some volume = one_named alteration asked.volume volume asked.names makes in
-        let same : asked.volume ≡ volume = cc both in
-        record { o = made.opened; opened = now; map = anew.map; lies = subst (λ (w : VolId). IsMapOf host.drives made.opened.table w anew.map) same anew.lies }
+        let there = made_there host.drives its.table made.opened.table volume one alteration asks makes step in
+        record { o = made.opened; opened = now; map = there.0; lies = there.1 }
 
     on_there : (cmd : Command) → Asks one cmd → IsOn volume cmd → IsAllowed (case_of host kept) (meant kept.memory.entries cmd) × Effect calls host kept (meant kept.memory.entries cmd) answer next → HasThere host volume next
     on_there (command.AddPlaces slices force count blocks) asks on done = absurd on

@@ -1,13 +1,12 @@
--- What earlier runs, from any start of theirs on, and the lines of a run before a read leave in the block that it reads; unless one of them may have taken the database away.
+-- Where a run was before a read, and what earlier runs, from any start of theirs on, and its lines so far leave in a block of a volume that lasts; unless one of them may have taken the volume away.
 use Rattle.std.proofs.Common.{◌≡◌, ◌⊎◌, inl, inr, ℕ, ◌+◌, List, [], ◌∷◌, ◌++◌, length, Some, sym, ◌∙◌, ap, subst, append_assoc, Contains}
 use Rattle.std.proofs.lemmas.List.{append-nil, append_cancel_right}
-use Rattle.mdv_base.specs.declared.name.Key.TheVariants.{Local}
 use Rattle.mdv_base.specs.declared.name.VolId.{VolId}
 use Rattle.mdv_engine_law.specs.declared.host.Host.{Host}
 use Rattle.mdv_name.specs.declared.geometry.Geometry.{Geometry}
 use Rattle.mdv_plan.specs.Table.{empty_table}
 use Rattle.mdv_port.specs.Script.{Script}
-use Rattle.mdv_run_law.specs.Lives.{IsHistoryOf, IsLife, Ran, host_of}
+use Rattle.mdv_run_law.specs.Lives.{IsHistoryOf, Ran, host_of}
 use Rattle.mdv_run_law.specs.Run.{At, behind_boot}
 use Rattle.mdv_run_law.specs.Standing.{AreIdle}
 use Rattle.mdv_run_law.specs.Told.{RunToldBy}
@@ -19,7 +18,7 @@ use Rattle.mdv_shelf.specs.Tale.{Tale}
 use Rattle.mdv_status.specs.Values.{values_reply}
 use Rattle.mdv_config.specs.Slices.{IsSound}
 use Rattle.mdv_plan.specs.declared.table.Table.{Table}
-use Rattle.mdv_volumes.specs.History.{Deleted, History, history_after_all}
+use Rattle.mdv_volumes.specs.History.{History, history_after_all}
 use Rattle.mdv_volumes.specs.HistoryLaws.{new_history}
 use Rattle.mdv_theorem.specs.Exchanges.{Exchange, TellsBlock, exchanges_by, exchanges_of}
 use Rattle.mdv_theorem.specs.Running.{HaveMetNone, Running, Runs, exchanges_now}
@@ -27,22 +26,23 @@ use Rattle.mdv_theorem.specs.Words.{MayLie}
 use Rattle.mdv_theorem.proofs.Clean.{its_start, met_none, start}
 use Rattle.mdv_theorem.proofs.Come.{HasMetNothing}
 use Rattle.mdv_theorem.proofs.Contents.{IsToldOf, told_block}
-use Rattle.mdv_theorem.proofs.Ends.{TakeDatabase}
+use Rattle.mdv_theorem.proofs.Ends.{TakeVolume, take_before, take_behind}
 use Rattle.mdv_theorem.proofs.Given.{Given}
-use Rattle.mdv_theorem.proofs.Later.{IsLasting, Lasts, lasting_on, lines_since, open_has}
+use Rattle.mdv_theorem.proofs.Later.{Lasts, idle_lasts, lines_since, open_has}
 use Rattle.mdv_theorem.proofs.Leaving.{Leaves, leaves_more, own, site_leaves}
-use Rattle.mdv_theorem.proofs.Left.{AreInto, Gone, LastsAt, gone_lasts, lines_go, lines_here, lines_leave, lines_say}
+use Rattle.mdv_theorem.proofs.Left.{lines_here, lines_leave, lines_say}
 use Rattle.mdv_theorem.proofs.Lined.{idle_quiet}
 use Rattle.mdv_theorem.proofs.Having.{HasCome, come_quiet}
 use Rattle.mdv_theorem.proofs.Onward.{IsSoAt, IsSoBehind, life_goes_on, lines_on}
-use Rattle.mdv_theorem.proofs.Over.{AllInto, runs_leave}
+use Rattle.mdv_theorem.proofs.Over.{runs_leave}
 use Rattle.mdv_theorem.proofs.Place.{Spot}
 use Rattle.mdv_theorem.proofs.Placed.{Place, lines_place}
 use Rattle.mdv_theorem.proofs.Staying.{its_sound}
 use Rattle.mdv_theorem.proofs.Steps.{Between, known_at}
 use Rattle.mdv_theorem.proofs.Sure.{IsSureAt, since_last, sure_boot}
 use Rattle.mdv_theorem.proofs.Tabled.{SaysNothing, come_goes, open_lies}
-use Rattle.mdv_theorem.proofs.Tables.{Grows}
+use Rattle.mdv_volumes.proofs.Made.{HasFront}
+use Rattle.mdv_engine_law.specs.Line.{IsSame, contents}
 
 module _ (drives : Geometry) (name : List ℕ) (before : List Ran) (script : Script) (sound : IsSound drives) (of_table : Contains drives.hosts name) (run : Running drives name before script) (given : Given) (read : Exchange) (here later : List Exchange)
     (volume : VolId) (number : ℕ) (block : List ℕ) (parts : exchanges_now run ≡ here ++ read ∷ later) (tells : TellsBlock volume number block read) (by : RunToldBy (host_of drives name run.fresh) run.stretch run.start run.t.tale script run.tells.bytes run.m) where
@@ -63,13 +63,6 @@ module _ (drives : Geometry) (name : List ℕ) (before : List Ran) (script : Scr
     pub up : (sure : IsSureAt host script h run.t.tale booted) × AreIdle host sure.come.es
     up = sure_boot host run.stretch run.start run.t.tale script run.tells.bytes run.m by run.moment.begins.0 run.moment.begins.1 h of.stands (none_own drives name before run.fresh of.es run.new_word of.come) none
 
-    abbrev pub AreStill : Table → Type 0
-    AreStill table = IsLasting drives name table h
-
-    -- behind its boot what lasted lasts
-    pub boot_lasts : (table : Table) → AreStill table → LastsAt drives name sound of_table given run.fresh script h run.t.tale run.m.tale none table booted up.0
-    boot_lasts table lasts = lasting_on drives name table h up.0.come.es up.0.come.course (λ has. idle_quiet host up.0.come.es up.1 (Deleted (Local name)) has) lasts
-
   abbrev pub begun : IsSureAt host script (start run of_table) run.t.tale booted
   begun = (up run.made (its_start run of_table)).0
 
@@ -87,10 +80,10 @@ module _ (drives : Geometry) (name : List ℕ) (before : List Ran) (script : Scr
   abbrev pub final : Table
   final = its.o.table
 
-  abbrev lines : List Exchange
+  abbrev pub lines : List Exchange
   lines = lines_here host run.stretch 0 booted place.at place.front place.lines
 
-  here_is : lines ≡ here
+  pub here_is : lines ≡ here
   here_is =
       let rest = place.left ++ by.lines.rest in
       let said = lines_say host run.stretch 0 booted place.at place.front rest place.lines in
@@ -99,25 +92,11 @@ module _ (drives : Geometry) (name : List ℕ) (before : List Ran) (script : Scr
       append_cancel_right lines here (read ∷ later) (ap (λ (l : List Exchange). lines ++ l) (sym place.asked) ∙ sym said ∙ all)
 
   -- it came before the moment
-  abbrev IsBefore : At → Type 0
+  abbrev pub IsBefore : At → Type 0
   IsBefore at = (u : Story) → at.story ≡ Some u → IsSince (tale_of u) run.m.tale
 
-  before_now : IsBefore place.at
+  pub before_now : IsBefore place.at
   before_now = since_last host run.stretch (0 + length place.front) place.at by.lines.at place.left run.m.tale place.more (λ u is. (by.lines.work u is).moment.since)
-
-  -- by each such history what is read has the volumes that last, unless a line before took the database away
-  module _ (held : Image) (of : IsHistoryOf drives name held before run.t.tale) where
-    pub to_read : Gone drives name sound of_table given run.fresh script (h held of) run.t.tale run.m.tale (none held of) booted place.at (up held of).0 lines
-    to_read = lines_go drives name sound of_table given run.fresh script (h held of) run.t.tale run.m.tale (none held of) run.stretch 0 booted place.at place.front place.lines (up held of).0 before_now
-
-    pub read_grows : (table : Table) → AreStill held of table → TakeDatabase here ⊎ Grows (own drives name).drives table final
-    read_grows table lasts = elim (gone_lasts drives name sound of_table given run.fresh script (h held of) run.t.tale run.m.tale (none held of) booted place.at (up held of).0 lines to_read table (boot_lasts held of table lasts)) [
-      | inl takes ↦ inl (subst TakeDatabase here_is takes)
-      | inr still ↦ inr (open_has drives name table run.fresh place.at.kept.memory (history_after_all (h held of) to_read.next.come.es) (tale_of to_read.next.story) its.o to_read.next.come.known still its.opened)
-    ]
-
-  pub into : (table : Table) → Lasts drives name table before run.t.tale → TakeDatabase here ⊎ Grows (own drives name).drives table final
-  into table lasts = read_grows lasts.held lasts.of table lasts.lasting
 
   abbrev pub spot : Spot (own drives name).drives final volume number
   spot = its.spot
@@ -148,40 +127,64 @@ module _ (drives : Geometry) (name : List ℕ) (before : List Ran) (script : Scr
       subst (λ (l : List Exchange). MayLie drives name volume spot.map (exchanges_by name before ++ l)) here_is
       (open_lies drives name run.fresh (exchanges_by name before ++ lines) now its.o its.opened come_so.is volume spot.map spot.lies)
 
-  abbrev pub AreLeft : List Exchange → Tale → Tale → Type 0
-  AreLeft es t u = Leaves volume number spot.at.drive spot.at.block es t u
+  -- Of a block of the volume where it lay in a table, from a start on from which it lasted.
+  module _ (table : Table) (old : Spot (own drives name).drives table volume number) where
+    abbrev pub AreLeft : List Exchange → Tale → Tale → Type 0
+    AreLeft es t u = Leaves volume number old.at.drive old.at.block es t u
 
-  -- what the boot leaves, and the lines
-  by_boot : AreLeft [] run.t.tale (tale_of begun.story)
-  by_boot =
-      let begins = run.moment.begins in
-      subst (λ (x : Tale). AreLeft [] x (tale_of begun.story)) begins.2 (site_leaves drives name sound of_table final volume number spot [] (tale_of begins.0) (tale_of begun.story) (by.writes begins.0 begun.story begins.1 begun.is))
+    -- so it was at the read: the open table has the volume, where it lay, and the block has what was left there
+    pub record LeftAtRead (es : List Exchange) (from : Tale) : Type 0 where
+      pub now : Tale
+      pub reads : IsSame place.at.kept.content (contents now)
+      pub has : HasFront (own drives name).drives volume old.map final
+      pub left : AreLeft es from now
 
-  abbrev pub AtRead : Type 0
-  AtRead = IsSureAt host script (start run of_table) run.t.tale place.at
+    abbrev StillLasts : List Ran → Tale → Type 0
+    StillLasts ran t = Lasts drives name volume old.map ran t
 
-  module _ (Away : Type 0) (takes : TakeDatabase here → Away) where
-    into_end : (end : AtRead) → AreInto drives name sound of_table given run.fresh final volume number spot Away script (start run of_table) run.t.tale run.m.tale (met_none run of_table) place.at end
-    into_end end table lasts = inr (open_has drives name table run.fresh place.at.kept.memory (history_after_all (start run of_table) end.come.es) (tale_of end.story) its.o end.come.known lasts its.opened)
+    -- behind runs, by its boot, and its lines
+    module _ (since : List Exchange) (from : Tale) (lasts : StillLasts before run.t.tale) (before_left : AreLeft since from run.t.tale) where
+      abbrev g : History
+      g = h lasts.held lasts.of
 
-    by_lines : Away ⊎ ((end : AtRead) × AreLeft lines (tale_of begun.story) (tale_of end.story))
-    by_lines =
-        lines_leave drives name sound of_table given run.fresh final volume number spot Away script (start run of_table) run.t.tale run.m.tale (met_none run of_table) run.stretch 0 booted place.at place.front place.lines begun before_now
-        (λ taken. takes (subst TakeDatabase here_is taken)) into_end
+      abbrev none_met : HasMetNothing host script g run.t.tale run.m.tale
+      none_met = none lasts.held lasts.of
+
+      first : (sure : IsSureAt host script g run.t.tale booted) × AreIdle host sure.come.es
+      first = up lasts.held lasts.of
+
+      -- what the boot leaves
+      by_boot : AreLeft [] run.t.tale (tale_of first.0.story)
+      by_boot =
+          let begins = run.moment.begins in
+          subst (λ (x : Tale). AreLeft [] x (tale_of first.0.story)) begins.2 (site_leaves drives name sound of_table table volume number old [] (tale_of begins.0) (tale_of first.0.story) (by.writes begins.0 first.0.story begins.1 first.0.is))
+
+      -- and the lines
+      by_lines : TakeVolume volume here ⊎ LeftAtRead (since ++ here) from
+      by_lines =
+          elim (lines_leave drives name sound of_table given run.fresh table volume number old script g run.t.tale run.m.tale none_met run.stretch 0 booted place.at place.front place.lines first.0 before_now
+          (idle_lasts drives name volume old.map run.fresh g first.0.come.es first.0.come.course first.1 lasts.lasting)) [
+            | inl takes ↦ inl (subst (TakeVolume volume) here_is takes)
+            | inr (end, still, these) ↦
+                let boot = leaves_more volume number old.at.drive old.at.block since [] from run.t.tale (tale_of first.0.story) before_left by_boot in
+                let both = leaves_more volume number old.at.drive old.at.block (since ++ []) lines from (tale_of first.0.story) (tale_of end.story) boot these in
+                inr (record {
+                  now = tale_of end.story;
+                  reads = end.reads;
+                  has = open_has drives name volume old.map run.fresh place.at.kept.memory (history_after_all g end.come.es) (tale_of end.story) its.o end.come.known still its.opened;
+                  left = subst (λ (l : List Exchange). AreLeft l from (tale_of end.story)) (λ i. append-nil since i ++ here_is i) both;
+                })
+          ]
 
     -- and runs before, from any start on
-    pub all_left : (made : Image) (first : List Ran) (from : Tale) → IsLife drives made first from → (runs : Runs drives first from before run.t.tale) → HaveMetNone runs → (TakeDatabase (lines_since drives name first from before run.t.tale runs) → Away)
-        → Away ⊎ ((end : AtRead) × AreLeft (lines_since drives name first from before run.t.tale runs ++ here) from (tale_of end.story))
-    all_left made first from life runs clean taking =
+    pub all_left : (first : List Ran) (from : Tale) (runs : Runs drives first from before run.t.tale) → HaveMetNone runs → StillLasts first from
+        → TakeVolume volume (lines_since drives name first from before run.t.tale runs ++ here) ⊎ LeftAtRead (lines_since drives name first from before run.t.tale runs ++ here) from
+    all_left first from runs clean lasts =
         let since = lines_since drives name first from before run.t.tale runs in
-        let at_start : AllInto drives name sound of_table given Away final volume number spot before run.t.tale = λ table lasts. elim (into table lasts) [ inl taken ↦ inl (takes taken) | inr grows ↦ inr grows ] in
-        elim (runs_leave drives name sound of_table given Away final volume number spot made first from life before run.t.tale runs clean taking at_start) [
-          | inl away ↦ inl away
-          | inr left ↦ elim by_lines [
-            | inl away ↦ inl away
-            | inr (end, these) ↦
-                let boot = leaves_more volume number spot.at.drive spot.at.block since [] from run.t.tale (tale_of begun.story) left by_boot in
-                let both = leaves_more volume number spot.at.drive spot.at.block (since ++ []) lines from (tale_of begun.story) (tale_of end.story) boot these in
-                inr (end, subst (λ (l : List Exchange). AreLeft l from (tale_of end.story)) (λ i. append-nil since i ++ here_is i) both)
+        elim (runs_leave drives name sound of_table given table volume number old first from before run.t.tale runs clean lasts) [
+          | inl takes ↦ inl (take_before volume since here takes)
+          | inr (still, left) ↦ elim (by_lines since from still left) [
+            | inl takes ↦ inl (take_behind volume since here takes)
+            | inr at_read ↦ inr at_read
           ]
         ]

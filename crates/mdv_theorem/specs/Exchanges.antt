@@ -14,7 +14,7 @@ use Rattle.mdv_tab.specs.declared.entry.Entry.{Entry}
 use Rattle.mdv_tab.specs.declared.entry.Entry.TheVariants as entry
 use Rattle.mdv_words.specs.Line.{Exec, IsLine, blocks_of}
 use Rattle.mdv_words.specs.declared.command.Alteration.{Alteration}
-use Rattle.mdv_words.specs.declared.command.Alteration.TheVariants.{Make}
+use Rattle.mdv_words.specs.declared.command.Alteration.TheVariants.{Attach, Clear, ClearAll, Make}
 use Rattle.mdv_words.specs.declared.command.Command.{Command}
 use Rattle.mdv_words.specs.declared.command.Command.TheVariants.{AddListed, AddPlaces, Alter, DropPlaces, Print, Read, Write}
 use Rattle.mdv_words.specs.declared.written.Written.{Written}
@@ -55,10 +55,21 @@ abbrev pub volume_in : Entry → Option VolId
 volume_in (entry.Stripe name rows spares) = Some name.volume
 volume_in other = None
 
+-- the volume is made, or has a row more
 abbrev pub Makes : VolId → Alteration → Type 0
 Makes volume (Make entry) = volume_in entry ≡ Some volume
+Makes volume (Attach other row) = other ≡ volume
+Makes volume (Clear names below) = ⊥
+Makes volume ClearAll = ⊥
 
--- the command makes the volume, reads it or writes it
+-- so it is, or it is cleared alone, or with those below it
+abbrev pub IsOf : VolId → Alteration → Type 0
+IsOf volume (Make entry) = volume_in entry ≡ Some volume
+IsOf volume (Attach other row) = other ≡ volume
+IsOf volume (Clear names below) = names ≡ named.Volume volume ∷ []
+IsOf volume ClearAll = ⊥
+
+-- the command makes the volume, or a row more of it, reads it or writes it
 abbrev pub IsOn : VolId → Command → Type 0
 IsOn volume (AddPlaces slices force count blocks) = ⊥
 IsOn volume (AddListed number force) = ⊥
@@ -68,12 +79,12 @@ IsOn volume (Read other at count) = other ≡ volume
 IsOn volume (Write other at what) = other ≡ volume
 IsOn volume (Print names) = ⊥
 
--- the command makes the volume, reads it or writes it, or prints it and nothing else
+-- the command makes the volume, or a row more of it, reads it, writes it or clears it, or prints it and nothing else
 abbrev pub IsAbout : VolId → Command → Type 0
 IsAbout volume (AddPlaces slices force count blocks) = ⊥
 IsAbout volume (AddListed number force) = ⊥
 IsAbout volume (DropPlaces slices force) = ⊥
-IsAbout volume (Alter alteration) = Makes volume alteration
+IsAbout volume (Alter alteration) = IsOf volume alteration
 IsAbout volume (Read other at count) = other ≡ volume
 IsAbout volume (Write other at what) = other ≡ volume
 IsAbout volume (Print names) = names ≡ named.Volume volume ∷ []
@@ -84,7 +95,7 @@ IsGranted one (Read volume at count) = (from : ℕ) × (blocks : List (List ℕ)
 IsGranted one (Print names) = (reply : List ℕ) × IsTold one reply × ((refusal : Refusal) → reply ≡ refusal_line refusal → ⊥)
 IsGranted one command = IsTold one ok_line
 
--- it was told of the volume that it was made, or read, or written: so it is there
+-- it was told of the volume that it was made, or got a row more, or was read, or written: so it is there
 pub record ShowsThere (volume : VolId) (one : Exchange) : Type 0 where
   pub command : Command
   pub asks : Asks one command

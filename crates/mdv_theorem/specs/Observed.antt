@@ -38,9 +38,9 @@ use Rattle.mdv_words.specs.Line.{blocks_of}
 use Rattle.mdv_words.specs.declared.command.Command.{Command}
 use Rattle.mdv_words.specs.declared.command.Command.TheVariants.{Print, Read, Write}
 use Rattle.mdv_words.specs.declared.written.Written.{Written}
-use Rattle.mdv_theorem.specs.Exchanges.{Asks, Exchange, IsAbout, IsAcknowledged, IsTold, TellsBlock, exchanges_by, exchanges_of}
+use Rattle.mdv_theorem.specs.Exchanges.{Asks, Exchange, IsAbout, IsAcknowledged, IsSameBlock, IsTold, TellsBlock, exchanges_by, exchanges_of}
 use Rattle.mdv_theorem.specs.Running.{AllAnswered, HasAnswered, HaveMetNone, Lived, LivesOn, Running, Runs, WentOn, exchanges_now, ran_on}
-use Rattle.mdv_theorem.specs.Words.{HasBegun, HasDatabase, HeldAtFirst, IsMadeOn, IsOrWasWritten, IsThere, KeepsDatabase, MakesDatabase, MayCome, MayHave, MayLie, MayLieOn}
+use Rattle.mdv_theorem.specs.Words.{HasBegun, HasDatabase, HeldOrWasPut, IsMadeOn, IsOrWasWritten, IsThere, KeepsDatabase, MakesDatabase, MayCome, MayHave, MayLie, MayLieAt, MayLieOn}
 
 -- How a run may end whose script could be read and whose replies could be told: with NoQuorum where fewer places were readable than are needed; with Panic only where fewer than half are active and a
 -- call failed on a drive on which replicas may lie.
@@ -228,28 +228,28 @@ PrintsAgree =
     → ((refusal : Refusal) → reply ≡ refusal_line refusal → ⊥) → ((refusal : Refusal) → other ≡ refusal_line refusal → ⊥)
     → ListInTurn drives name (exchanges_by name before ++ first) between names others reply other
 
--- what a read tells of a block that was written, and the write acknowledged, is that write's, or one's that was issued later
+-- What a read tells of a block that was written, and the write acknowledged, is that write's, or one's that was issued later, unless a line in between may have taken the volume away.
 abbrev pub WritesLast : Type 0
 WritesLast =
     (drives : Geometry) (name : List ℕ) (before : List Ran) (script : Script) → Contains drives.hosts name → (run : Running drives name before script)
     → (read write : Exchange) (earlier first between : List Exchange) (volume : VolId) (number : ℕ) (old block : List ℕ) → Answered run read earlier → earlier ≡ first ++ write ∷ between
     → IsAcknowledged volume number old write → TellsBlock volume number block read → IsOrWasWritten volume number old between block
 
--- what a read tells of a block is what an earlier read of the run told of it, or was written in between
+-- What a read tells of a block is what an earlier read of the run told of it, or was written in between, unless a line in between may have taken the volume away.
 abbrev pub ReadsAgree : Type 0
 ReadsAgree =
     (drives : Geometry) (name : List ℕ) (before : List Ran) (script : Script) → Contains drives.hosts name → (run : Running drives name before script)
     → (read again : Exchange) (first between later : List Exchange) (volume : VolId) (number : ℕ) (old block : List ℕ) → exchanges_now run ≡ first ++ read ∷ between ++ again ∷ later
     → TellsBlock volume number old read → TellsBlock volume number block again → IsOrWasWritten volume number old between block
 
--- What a read tells of a block is what the new drives held there, where the volume may lie, or was written since.
+-- What a read tells of a block is what the new drives held there, where the volume may lie, or was written there since, through it or through another volume that had the block then.
 abbrev pub BlocksBegin : Type 0
 BlocksBegin =
     (drives : Geometry) (name : List ℕ) (before : List Ran) (script : Script) → Contains drives.hosts name → (run : Running drives name before script)
     → (read : Exchange) (earlier : List Exchange) (volume : VolId) (number : ℕ) (block : List ℕ) → Answered run read earlier → TellsBlock volume number block read
-    → (bytes : List ℕ) × HeldAtFirst drives name run.made earlier volume number bytes × IsOrWasWritten volume number bytes earlier block
+    → (drive at : ℕ) × (bytes : List ℕ) × MayLieAt drives name earlier volume number drive at × HeldOrWasPut drives name run.made earlier drive at bytes × IsSameBlock block bytes
 
--- What a read tells of a block is what a read of an earlier run told of it, or was written in between, where the volume bore the losses of drives in that run, up to a moment at which that was told.
+-- What a read tells of a block is what a read of an earlier run told of it, or was written in between, where the volume bore the losses of drives in that run, up to a moment at which that was told, and no line in between may have taken it away.
 abbrev pub RunsAgree : Type 0
 RunsAgree =
     (drives : Geometry) (name : List ℕ) (before more : List Ran) (script other : Script) (next t : Tale) → Contains drives.hosts name

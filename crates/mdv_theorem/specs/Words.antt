@@ -3,6 +3,7 @@
 use Rattle.std.specs.Prelude.{◌≡◌, ◌⊎◌, ◌<◌, ℕ, List, [], ◌∷◌, ◌++◌, filter, flat_map, is_some, not, replicate, Contains, false, true, Bool}
 use Rattle.std.specs.List.{list_any}
 use Rattle.mdv_base.specs.declared.drive.SliceName.{SliceName}
+use Rattle.mdv_base.specs.declared.name.Named.TheVariants as named
 use Rattle.mdv_base.specs.declared.name.VolId.{VolId}
 use Rattle.mdv_base.specs.declared.refusal.Refusal.{Refusal}
 use Rattle.mdv_change.specs.declared.change.Change.{Change}
@@ -20,16 +21,24 @@ use Rattle.mdv_plan.specs.declared.table.Table.{Table}
 use Rattle.mdv_shelf.specs.Everywhere.{Image}
 use Rattle.mdv_volumes.specs.Tables.{IsMapOf}
 use Rattle.mdv_words.specs.declared.command.Alteration.{Alteration}
+use Rattle.mdv_words.specs.declared.command.Alteration.TheVariants.{Attach, Clear, ClearAll, Make}
 use Rattle.mdv_words.specs.declared.command.Command.{Command}
 use Rattle.mdv_words.specs.declared.command.Command.TheVariants.{AddListed, AddPlaces, Alter, DropPlaces, Print, Read, Write}
 use Rattle.mdv_theorem.specs.Exchanges.{Asks, Exchange, IsGranted, IsSameBlock, IsTold, MayBeWritten, MayHaveBegun, ShowsThere}
 
--- the command may take the volume away, with its database: places are dropped with force
+-- the volume is one of those that go; none lies below another yet
+abbrev pub Clears : VolId → Alteration → Type 0
+Clears volume (Make entry) = ⊥
+Clears volume (Attach other row) = ⊥
+Clears volume (Clear names below) = Contains names (named.Volume volume)
+Clears volume ClearAll = Unit {0}
+
+-- the command may take the volume away: it clears it, or its database may go, where places are dropped with force
 abbrev pub TakesAway : VolId → Command → Type 0
 TakesAway volume (AddPlaces slices force count blocks) = ⊥
 TakesAway volume (AddListed number force) = ⊥
 TakesAway volume (DropPlaces slices force) = force ≡ true
-TakesAway volume (Alter alteration) = ⊥
+TakesAway volume (Alter alteration) = Clears volume alteration
 TakesAway volume (Read other at count) = ⊥
 TakesAway volume (Write other at what) = ⊥
 TakesAway volume (Print names) = ⊥
@@ -187,15 +196,27 @@ pub record MayLie (drives : Geometry) (name : List ℕ) (volume : VolId) (v : Ma
   pub may : MayHave drives name lines table
   pub lies : IsMapOf (own_view drives name) table volume v
 
--- what the new drives, which held this, held in that block of the volume: in the block of a drive on which it may lie by these lines
-pub record HeldAtFirst (drives : Geometry) (name : List ℕ) (made : Image) (lines : List Exchange) (volume : VolId) (number : ℕ) (bytes : List ℕ) : Type 0 where
+-- that block of the volume may lie in this block of a drive, by these lines
+pub record MayLieAt (drives : Geometry) (name : List ℕ) (lines : List Exchange) (volume : VolId) (number drive block : ℕ) : Type 0 where
   pub map : Map
   pub may : MayLie drives name volume map lines
   pub within : number < map.blocks
-  pub drive : ℕ
-  pub block : ℕ
   pub lies : HasDriveBlock (map.copies number) drive block
-  pub held : bytes ≡ made drive block
+
+-- One of these lines may have put these bytes into that block of the drive: it may have written them to a block of a volume that may lie there by the lines before.
+pub record MayBePut (drives : Geometry) (name : List ℕ) (lines : List Exchange) (drive block : ℕ) (bytes : List ℕ) : Type 0 where
+  pub one : Exchange
+  pub before : List Exchange
+  pub behind : List Exchange
+  pub parts : lines ≡ before ++ one ∷ behind
+  pub volume : VolId
+  pub number : ℕ
+  pub at : MayLieAt drives name before volume number drive block
+  pub written : MayBeWritten volume number bytes one
+
+-- the block of the drive held these bytes when the drives were new, or one of these lines may have put them there
+abbrev pub HeldOrWasPut : Geometry → List ℕ → Image → List Exchange → ℕ → ℕ → List ℕ → Type 0
+HeldOrWasPut drives name made lines drive block bytes = (bytes ≡ made drive block) ⊎ MayBePut drives name lines drive block bytes
 
 -- The block has these bytes, or others that one of these lines may have written, or one of them may have taken the volume away.
 abbrev pub IsOrWasWritten : VolId → ℕ → List ℕ → List Exchange → List ℕ → Type 0

@@ -16,6 +16,13 @@ use Rattle.mdv_volumes.specs.HistoryLaws.{HasFirm, KeepDatabase, log_events_at, 
 use Rattle.mdv_volumes.proofs.Keys.{databases_live}
 use Rattle.mdv_volumes.proofs.Lists.{all_both, contains_first}
 
+-- what is begun by some events is begun by more
+pub begun_front : (es fs : List Event) (deed : Deed) → Contains (issued_by es) deed → Contains (issued_by (es ++ fs)) deed
+begun_front es fs deed has = subst (λ (l : List Deed). Contains l deed) (sym (all_more begins es fs)) (Contains-append_left (issued_by es) (issued_by fs) deed has)
+
+pub begun_rest : (es fs : List Event) (deed : Deed) → Contains (issued_by fs) deed → Contains (issued_by (es ++ fs)) deed
+begun_rest es fs deed has = subst (λ (l : List Deed). Contains l deed) (sym (all_more begins es fs)) (Contains-append_right (issued_by es) (issued_by fs) deed has)
+
 module _ (key : Key) where
   pub own_begins : (e : log.Event) → (Contains (begun_at key e) (Deleted key) → ⊥) → BeginsNoEnd e
   own_begins (log.Issued identity) keep = tt
@@ -43,10 +50,10 @@ module _ (key : Key) where
   one_begins Crashes keep = tt
 
   pub keep_front : (es fs : List Event) → KeepDatabase key (es ++ fs) → KeepDatabase key es
-  keep_front es fs keep has = keep (subst (λ (l : List Deed). Contains l (Deleted key)) (sym (all_more begins es fs)) (Contains-append_left (issued_by es) (issued_by fs) (Deleted key) has))
+  keep_front es fs keep has = keep (begun_front es fs (Deleted key) has)
 
   pub keep_rest : (es fs : List Event) → KeepDatabase key (es ++ fs) → KeepDatabase key fs
-  keep_rest es fs keep has = keep (subst (λ (l : List Deed). Contains l (Deleted key)) (sym (all_more begins es fs)) (Contains-append_right (issued_by es) (issued_by fs) (Deleted key) has))
+  keep_rest es fs keep has = keep (begun_rest es fs (Deleted key) has)
 
   -- so it is of the events of its log
   pub none_begins : (es : List Event) → KeepDatabase key es → AreAll BeginsNoEnd (log_events_of key es)

@@ -161,13 +161,3 @@ module _ (g : Geometry) (P : Table → Type 0) (Which : Issue → Type 0) (stays
     firm = firm_stays_all g lg es course none are.lives are.firm;
     all = kept_all lg es course none asks are.lives are.firm are.all;
   }
-
--- what no change takes from it stays whatever happens
-pub lasting_all : (g : Geometry) (P : Table → Type 0) → ((asked : Option Change) (old next : Table) → IsMade g asked old next → P old → P next) → (lg : Log) (es : List log.Event) → log.IsCourse g lg es → AreAll BeginsNoEnd es → AreLasting g P lg
-    → AreLasting g P (log.log_after_all lg es)
-lasting_all g P stays lg es course none are = lasting_where g P (λ issue. Unit {0}) (λ asked old next may. stays asked old next) lg es course none (all_askable (log.begun_by es)) are
-  where
-    all_askable : (asks : List (Option Change)) → AreAll (IsAskable (λ issue. Unit {0})) asks
-    all_askable [] = tt
-    all_askable (None ∷ asks) = (tt, all_askable asks)
-    all_askable (Some change ∷ asks) = (tt, all_askable asks)

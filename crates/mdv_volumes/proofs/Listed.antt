@@ -4,7 +4,7 @@ use Rattle.std.proofs.lemmas.List.Elements.{Contains-append_cases, Contains-appe
 use Rattle.std.specs.List.{list_any}
 use Rattle.mdv_shelf.proofs.Blocks.{both_ways}
 use Rattle.mdv_keeping.proofs.Places.{lists_stay as lists_same}
-use Rattle.mdv_store_law.specs.Changes.{AddListed, AddPlaces, DropPlaces, FirstPlace, KeepsPlaces, OfPlan, TellsList, list_after, moved}
+use Rattle.mdv_store_law.specs.Changes.{AddListed, AddPlaces, DropPlaces, FirstPlace, OfPlan, TellsList, list_after, moved}
 use Rattle.mdv_store_law.specs.Log as log
 use Rattle.mdv_store_law.specs.Log.{IsAskable, IsMade, IsSameOrSettled, Issue, PlacesStay, Version}
 use Rattle.mdv_store_law.specs.Machine.{AreAll}
@@ -18,34 +18,38 @@ use Rattle.mdv_volumes.specs.Below.{Change, Geometry, Key, Lists, Log, One, Plac
 use Rattle.mdv_volumes.specs.Databases.{log_of, same_key}
 use Rattle.mdv_volumes.specs.Happening.{IsCourse, IsIssue, MayBeFound, issued_by}
 use Rattle.mdv_volumes.specs.History.{Acknowledges, Boots, Changed, Crashes, Created, Creation, Deed, Deleted, Deletes, Event, History, OfDatabase, OfVolume, Reads, Saw, Shows, Stops, Unsettles, Wrote, history_after_all}
-use Rattle.mdv_volumes.specs.HistoryLaws.{AllLists, HasFirm, KeepDatabase, KeepPlaces, ListsStay, TellLists, database_deeds, lists_by, log_events_of}
+use Rattle.mdv_volumes.specs.HistoryLaws.{AllLists, HasFirm, KeepDatabase, ListsStay, TellLists, database_deeds, lists_by, log_events_of}
 use Rattle.mdv_volumes.proofs.Ending.{firm_lasts, none_begins}
 use Rattle.mdv_volumes.proofs.Found.{AllFound, begun_found, kept_all, lasting_at, written_found}
 use Rattle.mdv_volumes.proofs.Keys.{databases_live}
 use Rattle.mdv_volumes.proofs.Lists.{all_both, contains_behind, contains_first, first_or_behind}
 
--- changes that move no place, among deeds
-module _ (key : Key) where
-  deeds_stay : (deeds : List Deed) → ((change : Change) → Contains deeds (Changed key change) → KeepsPlaces change) → AreAll (IsAskable PlacesStay) (database_deeds key deeds)
-  deeds_stay [] keep = tt
-  deeds_stay (Created other ∷ deeds) keep = elim (both_ways (same_key key other)) [
-    | inl does ↦ rw does (tt, deeds_stay deeds (λ change has. keep change (contains_behind (Created other) (Changed key change) deeds has)))
-    | inr never ↦ rw never (deeds_stay deeds (λ change has. keep change (contains_behind (Created other) (Changed key change) deeds has)))
+-- each change of the key's table that these events begin is such a one
+abbrev pub ChangesAre : Key → (Issue → Type 0) → List Event → Type 0
+ChangesAre key Which es = (change : Change) → Contains (issued_by es) (Changed key change) → Which (log.OfChange change)
+
+-- so it is of those that its log begins
+module _ (key : Key) (Which : Issue → Type 0) where
+  deeds_are : (deeds : List Deed) → ((change : Change) → Contains deeds (Changed key change) → Which (log.OfChange change)) → AreAll (IsAskable Which) (database_deeds key deeds)
+  deeds_are [] are = tt
+  deeds_are (Created other ∷ deeds) are = elim (both_ways (same_key key other)) [
+    | inl does ↦ rw does (tt, deeds_are deeds (λ change has. are change (contains_behind (Created other) (Changed key change) deeds has)))
+    | inr never ↦ rw never (deeds_are deeds (λ change has. are change (contains_behind (Created other) (Changed key change) deeds has)))
   ]
-  deeds_stay (Changed other change ∷ deeds) keep =
-      let rest = deeds_stay deeds (λ more has. keep more (contains_behind (Changed other change) (Changed key more) deeds has)) in
+  deeds_are (Changed other change ∷ deeds) are =
+      let rest = deeds_are deeds (λ more has. are more (contains_behind (Changed other change) (Changed key more) deeds has)) in
       elim (both_ways (same_key key other)) [
         | inl does ↦
             let here : Contains (Changed other change ∷ deeds) (Changed key change) = subst (λ (k : Key). Contains (Changed other change ∷ deeds) (Changed k change)) (sym (key_is key other does)) (contains_first (Changed other change) deeds) in
-            rw does (keep change here, rest)
+            rw does (are change here, rest)
         | inr never ↦ rw never rest
       ]
-  deeds_stay (Deleted other ∷ deeds) keep = deeds_stay deeds (λ change has. keep change (contains_behind (Deleted other) (Changed key change) deeds has))
-  deeds_stay (Wrote other volume at blocks ∷ deeds) keep = deeds_stay deeds (λ change has. keep change (contains_behind (Wrote other volume at blocks) (Changed key change) deeds has))
-  deeds_stay (Saw other volume at blocks ∷ deeds) keep = deeds_stay deeds (λ change has. keep change (contains_behind (Saw other volume at blocks) (Changed key change) deeds has))
+  deeds_are (Deleted other ∷ deeds) are = deeds_are deeds (λ change has. are change (contains_behind (Deleted other) (Changed key change) deeds has))
+  deeds_are (Wrote other volume at blocks ∷ deeds) are = deeds_are deeds (λ change has. are change (contains_behind (Wrote other volume at blocks) (Changed key change) deeds has))
+  deeds_are (Saw other volume at blocks ∷ deeds) are = deeds_are deeds (λ change has. are change (contains_behind (Saw other volume at blocks) (Changed key change) deeds has))
 
-pub keep_asked : (key : Key) (es : List Event) → KeepPlaces key es → AreAll (IsAskable PlacesStay) (log.begun_by (log_events_of key es))
-keep_asked key es keep = subst (AreAll (IsAskable PlacesStay)) (sym (databases_live.begins key es)) (deeds_stay key (issued_by es) keep)
+  pub changes_are : (es : List Event) → ChangesAre key Which es → AreAll (IsAskable Which) (log.begun_by (log_events_of key es))
+  changes_are es are = subst (AreAll (IsAskable Which)) (sym (databases_live.begins key es)) (deeds_are (issued_by es) are)
 
 -- what is among some is, as it is mapped, among these mapped; and so it came there
 mapped_has : {A B : Type 0} (f : A → B) (xs : List A) (x : A) → Contains xs x → Contains (map f xs) (f x)
@@ -189,11 +193,11 @@ pub lists_stay : ListsStay
 lists_stay = record {
   still = λ g key may h es course keep stay has. (
     firm_lasts key g h es course keep has.0,
-    tables_stay g key h es course keep has.0 (keep_asked key es stay) (Listed g may) (kept_listed g may) has.1,
+    tables_stay g key h es course keep has.0 (changes_are key PlacesStay es stay) (Listed g may) (kept_listed g may) has.1,
   );
   alone = λ g key places h es course keep stay has. (
     firm_lasts key g h es course keep has.0,
-    tables_stay g key h es course keep has.0 (keep_asked key es stay) (λ (t : Table). t.plan.lists ≡ One places) (λ asked old next. made_lists g asked old next places) has.1,
+    tables_stay g key h es course keep has.0 (changes_are key PlacesStay es stay) (λ (t : Table). t.plan.lists ≡ One places) (λ asked old next. made_lists g asked old next places) has.1,
   );
   by = λ g key may h es asks course keep within tell has.
       let lg = log_of h.databases key in

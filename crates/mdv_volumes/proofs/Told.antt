@@ -6,14 +6,14 @@ use Rattle.mdv_volumes.specs.Events.{MayBeLeft, VolumeEvent}
 use Rattle.mdv_volumes.specs.Events as lives
 use Rattle.mdv_volumes.specs.Happening.{IsCourse, MayHappen}
 use Rattle.mdv_volumes.specs.History.{Acknowledges, Event, History, events_of, history_after, history_after_all}
-use Rattle.mdv_volumes.specs.HistoryLaws.{HasLogs, KeepDatabase, Lasts, ToldWritesLast}
+use Rattle.mdv_volumes.specs.HistoryLaws.{HasLogs, KeepDatabase, KeepVolume, Lasts, ToldWritesLast}
 use Rattle.mdv_volumes.specs.LogLaws.{MayBe}
 use Rattle.mdv_volumes.proofs.Lasting.{range_goes, still_logs}
 use Rattle.mdv_volumes.proofs.Lists.{course_front, course_rest}
 use Rattle.mdv_volumes.proofs.Lives.{volumes_live}
 use Rattle.mdv_volumes.proofs.Logs.{issues_alone_add, the_one}
 
-module _ (g : Geometry) (h : History) (es later : List Event) (place : ℕ) (key : Key) (volume : VolId) (at : ℕ) (blocks : List (List ℕ)) (logs : HasLogs g h) (course : IsCourse g h (es ++ Acknowledges place key volume at blocks ∷ later)) (keep : KeepDatabase key later) where
+module _ (g : Geometry) (h : History) (es later : List Event) (place : ℕ) (key : Key) (volume : VolId) (at : ℕ) (blocks : List (List ℕ)) (logs : HasLogs g h) (course : IsCourse g h (es ++ Acknowledges place key volume at blocks ∷ later)) (keep : KeepDatabase key later) (stay : KeepVolume key volume later) where
   -- where it is told, and behind that
   abbrev there : History
   there = history_after_all h es
@@ -42,7 +42,7 @@ module _ (g : Geometry) (h : History) (es later : List Event) (place : ℕ) (key
 
     -- the log of its block begins no more
     goes : lives.AllGoOn (at + k) rest
-    goes = range_goes g behind later key volume at (length blocks) k (still_logs g h es (course_front history_after (MayHappen g) h es (Acknowledges place key volume at blocks ∷ later) course) logs) from_there.0.1 lt from_there.1 keep
+    goes = range_goes g behind later key volume at (length blocks) k (still_logs g h es (course_front history_after (MayHappen g) h es (Acknowledges place key volume at blocks ∷ later) course) logs) from_there.0.1 lt from_there.1 keep stay
 
     one : start (at + k) ≡ only value
     one = from_there.0.2 k lt
@@ -59,4 +59,4 @@ module _ (g : Geometry) (h : History) (es later : List Event) (place : ℕ) (key
   told_lasts = record { lasts = λ k x lt may. lasts_so k lt x (subst (λ (l : VolumeLog). MayBe l (at + k) x) own_log may) }
 
 pub told_writes_last : ToldWritesLast
-told_writes_last g h es later place key volume at blocks logs course keep = told_lasts g h es later place key volume at blocks logs course keep
+told_writes_last g h es later place key volume at blocks logs course keep stay = told_lasts g h es later place key volume at blocks logs course keep stay

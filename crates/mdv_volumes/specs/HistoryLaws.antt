@@ -1,7 +1,8 @@
 -- Laws of histories: of each volume, of databases and of deeds, over crashes, boots, writes and reads.
 use Rattle.std.specs.Prelude.{◌≡◌, ◌⊎◌, ◌+◌, ◌<◌, ◌≤◌, ℕ, true, List, [], ◌∷◌, ◌++◌, length, slice_index_or, Bool, if◌then◌else◌, map, Option, Some, None, All, Contains}
-use Rattle.mdv_volumes.specs.Below.{AllOnDisk, AllRead, Among, AreApart, AreDisjoint, Area, Change, DriveNo, Follows, Geometry, HasDriveBlock, HasNoReplica, Identity, Image, IsBeside, IsCurrentOf, IsOfGeometry, Key, KeptOutside, Map, MayLeave, One, Place, Rewriting, Spells, Stand, Table, Tale, Version, VolId, area_of_map, is_firm, last, only, opening, restarted, site_area, site_of, with_events, Lists, Two}
-use Rattle.mdv_store_law.specs.Changes.{KeepsPlaces, TellsList, list_after}
+use Rattle.mdv_volumes.specs.Below.{AllOnDisk, AllRead, Among, AreApart, AreDisjoint, Area, Change, DriveNo, Follows, Geometry, HasDriveBlock, HasNoReplica, Identity, Image, IsBeside, IsCurrentOf, IsOfGeometry, Key, KeptOutside, Map, MayLeave, One, Place, PlanChange, Rewriting, Spells, Stand, Table, Tale, Version, VolId, area_of_map, is_firm, last, only, opening, restarted, site_area, site_of, with_events, Lists, Two}
+use Rattle.mdv_growing_law.specs.Going.{Clears}
+use Rattle.mdv_store_law.specs.Changes.{KeepsPlaces, OfPlan, TellsList, list_after}
 use Rattle.mdv_store_law.specs.Log as log
 use Rattle.mdv_store_law.specs.Machine.{AreAll, all_of}
 use Rattle.mdv_store_law.specs.Part.{IsPart}
@@ -124,6 +125,10 @@ KeepPlaces key es = (change : Change) → Contains (issued_by es) (Changed key c
 -- no end of the key's database begins: so no creation of the key does, once a table of it was answered
 abbrev pub KeepDatabase : Key → List Event → Type 0
 KeepDatabase key es = Contains (issued_by es) (Deleted key) → ⊥
+
+-- none of the changes of the key's table that these events begin takes the volume away
+abbrev pub KeepVolume : Key → VolId → List Event → Type 0
+KeepVolume key volume es = (change : PlanChange) → Contains (issued_by es) (Changed key (OfPlan change)) → Clears change volume → ⊥
 
 -- Which places the tables list that a boot may find, as long as no end of the key's database begins.
 pub record ListsStay : Type 0 where
@@ -320,7 +325,7 @@ pub record Lasts (h : History) (es later : List Event) (place : ℕ) (key : Key)
   pub lasts : (k : ℕ) (x : List ℕ) → k < length blocks → MayBe ((history_after_all h (es ++ Acknowledges place key volume at blocks ∷ later)).volumes key volume) (at + k) x
       → (x ≡ slice_index_or blocks k []) ⊎ Among (lives.issued_to (at + k) (events_of key volume later)) x
 
--- so it is of every write that is told, until an end of its database begins
+-- so it is of every write that is told, until an end of its database begins, or a change that takes its volume away
 abbrev pub ToldWritesLast : Type 0
 ToldWritesLast = (g : Geometry) (h : History) (es later : List Event) (place : ℕ) (key : Key) (volume : VolId) (at : ℕ) (blocks : List (List ℕ)) → HasLogs g h
-    → IsCourse g h (es ++ Acknowledges place key volume at blocks ∷ later) → KeepDatabase key later → Lasts h es later place key volume at blocks
+    → IsCourse g h (es ++ Acknowledges place key volume at blocks ∷ later) → KeepDatabase key later → KeepVolume key volume later → Lasts h es later place key volume at blocks

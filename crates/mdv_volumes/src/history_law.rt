@@ -48,7 +48,7 @@ pub fn beginnings_go()
 {}
 
 /// A write whose `ok` was told was answered and put on the disk before: every later read gives it and every crash leaves it, or what was issued since, as
-/// long as no end of its database begins.
+/// long as no end of its database begins, nor a change that takes its volume away.
 pub fn told_writes_last()
     ensures { ToldWritesLast }
 {}

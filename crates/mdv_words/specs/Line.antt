@@ -4,6 +4,7 @@ use Rattle.std.specs.List.{list_all}
 use Rattle.std.specs.Option.{is_none}
 use Rattle.mdv_base.specs.declared.drive.SliceName.{SliceName}
 use Rattle.mdv_base.specs.declared.name.Named.{Named}
+use Rattle.mdv_name.specs.declared.volume.VolName.{VolName}
 use Rattle.mdv_parts.specs.declared.component.Component.{Component}
 use Rattle.mdv_parts.specs.declared.component.Component.TheVariants.{Slice, Volume}
 use Rattle.mdv_tab.specs.declared.entry.Entry.{Entry}
@@ -15,8 +16,8 @@ use Rattle.mdv_grammar.specs.Line.{IsLine as IsAsked}
 use Rattle.mdv_grammar.specs.declared.line.Line.TheVariants as grammar
 use Rattle.mdv_grammar.specs.declared.line.WordsFault.{WordsFault}
 use Rattle.mdv_grammar.specs.declared.line.WordsFault.TheVariants.{BadLine, Memory}
-use Rattle.mdv_remake.specs.Asked.{is_within}
-use Rattle.mdv_words.specs.declared.command.Alteration.TheVariants.{Make}
+use Rattle.mdv_remake.specs.Asked.{is_few, is_short_row, is_within}
+use Rattle.mdv_words.specs.declared.command.Alteration.TheVariants.{Attach, Clear, ClearAll, Make}
 use Rattle.mdv_words.specs.declared.command.Command.{Command}
 use Rattle.mdv_words.specs.declared.command.Command.TheVariants.{AddListed, AddPlaces, Alter, DropPlaces, Print, Read, Write}
 use Rattle.mdv_words.specs.declared.written.Written.{Written}
@@ -73,7 +74,20 @@ is_built other = false
 abbrev pub make_of : Entry → Option Command
 make_of entry = if is_built entry && is_within entry then Some (Alter (Make entry)) else None
 
--- blocks of a volume of the local database
+-- a row of slices, which a change can have
+abbrev pub is_built_row : Row → Bool
+is_built_row row = is_of_slices row && is_short_row row
+
+-- such a row more for a volume of the local database
+abbrev pub attach_of : VolName → Row → Option Command
+attach_of name row = if is_none name.set && is_built_row row then Some (Alter (Attach name.volume row)) else None
+
+-- these volumes and pools of the local database go, which a change can have
+abbrev pub clear_of : Option (List ℕ) → List Named → Bool → Option Command
+clear_of None names below = if is_few names then Some (Alter (Clear names below)) else None
+clear_of (Some set) names below = None
+
+-- the command where it is of the local database
 abbrev pub on_local : Option (List ℕ) → Command → Option Command
 on_local None command = Some command
 on_local (Some set) command = None
@@ -84,12 +98,15 @@ print_of None names true = Some (Print names)
 print_of set names printed = None
 
 -- The commands that are built, among all that a line may ask: `metadb -a [-f] [-c COUNT] [-l BLOCKS] SLICE ..`, `metadb -a [-f] mddbNN`, `metadb -d [-f] SLICE ..`,
--- `metainit [-f] dN NUMSTRIPES ..` of slices, without `-h`, whose `-f` changes nothing, `read`, `write`, `fill`, and `metastat -p [NAME ..]`.
+-- `metainit [-f] dN NUMSTRIPES ..` of slices, without `-h`, whose `-f` changes nothing, `metattach [-i SIZE] dN SLICE ..`, `metaclear [-f] [-r] NAME ..`, `metaclear -a [-f]`, `read`, `write`, `fill`, and `metastat -p [NAME ..]`.
 abbrev pub built_of : Wanted → Option Command
 built_of (wanted.AddReplicas slices options force) = Some (creation_of slices options.count options.blocks force)
 built_of (wanted.AddListed number force) = Some (AddListed number force)
 built_of (wanted.DeleteReplicas slices force) = Some (DropPlaces slices force)
 built_of (wanted.Make entry force) = make_of entry
+built_of (wanted.Attach volume components interlace) = attach_of volume (record { components = components; interlace = interlace })
+built_of (wanted.Clear set names below) = clear_of set names below
+built_of (wanted.ClearAll set) = on_local set (Alter ClearAll)
 built_of (wanted.Read volume at count) = on_local volume.set (Read volume.volume at count)
 built_of (wanted.Write volume at block) = on_local volume.set (Write volume.volume at (One block))
 built_of (wanted.Fill volume at count byte) = on_local volume.set (Write volume.volume at (Filled count byte))
@@ -131,6 +148,9 @@ IsInForm (AddPlaces slices force count blocks) = (1 ≤ length slices) × IsCoun
 IsInForm (AddListed number force) = Unit {0}
 IsInForm (DropPlaces slices force) = 1 ≤ length slices
 IsInForm (Alter (Make entry)) = (is_built entry ≡ true) × (is_within entry ≡ true)
+IsInForm (Alter (Attach volume row)) = (is_of_slices row ≡ true) × (is_short_row row ≡ true)
+IsInForm (Alter (Clear names below)) = is_few names ≡ true
+IsInForm (Alter ClearAll) = Unit {0}
 IsInForm (Read volume at count) = 1 ≤ count
 IsInForm (Write volume at what) = 1 ≤ length (blocks_of what)
 IsInForm (Print names) = Unit {0}

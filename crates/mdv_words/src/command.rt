@@ -1,13 +1,13 @@
 ghost use Rattle.std.specs.Prelude.{◌≡◌};
 ghost use Rattle.std.specs.List.{list_all};
-ghost use Rattle.mdv_words.specs.Line.{blocks_or_default, count_or_default, creation_of, is_built as spec_is_built, is_of_slices as spec_is_of_slices, is_slice as spec_is_slice, make_of, print_of, on_local, built_of};
+ghost use Rattle.mdv_words.specs.Line.{blocks_or_default, clear_of, count_or_default, creation_of, attach_of, built_of, is_built as spec_is_built, is_built_row as spec_is_built_row, is_of_slices as spec_is_of_slices, is_slice as spec_is_slice, make_of, on_local, print_of};
 
 use crate::written::Written;
 use mdv_base::{Name, Named, SliceName, VolId};
 use mdv_command::Command as Asked;
 use mdv_name::VolName;
 use mdv_parts::{Component, Items, ReplicaOptions};
-use mdv_remake::is_within;
+use mdv_remake::{is_few, is_short_row, is_within};
 use mdv_tab::{Entry, Row};
 
 // How many replicas each slice gets where no `-c` is given.
@@ -68,6 +68,13 @@ pub enum Alteration {
     /// `metainit dN NUMSTRIPES ..`, or with `-f`: the volume of the entry, whose rows are of slices, without a pool of
     /// spares
     Make(Entry),
+    /// `metattach dN SLICE ..`, or with `-i SIZE`: a row of slices more behind those of the volume
+    Attach { volume: VolId, row: Row },
+    /// `metaclear NAME ..`, or with `-f`, which changes nothing: these volumes and pools go, all or none. With `-r`
+    /// each volume below them goes too that nothing else uses.
+    Clear { names: Items<Named>, below: bool },
+    /// `metaclear -a`, or with `-f`: all volumes and pools go
+    ClearAll,
 }
 
 pub(crate) fn count_of(options: &ReplicaOptions) -> u8
@@ -144,11 +151,46 @@ fn make(entry: Entry) -> Option<Command>
     }
 }
 
-// The command where its volume is of the local database.
-fn local(volume: &VolName, command: Command) -> Option<Command>
-    ensures { result ≡ on_local volume.now.set command }
+fn is_built_row(row: &Row) -> bool
+    ensures { result ≡ spec_is_built_row row.now }
 {
-    match volume.set {
+    is_of_slices(row) && is_short_row(row)
+}
+
+// A row more for a volume of the local database.
+fn attach(name: &VolName, row: Row) -> Option<Command>
+    ensures { result ≡ attach_of name.now row }
+{
+    if name.set.is_none() && is_built_row(&row) {
+        Some(Command::Alter {
+            alteration: Alteration::Attach {
+                volume: name.volume,
+                row,
+            },
+        })
+    } else {
+        None
+    }
+}
+
+// These volumes and pools of the local database go.
+fn clear(set: Option<Name>, names: Items<Named>, below: bool) -> Option<Command>
+    ensures { result ≡ clear_of set names below }
+{
+    if set.is_none() && is_few(names.as_slice()) {
+        Some(Command::Alter {
+            alteration: Alteration::Clear { names, below },
+        })
+    } else {
+        None
+    }
+}
+
+// The command where it is of the local database.
+fn local(set: Option<Name>, command: Command) -> Option<Command>
+    ensures { result ≡ on_local set command }
+{
+    match set {
         None => Some(command),
         Some(_) => None,
     }
@@ -178,8 +220,26 @@ pub(crate) fn built(asked: Asked) -> Option<Command>
         Asked::AddListed { number, force } => Some(Command::AddListed { number, force }),
         Asked::DeleteReplicas { slices, force } => Some(Command::DropPlaces { slices, force }),
         Asked::Make { entry, .. } => make(entry),
-        Asked::Read { volume, at, count } => local(
+        Asked::Attach {
+            volume,
+            components,
+            interlace,
+        } => attach(
             &volume,
+            Row {
+                components,
+                interlace,
+            },
+        ),
+        Asked::Clear { set, names, below } => clear(set, names, below),
+        Asked::ClearAll { set } => local(
+            set,
+            Command::Alter {
+                alteration: Alteration::ClearAll,
+            },
+        ),
+        Asked::Read { volume, at, count } => local(
+            volume.set,
             Command::Read {
                 volume: volume.volume,
                 at,
@@ -187,7 +247,7 @@ pub(crate) fn built(asked: Asked) -> Option<Command>
             },
         ),
         Asked::Write { volume, at, block } => local(
-            &volume,
+            volume.set,
             Command::Write {
                 volume: volume.volume,
                 at,
@@ -200,7 +260,7 @@ pub(crate) fn built(asked: Asked) -> Option<Command>
             count,
             byte,
         } => local(
-            &volume,
+            volume.set,
             Command::Write {
                 volume: volume.volume,
                 at,

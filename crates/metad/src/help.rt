@@ -49,6 +49,11 @@ standard input, with a command on each line:
     metainit d1 1 2 c0t0d0s1 c0t1d0s1 -i 64b
                              makes a stripe of two slices, 64 blocks of each in turn, or 32 without
                              the -i; 2 1 SLICE 1 SLICE makes two stripes, one behind the other
+    metattach d1 c0t0d0s2 c0t1d0s2
+                             puts a stripe of these slices more behind the blocks of d1, with
+                             the interlace of its last one where no -i is given
+    metaclear d0 d1          takes volumes away, all that are named or none; -a takes all there are;
+                             what their slices hold stays there
     write d0 5 ab            writes block 5 of d0: bytes in hexadecimal, and zeros behind
     fill d0 5 100 ab         writes 100 blocks of d0, from block 5 on, each byte of them the same; at
                              most 1024 at a time
