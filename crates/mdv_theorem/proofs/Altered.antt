@@ -14,7 +14,7 @@ use Rattle.mdv_base.specs.declared.name.Named.TheVariants as named
 use Rattle.mdv_base.specs.declared.name.VolId.{VolId}
 use Rattle.mdv_base.specs.declared.refusal.Refusal.{Refusal}
 use Rattle.mdv_base.specs.declared.refusal.Refusal.TheVariants.{ReplicaFull}
-use Rattle.mdv_change.specs.Change.{carried, condition, table_after, with_changed}
+use Rattle.mdv_change.specs.Change.{carried, condition, refusal_of, table_after, with_changed}
 use Rattle.mdv_change.specs.declared.change.Change.{Change as PlanChange}
 use Rattle.mdv_change.specs.Clear.{is_no_volume}
 use Rattle.mdv_change.specs.declared.change.Change.TheVariants.{AddRow, MakeStripe}
@@ -253,16 +253,23 @@ unheld held true bytes room is = absurd (never (first_refusal held) (sym (full_i
   never None is = cc is
   never (Some r) is = cc is
 
--- Where nothing refuses the alteration, the table that it leaves is a step of the open one.
+-- Where nothing refuses the alteration, the open table says nothing against the change, and no component lies on a slice for replicas.
+pub altered_free : (host : Host) (o : Opened) (one : Exchange) (alteration : Alteration) (asks : Asks one (command.Alter alteration)) → first_refusal (held_of_alteration host (Some o) (change_of alteration)) ≡ None
+    → (refusal_of host.drives host.site.drives o.table (asks_built one alteration asks).change ≡ None) × (names_db host.drives (asks_built one alteration asks).change ≡ false)
+altered_free host o one alteration asks free =
+    let asked = asks_built one alteration asks in
+    let change : PlanChange = asked.change in
+    let unheld_so : first_refusal (held_of_change host (Some o) change) ≡ None = subst (λ (c : Option PlanChange). first_refusal (held_of_alteration host (Some o) c) ≡ None) asked.alters free in
+    let untold = unheld (listed (told_by_table host o change)) _ (bytes_after host o change) (record_room o) unheld_so in
+    none_told (carried host.drives o.table change) (first_of (condition host.drives host.site.drives o.table change) order) (names_db host.drives change) untold
+
+-- So the table that it leaves is a step of the open one.
 pub altered_step : (host : Host) (o : Opened) (one : Exchange) (alteration : Alteration) (next : Table) (asks : Asks one (command.Alter alteration)) → first_refusal (held_of_alteration host (Some o) (change_of alteration)) ≡ None
     → IsOfGeometry host.drives o.table → IsOfGeometry host.drives next → next ≡ table_by host.drives alteration o.table
     → IsStepOf host.drives (asks_built one alteration asks).change o.table next
 altered_step host o one alteration next asks free old_of next_of is =
     let asked = asks_built one alteration asks in
-    let change : PlanChange = asked.change in
-    let unheld_so : first_refusal (held_of_change host (Some o) change) ≡ None = subst (λ (c : Option PlanChange). first_refusal (held_of_alteration host (Some o) c) ≡ None) asked.alters free in
-    let untold = unheld (listed (told_by_table host o change)) _ (bytes_after host o change) (record_room o) unheld_so in
-    let may = none_told (carried host.drives o.table change) (first_of (condition host.drives host.site.drives o.table change) order) (names_db host.drives change) untold in
+    let may = altered_free host o one alteration asks free in
     record {
       built = asked.built;
       plain = may.1;

@@ -24,7 +24,7 @@ use Rattle.mdv_run_law.specs.Standing.{Asks as AsksWords}
 use Rattle.mdv_run_law.proofs.Deeds.{part_contains, part_deeds}
 use Rattle.mdv_store_law.specs.Changes.{AddListed, AddPlaces, Change, DropPlaces, FirstPlace, IsMadeBy, OfPlan}
 use Rattle.mdv_store_law.specs.Log as log
-use Rattle.mdv_store_law.specs.Log.{IsAskable, Issue, Log, OfChange}
+use Rattle.mdv_store_law.specs.Log.{IsAskable}
 use Rattle.mdv_store_law.specs.Machine as machine
 use Rattle.mdv_store_law.specs.Machine.{AreAll}
 use Rattle.mdv_store_law.specs.Part.{IsPart}
@@ -36,6 +36,7 @@ use Rattle.mdv_volumes.specs.HistoryLaws.{KeepDatabase, database_deeds, log_even
 use Rattle.mdv_volumes.proofs.Ending.{none_begins}
 use Rattle.mdv_volumes.proofs.Found.{none_found}
 use Rattle.mdv_volumes.proofs.Keys.{databases_live}
+use Rattle.mdv_volumes.proofs.Listed.{changes_are}
 use Rattle.mdv_volumes.proofs.Lists.{first_or_behind}
 use Rattle.mdv_words.specs.Line.{Boot, Exec, Line, Tab, blocks_of}
 use Rattle.mdv_words.specs.declared.command.Alteration.{Alteration}
@@ -44,7 +45,7 @@ use Rattle.mdv_words.specs.declared.command.Command.TheVariants as command
 use Rattle.mdv_theorem.specs.Exchanges.{Asks, Exchange, IsTold}
 use Rattle.mdv_theorem.specs.Words.{MayChange, MayCome, MayTakeDatabase, comes, ends, stays}
 use Rattle.mdv_theorem.proofs.Ends.{ends_or_keeps}
-use Rattle.mdv_theorem.proofs.Leading.{Which, asked_each}
+use Rattle.mdv_theorem.proofs.Leading.{Which}
 use Rattle.mdv_theorem.proofs.Lined.{AreQuiet}
 use Rattle.mdv_theorem.proofs.Lines.{MayAlter, MayBegin, never_in, the_only}
 use Rattle.mdv_theorem.proofs.Reaching.{AreReached, Bare, MayEnd, all_end, bare, no_ends, reached_all, reached_once}
@@ -115,7 +116,7 @@ module _ (drives : Geometry) (name : List ℕ) where
   OfSuch Begins es = (deed : Deed) → Contains (issued_by es) deed → Begins deed
 
   asks_such : (Begins : Deed → Type 0) (es : List Event) → OfSuch Begins es → AreAll (IsAskable (Which own Begins)) (log.begun_by (log_events_of key es))
-  asks_such Begins es each = subst (AreAll (IsAskable (Which own Begins))) (sym (databases_live.begins key es)) (asked_each own Begins (issued_by es) each)
+  asks_such Begins es each = changes_are key (Which own Begins) es (λ change has. each (Changed key change) has)
 
   module _ (base : Table) where
     abbrev May : List Exchange → Table → Type 0

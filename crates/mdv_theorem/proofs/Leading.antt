@@ -1,7 +1,6 @@
 -- How a history that is known goes on over a line, and what stays so of each table that a boot may find.
 use Rattle.std.proofs.Common.{◌≡◌, inl, inr, ⊎_elim, ℕ, List, [], ◌∷◌, ◌++◌, Option, Some, Contains, refl, sym, ◌∙◌, ap, subst}
 use Rattle.std.proofs.lemmas.List.{append-nil}
-use Rattle.mdv_databases.proofs.Lists.{key_is}
 use Rattle.mdv_engine_law.specs.Awake.{Happening}
 use Rattle.mdv_engine_law.specs.Hosts.{key_of}
 use Rattle.mdv_engine_law.specs.Replies.{issuable}
@@ -10,20 +9,15 @@ use Rattle.mdv_engine_law.proofs.Going.{may_course}
 use Rattle.mdv_port.specs.Script.{Script, at_end, line, spent, too_long}
 use Rattle.mdv_run_law.specs.Standing.{AreIdle, AreOfLine, ComeOf, Context, NothingLeft}
 use Rattle.mdv_run_law.proofs.Deeds.{part_contains}
-use Rattle.mdv_shelf.proofs.Blocks.{both_ways}
 use Rattle.mdv_store_law.specs.Changes.{Change}
-use Rattle.mdv_store_law.specs.Log.{IsAskable, IsMade, Issue, Log, OfChange, OfCreation, OfEnd, OfPlaces}
+use Rattle.mdv_store_law.specs.Log.{IsAskable, IsMade, Issue, OfChange, OfCreation, OfEnd, OfPlaces}
 use Rattle.mdv_store_law.specs.Machine as machine
-use Rattle.mdv_store_law.specs.Machine.{AreAll}
 use Rattle.mdv_plan.specs.declared.table.Table.{Table}
-use Rattle.mdv_volumes.specs.Databases.{log_of, same_key}
-use Rattle.mdv_volumes.specs.Happening.{IsCourse, issued_by}
-use Rattle.mdv_volumes.specs.History.{Changed, Created, Deed, Deleted, Event, History, Saw, Wrote, history_after, history_after_all}
-use Rattle.mdv_volumes.specs.HistoryLaws.{database_deeds, log_events_of}
-use Rattle.mdv_volumes.proofs.Ending.{none_begins}
-use Rattle.mdv_volumes.proofs.Found.{AreLasting, lasting_where}
-use Rattle.mdv_volumes.proofs.Keys.{databases_live}
-use Rattle.mdv_volumes.proofs.Lists.{contains_behind, contains_first}
+use Rattle.mdv_volumes.specs.Databases.{log_of}
+use Rattle.mdv_volumes.specs.Happening.{issued_by}
+use Rattle.mdv_volumes.specs.History.{Changed, Deed, Deleted, Event, History, history_after, history_after_all}
+use Rattle.mdv_volumes.proofs.Found.{AreLasting}
+use Rattle.mdv_volumes.proofs.Lasting.{lasts_over}
 use Rattle.mdv_theorem.specs.Exchanges.{Exchange}
 use Rattle.mdv_theorem.proofs.Lined.{idle_quiet}
 use Rattle.mdv_theorem.proofs.Lines.{MayBegin, begins_asked, lets}
@@ -79,30 +73,12 @@ module _ (host : Host) where
   Which Begins OfEnd = Unit {0}
 
   module _ (Begins : Deed → Type 0) where
-    pub asked_each : (deeds : List Deed) → ((deed : Deed) → Contains deeds deed → Begins deed) → AreAll (IsAskable (Which Begins)) (database_deeds (key_of host) deeds)
-    asked_each [] each = tt
-    asked_each (Created other ∷ deeds) each =
-        let rest = asked_each deeds (λ deed has. each deed (contains_behind (Created other) deed deeds has)) in
-        elim (both_ways (same_key (key_of host) other)) [ inl does ↦ rw does (tt, rest) | inr never ↦ rw never rest ]
-    asked_each (Changed other change ∷ deeds) each =
-        let rest = asked_each deeds (λ deed has. each deed (contains_behind (Changed other change) deed deeds has)) in
-        elim (both_ways (same_key (key_of host) other)) [
-          | inl does ↦ rw does (subst (λ (k : _). Begins (Changed k change)) (sym (key_is (key_of host) other does)) (each (Changed other change) (contains_first (Changed other change) deeds)), rest)
-          | inr never ↦ rw never rest
-        ]
-    asked_each (Deleted other ∷ deeds) each = asked_each deeds (λ deed has. each deed (contains_behind (Deleted other) deed deeds has))
-    asked_each (Wrote other volume at blocks ∷ deeds) each = asked_each deeds (λ deed has. each deed (contains_behind (Wrote other volume at blocks) deed deeds has))
-    asked_each (Saw other volume at blocks ∷ deeds) each = asked_each deeds (λ deed has. each deed (contains_behind (Saw other volume at blocks) deed deeds has))
-
     -- What no change takes from a table that they begin stays so of each that a boot may find, as long as they begin no end of the database.
     pub lasting_over : (P : Table → Type 0) → ((asked : Option Change) (old next : Table) → IsAskable (Which Begins) asked → IsMade host.drives asked old next → P old → P next) → (Begins (Deleted (key_of host)) → ⊥) → (h : History) (es : List Event)
         → machine.IsCourse history_after (Happening host) h es → ((deed : Deed) → Contains (issued_by es) deed → Begins deed) → AreLasting host.drives P (log_of h.databases (key_of host)) → AreLasting host.drives P (log_of (history_after_all h es).databases (key_of host))
     lasting_over P stays never h es course begins are =
-        let may : IsCourse host.drives h es = may_course host h es course in
         let key = key_of host in
-        subst (λ (lg : Log). AreLasting host.drives P lg) (sym (databases_live.is key host.drives h es may))
-        (lasting_where host.drives P (Which Begins) stays (log_of h.databases key) (log_events_of key es) (databases_live.may key host.drives h es may) (none_begins key es (λ has. never (begins (Deleted key) has)))
-        (subst (AreAll (IsAskable (Which Begins))) (sym (databases_live.begins key es)) (asked_each (issued_by es) begins)) are)
+        lasts_over host.drives key P (Which Begins) stays h es (may_course host h es course) (λ has. never (begins (Deleted key) has)) (λ change has. begins (Changed key change) has) are
 
   -- events that begin nothing leave it
   pub lasting_idle : (P : Table → Type 0) → ((asked : Option Change) (old next : Table) → IsAskable (Which (λ deed. ⊥)) asked → IsMade host.drives asked old next → P old → P next) → (h g : History) → IsIdled h g

@@ -1,5 +1,6 @@
 -- Each volume that goes with others, since it lies below them, is there.
-use Rattle.std.proofs.Common.{◌≡◌, ◌&&◌, ◌||◌, not, cond, Bool, true, false, List, [], ◌∷◌, filter, flat_map, refl, ◌∙◌}
+use Rattle.std.proofs.Common.{◌≡◌, ◌&&◌, ◌||◌, not, cond, Bool, true, false, List, [], ◌∷◌, filter, flat_map, refl, sym, ◌∙◌}
+use Rattle.std.proofs.lemmas.Bool.{or_parts}
 use Rattle.std.proofs.lemmas.List.Folds.{list_any-append}
 use Rattle.std.specs.List.{list_any}
 use Rattle.std.specs.Option.{is_some}
@@ -27,3 +28,12 @@ module _ (p : Plan) where
   -- where these are there, none is missing with all below them
   pub levels_there : (volumes : List VolId) → list_any (is_no_volume p) volumes ≡ false → list_any (is_no_volume p) (with_levels p volumes) ≡ false
   levels_there volumes free = level_there (with_level p (with_level p volumes)) (level_there (with_level p volumes) (level_there volumes free))
+
+  -- and where none is missing with these they are there
+  level_has : (volumes : List VolId) → list_any (is_no_volume p) (with_level p volumes) ≡ false → list_any (is_no_volume p) volumes ≡ false
+  level_has volumes free =
+      let below = filter (falls p volumes) (flat_map (below_of p) volumes) in
+      (or_parts (list_any (is_no_volume p) volumes) (list_any (is_no_volume p) below) (sym (list_any-append (is_no_volume p) volumes below) ∙ free)).0
+
+  pub levels_have : (volumes : List VolId) → list_any (is_no_volume p) (with_levels p volumes) ≡ false → list_any (is_no_volume p) volumes ≡ false
+  levels_have volumes free = level_has volumes (level_has (with_level p volumes) (level_has (with_level p (with_level p volumes)) free))

@@ -96,3 +96,5 @@ mod Located
 mod Formed
 mod Within
 mod Keeping
+mod Gone
+mod Clearing

@@ -1,3 +1,4 @@
+ghost use Rattle.mdv_theorem.specs.Going.{ClearsOfAll, ClearsOfNames, NamesAreFree, VolumesGo};
 ghost use Rattle.mdv_theorem.specs.Observed.{BlocksBegin, DatabasesStay, PrintsAgree, PrintsOfAll, PrintsOfNames, ReadsAgree, RunsAgree, RunsAnswer, RunsEnd, RunsFindEnough, RunsFindOne, RunsKeepEnough, TransfersAreTold, VolumesStay, WritesLast};
 ghost use Rattle.mdv_theorem.specs.Running.{LivesBegin, RunsGoOn, RunsLiveOn};
 
@@ -56,4 +57,14 @@ pub fn runs_live_on()
 /// Lives of which the law speaks there are: one begins on new drives of zeros, with nothing past their ends, since no host finds a replica there.
 pub fn lives_begin()
     ensures { LivesBegin }
+{}
+
+/// Volumes that were cleared are gone. A line that reads a volume, writes it, puts a row behind it, or clears it or prints it by its name, is told to be done only where the volume may lie
+/// somewhere by the lines before; and one that makes a volume is told `ok` only where the database may have had none of that name. A line that clears volumes, each of which lines showed to be
+/// there, or all of a database that they showed, is told `ok`, or refused for want of memory or of room in a replica, as long as enough drives answer for the database.
+pub fn volumes_go()
+    ensures gone { VolumesGo }
+    ensures free { NamesAreFree }
+    ensures named { ClearsOfNames }
+    ensures all { ClearsOfAll }
 {}

@@ -5,5 +5,5 @@ mod law;
 
 pub use law::{
     blocks_keep_their_values, databases_stay, lines_are_answered, lives_begin, prints_are_told,
-    runs_keep_their_word, runs_live_on,
+    runs_keep_their_word, runs_live_on, volumes_go,
 };
