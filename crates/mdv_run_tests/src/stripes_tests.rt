@@ -65,8 +65,9 @@ fn reads_all(alloc: Global, story: &mut Story, volume: &Volume) -> Result<bool, 
     let count = volume.blocks();
     let script = format!(in alloc; "read d0 0 {count}\n")?;
     let status = story.run("alpha", script.as_str())?;
+    let told = story.news()?;
     let want = volume.told(alloc)?;
-    Ok(status == RunStatus::Done && story.news()?.as_str() == want.as_str())
+    Ok(status == RunStatus::Done && told.as_str() == want.as_str())
 }
 
 // A run of the line, and then a crash that leaves what the choice picks: whether the line was told `ok`, and whether each block holds
